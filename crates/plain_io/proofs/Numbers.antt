@@ -1,0 +1,120 @@
+-- Words that are numbers in canonical decimal.
+use Rattle.std.proofs.Common.{◌≡◌, ◌≢◌, ◌<◌, ◌^◌, ℕ, suc, Bool, true, false, cond, ◌&&◌, ℤ, pos, negsuc, neg_ℤ, ◌≤ℤ◌, FitsSigned, List, [], ◌∷◌, get_or, Option, Some, None, Result, Ok, Err, bytes_eq, decimal, IsUtf8, MatchResult, w64, refl, sym, ap, ◌∙◌, subst, arith, ne_eqb}
+use Rattle.std.specs.Int.{IsInRange}
+use Rattle.std.specs.Result.{result_ok}
+use Rattle.std.specs.Fmt.{signed_decimal}
+use Rattle.std.specs.Str.Parse.{digits_value, AllDigits, ParsesSigned}
+use Rattle.std.proofs.lemmas.Int.{ints}
+use Rattle.std.proofs.lemmas.Bool.{false≢true}
+use Rattle.std.proofs.lemmas.Slice.Eq.{bytes_eq-Decides}
+use Rattle.std.proofs.lemmas.Str.{IsUtf8-from_ascii}
+use Rattle.std.proofs.lemmas.Str.Parse.{IsNumeralModel, numerals_by_value, tells_digits, not_in_digits}
+use Rattle.std.proofs.lemmas.Fmt.{digits_decimal, digits_value-decimal, decimal_nonempty, IsAscii-signed, parse-signed_decimal}
+use Rattle.tgap_model.specs.Base.{within}
+use Rattle.tgap_model.specs.Texts.{word_value, number_of}
+
+own : IsNumeralModel (AllDigits 10) (digits_value 10)
+own = numerals_by_value (AllDigits 10) tells_digits
+
+-- a number between two of 64 bits is one
+pub fits_between : (least most z : ℤ) → FitsSigned w64 least → FitsSigned w64 most → least ≤ℤ z → z ≤ℤ most → FitsSigned w64 z
+fits_between least most z p q low high = omega (arith, ints)
+
+within_is : (least most z : ℤ) → within least most z ≡ true → (least ≤ℤ z) × (z ≤ℤ most)
+within_is least most z h = (grind (arith, ints), grind (arith, ints))
+
+is_within : (least most z : ℤ) → least ≤ℤ z → z ≤ℤ most → within least most z ≡ true
+is_within least most z low high = grind (arith, ints)
+
+-- a word of digits has their value
+word_value_digits : (ds : List ℕ) → get_or ds 0 0 ≢ 45 → word_value ds ≡ pos (digits_value 10 ds)
+word_value_digits [] h = refl
+word_value_digits (d ∷ ds) h = rw (ne_eqb d 45 h) refl
+
+-- the value of a number's word is that number
+pub word_value-signed_decimal : (z : ℤ) → FitsSigned w64 z → word_value (signed_decimal z) ≡ z
+word_value-signed_decimal (pos n) fits =
+    let small : n < 2 ^ 64 = omega (arith, fits.sfits) in
+    let no_minus = not_in_digits own (decimal n) 45 (digits_decimal own n small) (λ (h : IsInRange 48 57 45). absurd (omega arith)) 0 (decimal_nonempty n small) in
+    word_value_digits (decimal n) no_minus ∙ ap pos (digits_value-decimal own n small)
+word_value-signed_decimal (negsuc n) fits =
+    let small : suc n < 2 ^ 64 = omega (arith, fits.sfits) in
+    ap (λ (m : ℕ). neg_ℤ (pos m)) (digits_value-decimal own (suc n) small)
+
+-- what a word is read as, where its value and the two tests are known
+read_as : (least most : ℤ) (word : List ℕ) (z : ℤ) (b c : Bool) → word_value word ≡ z → bytes_eq word (signed_decimal z) ≡ b → within least most z ≡ c → number_of least most word ≡ cond (b && c) (Some z) None
+unfolding number_of
+read_as least most word z b c value spelled ranged = rw (value, spelled, ranged) refl
+
+-- a word that spells a number is read as that number, where it is in range
+pub number_of-signed_decimal : (least most z : ℤ) → FitsSigned w64 z → least ≤ℤ z → z ≤ℤ most → number_of least most (signed_decimal z) ≡ Some z
+number_of-signed_decimal least most z fits low high =
+    read_as least most (signed_decimal z) z true true (word_value-signed_decimal z fits) ((bytes_eq-Decides (signed_decimal z) (signed_decimal z)).1 refl) (is_within least most z low high)
+
+option_cases : (b : Bool) (x z : ℤ) → cond b (Some x) None ≡ Some z → (b ≡ true) × (x ≡ z)
+option_cases true x z h = (refl, cc)
+option_cases false x z h = absurd cc
+
+and_cases : (b c : Bool) → b && c ≡ true → (b ≡ true) × (c ≡ true)
+and_cases true c h = (refl, h)
+and_cases false c h = absurd (false≢true h)
+
+-- a word that is read spells the number, which is in range
+pub number_of_some : (least most : ℤ) (word : List ℕ) (z : ℤ) → number_of least most word ≡ Some z → (word ≡ signed_decimal z) × (least ≤ℤ z) × (z ≤ℤ most)
+unfolding number_of
+number_of_some least most word z h =
+    let v = word_value word in
+    let g = option_cases (bytes_eq word (signed_decimal v) && within least most v) v z h in
+    let t = and_cases (bytes_eq word (signed_decimal v)) (within least most v) g.0 in
+    let r = within_is least most v t.1 in
+    let spelled = (bytes_eq-Decides word (signed_decimal v)).0 t.0 in
+    (rw (← g.1) spelled, rw (← g.1) r.0, rw (← g.1) r.1)
+
+some_or_none : (o : Option ℤ) → ((z : ℤ) → o ≡ Some z → ⊥) → o ≡ None
+some_or_none None h = refl
+some_or_none (Some z) h = absurd (h z refl)
+
+-- a word that spells no number in range is read as none
+pub number_of_none : (least most : ℤ) (word : List ℕ) → ((z : ℤ) → least ≤ℤ z → z ≤ℤ most → word ≢ signed_decimal z) → number_of least most word ≡ None
+number_of_none least most word h =
+    some_or_none (number_of least most word) (λ z e. let s = number_of_some least most word z e in h z s.1 s.2 s.0)
+
+-- a word that is no text spells no number
+pub no_text : (word : List ℕ) → ¬ (IsUtf8 word) → (z : ℤ) → FitsSigned w64 z → word ≢ signed_decimal z
+no_text word h z fits e = h (rw e (IsUtf8-from_ascii (signed_decimal z) (IsAscii-signed z (omega (arith, fits.sfits)))))
+
+-- a word that spells a number is parsed as it
+pub parsed : {E : Type 0} (word : List ℕ) (r : Result ℤ E) → ParsesSigned w64 10 word r → (z : ℤ) → FitsSigned w64 z → word ≡ signed_decimal z → r ≡ Ok z
+parsed word r h z fits e = parse-signed_decimal w64 z word r fits (omega (arith, fits.sfits)) e h
+
+-- what a result without a value says, and one with a value
+pub err_says : {S E : Type 0} (P : S → Type 0) (U : Type 0) (Q : E → Type 0) (r : Result S E) → MatchResult r P (λ e. U × Q e) → result_ok r ≡ None → U
+err_says P U Q (Ok s) h e = absurd cc
+err_says P U Q (Err x) h e = h.0
+
+pub ok_says : {S E : Type 0} (P : S → Type 0) (Q : E → Type 0) (r : Result S E) (s : S) → MatchResult r P Q → result_ok r ≡ Some s → P s
+ok_says P Q (Ok t) s h e = let same : t ≡ s = cc in subst P same h
+ok_says P Q (Err x) s h e = absurd cc
+
+-- a number of 64 bits that spells the word decides what the word is read as
+pub read_in_range : (least most n : ℤ) (word : List ℕ) → (word ≡ signed_decimal n) × FitsSigned w64 n → (least ≤ℤ n) × (n ≤ℤ most) → number_of least most word ≡ Some n
+read_in_range least most n word spelled range = rw spelled.0 (number_of-signed_decimal least most n spelled.1 range.0 range.1)
+
+-- two spellings of one word are of one number
+pub same_number : (word : List ℕ) (y z : ℤ) → FitsSigned w64 y → FitsSigned w64 z → word ≡ signed_decimal y → word ≡ signed_decimal z → y ≡ z
+same_number word y z p q d e =
+    sym (word_value-signed_decimal y p) ∙ ap word_value (sym d ∙ e) ∙ word_value-signed_decimal z q
+
+-- a number of 64 bits that is out of range spells no word of one in range
+pub none_in_range : (least most n : ℤ) (word : List ℕ) → FitsSigned w64 least → FitsSigned w64 most → (word ≡ signed_decimal n) × FitsSigned w64 n → ((least ≤ℤ n) × (n ≤ℤ most) → ⊥)
+    → (z : ℤ) → least ≤ℤ z → z ≤ℤ most → word ≢ signed_decimal z
+none_in_range least most n word p q spelled out z low high e =
+    let same : n ≡ z = same_number word n z spelled.1 (fits_between least most z p q low high) spelled.0 e in
+    out (rw same low, rw same high)
+
+-- a word that differs from what a number is written as does not spell that number
+pub differs : (word text : List ℕ) (n z : ℤ) → text ≡ signed_decimal n → bytes_eq text word ≡ false → n ≡ z → word ≢ signed_decimal z
+differs word text n z written other same spelled =
+    let equal : text ≡ word = written ∙ ap signed_decimal same ∙ sym spelled in
+    let yes : bytes_eq text word ≡ true = (bytes_eq-Decides text word).1 equal in
+    absurd (false≢true (sym other ∙ yes))

@@ -1,0 +1,6 @@
+pub mod Faults
+pub mod Loads
+pub mod Puts
+pub mod Held
+pub mod Rest
+pub mod Pieces

@@ -1,0 +1,19 @@
+//! Texts and the outside: canonical decimals, the pieces of a text, and the files and sinks that a program is handed.
+//! It stands on `tgap_model`.
+#![tactic(auto)]
+
+mod files;
+mod host;
+mod memory;
+mod number;
+mod pieces;
+mod sink;
+mod sure;
+
+pub use files::{FaultCounts, Files, LoadFail, Which};
+pub use host::{HostFiles, HostSink};
+pub use memory::{MemoryFile, MemoryFiles, MemorySink};
+pub use number::{put_number, read_number};
+pub use pieces::{Pieces, next_line};
+pub use sink::{Failed, Sink};
+pub use sure::{FileTexts, SureFiles, SureSink};

@@ -1,0 +1,9 @@
+pub mod Point
+pub mod Base
+pub mod Parts
+pub mod Marks
+pub mod History
+pub mod Border
+pub mod Texts
+pub mod Listing
+pub mod Command

@@ -1,0 +1,122 @@
+//! The base map.
+
+ghost use Rattle.std.specs.Prelude.{◌≡◌, IsTrue};
+ghost use Rattle.tgap_model.specs.Base.{is_base, is_transform, checked};
+
+use crate::borders::with_borders;
+use crate::geometry::Point;
+use crate::list::List;
+use crate::validity::are_parts;
+use std::marker::Model;
+
+/// The transform of a map: scale and translation, kept for its reader.
+#[derive(Clone, Copy, Debug, PartialEq, Eq)]
+pub struct Transform {
+    pub sx: i32,
+    pub sy: i32,
+    pub tx: i32,
+    pub ty: i32,
+}
+
+/// The rules of merging: the ratio of the vertex removal, the weight of each class, and the
+/// compatibility of each class as loser with each class as winner, row after row.
+#[derive(Debug, Drop)]
+pub struct Rules {
+    pub ratio: u32,
+    pub weights: List<u32>,
+    pub compat: List<u32>,
+}
+
+/// An arc: its points from its first end to its last, and the faces at its left and right.
+#[derive(Debug, Drop)]
+pub struct BaseArc {
+    pub left: u32,
+    pub right: u32,
+    pub points: List<Point>,
+}
+
+/// A base map: rules, the class of each face, and the arcs. It keeps the rules of `docs/rules.md`.
+#[derive(Debug, Drop)]
+pub struct Base {
+    transform: Transform,
+    rules: Rules,
+    classes: List<u32>,
+    arcs: List<BaseArc>,
+}
+
+impl Model for Base {
+    ghost use Rattle.std.specs.Prelude.{IsTrue};
+    ghost use Rattle.tgap_model.specs.Base.{BaseMap, is_base};
+
+    ghost Value = { BaseMap };
+
+    ghost view = { λ b. record { transform = b.transform; rules = b.rules; classes = b.classes; arcs = b.arcs } };
+
+    ghost invariant = { λ b. IsTrue (is_base (record { transform = b.transform; rules = b.rules; classes = b.classes; arcs = b.arcs })) };
+}
+
+/// The same transform. Its numbers are read, so that it is known of each that it has 32 bits.
+fn read_transform(transform: Transform) -> Transform
+    ensures same { result ≡ transform }
+    ensures words { IsTrue (is_transform transform) }
+{
+    let Transform { sx, sy, tx, ty } = transform;
+    Transform { sx, sy, tx, ty }
+}
+
+impl Base {
+    /// The base map of these parts, or None exactly where they are none: where the rules, a class, an arc, a limit or
+    /// a coordinate is out of form, or a face has no border. It takes no memory; what it refuses is dropped.
+    pub fn new(
+        transform: Transform,
+        rules: Rules,
+        classes: List<u32>,
+        arcs: List<BaseArc>,
+    ) -> Option<Base>
+        ensures { result ≡ checked (record { transform = transform; rules = rules; classes = classes; arcs = arcs }) }
+    {
+        let transform = read_transform(transform);
+        if !are_parts(&rules, classes.as_slice(), arcs.as_slice()) {
+            return None;
+        }
+        let classes = with_borders(classes, arcs.as_slice())?;
+        Some(Base {
+            transform,
+            rules,
+            classes,
+            arcs,
+        })
+    }
+
+    /// The transform.
+    pub fn transform(&self) -> &Transform
+        ensures value { result.now ≡ self.now.transform }
+        ensures base { IsTrue (is_base self.now) }
+    {
+        &self.transform
+    }
+
+    /// The rules of merging.
+    pub fn rules(&self) -> &Rules
+        ensures value { result.now ≡ self.now.rules }
+        ensures base { IsTrue (is_base self.now) }
+    {
+        &self.rules
+    }
+
+    /// The class of each face; that of face f stands at place f - 1.
+    pub fn classes(&self) -> &List<u32>
+        ensures value { result.now ≡ self.now.classes }
+        ensures base { IsTrue (is_base self.now) }
+    {
+        &self.classes
+    }
+
+    /// The arcs, by number from 0.
+    pub fn arcs(&self) -> &List<BaseArc>
+        ensures value { result.now ≡ self.now.arcs }
+        ensures base { IsTrue (is_base self.now) }
+    {
+        &self.arcs
+    }
+}

@@ -1,0 +1,29 @@
+//! The map and its definitions: what a base map is, how its faces are merged, which borders are left,
+//! and how a listing of it is spelled. Every other crate states its contracts in the words of this one.
+//! It stands on std alone.
+#![tactic(auto)]
+
+mod base;
+mod border;
+mod borders;
+mod failure;
+mod fault;
+mod geometry;
+mod limits;
+mod list;
+mod merge;
+mod text;
+mod validity;
+
+pub use base::{Base, BaseArc, Rules, Transform};
+pub use border::BorderRow;
+pub use failure::{Memory, Or};
+pub use fault::{LimitKind, MapFault};
+pub use geometry::{Fraction, Point};
+pub use limits::{
+    MAX_ARCS, MAX_CLASSES, MAX_COMPATIBILITY, MAX_COORDINATE, MAX_FACES, MAX_MAP_BYTES, MAX_POINTS,
+    MAX_RATIO, MAX_WEIGHT,
+};
+pub use list::List;
+pub use merge::{LabelledArc, MergeStep};
+pub use text::Text;
