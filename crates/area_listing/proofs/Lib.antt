@@ -1,0 +1,9 @@
+pub mod Words
+pub mod Cutting
+pub mod Steps
+pub mod OneLine
+pub mod Sections
+pub mod Plain
+pub mod Laws
+pub mod Loops
+pub mod Parts

@@ -1,0 +1,19 @@
+use Rattle.std.proofs.Common.{◌∙◌, sym}
+use Rattle.std.proofs.lemmas.Result.{err_from_is_err_and}
+use Rattle.area_listing.specs.Taking.{point_at}
+use Rattle.area_listing.proofs.Loops.{listed_ok, listed_err, refused, points_go_on, points_stop, points_done}
+use Rattle.area_listing.proofs.row.points_at.Goals as goal
+
+pub returns-in_err-point : goal.returns-in_err-point
+returns-in_err-point c =
+    let p = err_from_is_err_and c.from_residual.result c.from_residual.ensures.1 in
+    let none = listed_err c.point_at.result c.in_err-point.field-0.0 c.point_at.new.words (point_at c.loop.words) c.in_err-point.ensures c.point_at.ensures in
+    rw (p.1, p.2) (refused c.in_err-point.field-0.0 (point_at c.loop.words) _ (λ e. sym c.loop.invariant ∙ points_stop c.loop.points c.args.n c.loop.counter c.loop.words c.loop-test.true e) none)
+
+pub loop-preserved : goal.loop-preserved
+loop-preserved c =
+    let one = listed_ok c.point_at.result c.in_ok-point.point c.point_at.new.words (point_at c.loop.words) c.in_ok-point.ensures c.point_at.ensures in
+    rw c.in_ok-push.ensures (points_go_on c.loop.points c.args.n c.loop.counter c.loop.words c.in_ok-point.point c.point_at.new.words c.loop-test.true one ∙ c.loop.invariant)
+
+pub returns : goal.returns
+returns c = sym c.loop.invariant ∙ points_done c.loop.points c.args.n c.loop.counter c.loop.words c.loop-test.false

@@ -1,0 +1,7 @@
+use Rattle.std.proofs.Common.{◌≡◌, ◌-◌}
+use Rattle.tgap_model.specs.Listing.{points_at}
+use Rattle.area_listing.specs.Taking.{with_front}
+use Rattle.area_listing.proofs.row.points_at.Given as goal
+
+abbrev pub invariant-loop : goal.invariant-loop
+invariant-loop l = with_front l.points (points_at (l.n - l.counter) l.words) ≡ points_at l.n l.fn.words

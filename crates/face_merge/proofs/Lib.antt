@@ -1,0 +1,11 @@
+pub mod Order
+pub mod First
+pub mod Neighbours
+pub mod Steps
+pub mod Numbers
+pub mod Terms
+pub mod Sums
+pub mod Scan
+pub mod Agree
+pub mod Start
+pub mod Loop

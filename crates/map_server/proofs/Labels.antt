@@ -1,0 +1,86 @@
+-- The labels of faces, from the last step back to the first.
+use Rattle.std.proofs.Common.{◌≡◌, ◌≢◌, ℕ, zero, suc, ◌+◌, ◌-◌, ◌<◌, ◌≤◌, ◌==◌, ◌||◌, Bool, true, false, All, List, [], ◌∷◌, length, get_or, set, drop, take, eq-eqb, ne_eqb, refl, ap, ◌∙◌, subst, inl, inr, arith}
+use Rattle.std.proofs.lemmas.Bool.{cases_eq}
+use Rattle.std.proofs.lemmas.List.{drop_more, get_or_read, get_or-set_same, get_or-set_other, length-set}
+use Rattle.tgap_model.specs.declared.merge.MergeStep.{MergeStep}
+use Rattle.std.specs.List.{AllByRecursion}
+use Rattle.std.proofs.lemmas.List.Elements.{All-weaker}
+use Rattle.tgap_model.specs.declared.base.BaseArc.{BaseArc}
+use Rattle.tgap_model.specs.Border.{border_by}
+use Rattle.tgap_model.proofs.BaseFacts.{ArcFacts}
+use Rattle.tgap_model.specs.History.{relabel, label_after, AreNumbered, IsNumberedStep}
+
+-- the step at a place of numbered steps
+pub numbered_at : (n : ℕ) (steps : List MergeStep) (i : ℕ) (d : MergeStep) → AreNumbered n steps → i < length steps → IsNumberedStep (n + i) (get_or steps i d)
+numbered_at n [] i d h lt = absurd (omega arith)
+numbered_at n (s ∷ steps) zero d h lt = let e : n ≡ n + 0 = omega arith in subst (λ m. IsNumberedStep m s) e h.0
+numbered_at n (s ∷ steps) (suc i) d h lt =
+    let e : n + 1 + i ≡ n + suc i = omega arith in
+    subst (λ m. IsNumberedStep m (get_or steps i d)) e (numbered_at (n + 1) steps i d h.1 (omega arith))
+
+or_true : (b : Bool) → b || true ≡ true
+or_true true = refl
+or_true false = refl
+
+relabel_loser : (s : MergeStep) (f : ℕ) → f ≡ s.loser → relabel s f ≡ s.made
+relabel_loser s f e = rw (eq-eqb f s.loser e) refl
+
+relabel_winner : (s : MergeStep) (f : ℕ) → f ≡ s.winner → relabel s f ≡ s.made
+relabel_winner s f e = rw (eq-eqb f s.winner e, or_true (f == s.loser)) refl
+
+relabel_other : (s : MergeStep) (f : ℕ) → f ≢ s.loser → f ≢ s.winner → relabel s f ≡ f
+relabel_other s f p q = rw (ne_eqb f s.loser p, ne_eqb f s.winner q) refl
+
+-- going back over one step gives its two faces the label of the face that they became
+pub labels_back : (labels : List ℕ) (rest : List MergeStep) (s : MergeStep) (v : ℕ) → s.loser < length labels → s.winner < length labels
+    → v ≡ label_after rest s.made → ((f : ℕ) → f < length labels → get_or labels f 0 ≡ label_after rest f)
+    → (f : ℕ) → f < length labels → get_or (set (set labels s.loser v) s.winner v) f 0 ≡ label_after (s ∷ rest) f
+labels_back labels rest s v loser winner made known f inside =
+    let once = set labels s.loser v in
+    let wide : f < length once = omega (arith, length-set labels s.loser v) in
+    elim (cases_eq f s.winner) [
+      | inl same ↦ rw (same, get_or-set_same once s.winner v 0 (omega (arith, length-set labels s.loser v, same)), relabel_winner s s.winner refl) made
+      | inr other ↦ rw (get_or-set_other once s.winner f v 0 other) (elim (cases_eq f s.loser) [
+        | inl same ↦ rw (same, get_or-set_same labels s.loser v 0 loser, relabel_loser s s.loser refl) made
+        | inr apart ↦ rw (get_or-set_other labels s.loser f v 0 apart, relabel_other s f apart other) (known f inside)
+      ])
+    ]
+
+abbrev pub no_step : MergeStep
+no_step = record { loser = 0; winner = 0; made = 0 }
+
+-- the step before place i, among numbered steps, and the labels that it reads and writes
+pub step_before : (n : ℕ) (steps : List MergeStep) (i size : ℕ) → AreNumbered n steps → 0 < i → i ≤ length steps → size ≡ n + length steps + 1
+    → let s = get_or steps (i - 1) no_step in (s.loser < size) × (s.winner < size) × (s.made < size)
+step_before n steps i size h some inside count =
+    let s = numbered_at n steps (i - 1) no_step h (omega arith) in
+    (omega (arith, s.loser.1), omega (arith, s.winner.1), omega (arith, s.made))
+
+-- the labels after the steps from place i on, taken back to those from the place before it on
+pub labels_before : (n : ℕ) (steps : List MergeStep) (i : ℕ) (labels : List ℕ) (v : ℕ) → AreNumbered n steps → 0 < i → i ≤ length steps → length labels ≡ n + length steps + 1
+    → v ≡ get_or labels (get_or steps (i - 1) no_step).made v → ((f : ℕ) → f < length labels → get_or labels f 0 ≡ label_after (drop i steps) f)
+    → let s = get_or steps (i - 1) no_step in (f : ℕ) → f < length (set (set labels s.loser v) s.winner v) → get_or (set (set labels s.loser v) s.winner v) f 0 ≡ label_after (drop (i - 1) steps) f
+labels_before n steps i labels v h some inside count read known f within =
+    let s = get_or steps (i - 1) no_step in
+    let b = step_before n steps i (length labels) h some inside count in
+    let size : length (set (set labels s.loser v) s.winner v) ≡ length labels = length-set (set labels s.loser v) s.winner v ∙ length-set labels s.loser v in
+    let next : i - 1 + 1 ≡ i = omega arith in
+    let split : drop (i - 1) steps ≡ s ∷ drop i steps = drop_more steps (i - 1) no_step (omega arith) ∙ ap (λ (k : ℕ). s ∷ drop k steps) next in
+    let made : v ≡ label_after (drop i steps) s.made = get_or_read labels s.made v b.2 read 0 ∙ known s.made b.2 in
+    rw split (labels_back labels (drop i steps) s v b.0 b.1 made known f (omega (arith, size)))
+
+-- the first steps of numbered steps are numbered
+pub numbered_take : (n k : ℕ) (steps : List MergeStep) → AreNumbered n steps → AreNumbered n (take k steps)
+numbered_take n zero steps h = tt
+numbered_take n (suc k) [] h = tt
+numbered_take n (suc k) (s ∷ steps) h = (h.0, numbered_take (n + 1) k steps h.1)
+
+-- labels that agree on the faces of all arcs give the same border
+pub same_border : (n : ℕ) (f g : ℕ → ℕ) (i : ℕ) (arcs : List BaseArc) → AllByRecursion (ArcFacts n) arcs → ((x : ℕ) → x ≤ n → f x ≡ g x) → border_by f i arcs ≡ border_by g i arcs
+same_border n f g i [] h same = refl
+same_border n f g i (a ∷ arcs) h same = rw (same a.left h.0.left, same a.right h.0.right, same_border n f g (i + 1) arcs h.1 same) refl
+
+-- each side of each arc has a label
+pub sides_below : (n size : ℕ) (arcs : List BaseArc) → All (ArcFacts n) arcs → n < size → All (λ a. (a.left < size) × (a.right < size)) arcs
+sides_below n size arcs h lt =
+    All-weaker (ArcFacts n) (λ a. (a.left < size) × (a.right < size)) (λ a e. (omega (arith, e.left), omega (arith, e.right))) arcs h

@@ -1,0 +1,43 @@
+//! The program: the words of a command line, the files that they name, and the text that answers them. The top call is
+//! `run`; `main` hands it the real files and the standard output. It stands on all other crates.
+#![tactic(auto)]
+
+mod answer;
+mod borders;
+mod command;
+mod run;
+#[cfg(test)]
+mod tests;
+mod text;
+
+use plain_io::{HostFiles, HostSink};
+pub use run::run;
+use std::alloc::Global;
+use std::process::ExitCode;
+use std::rt::Env;
+use std::{env, io};
+pub use text::borders_text;
+pub use tgap_model::BorderRow;
+use tgap_model::Memory;
+
+fn main(rt: HostRuntime) -> ExitCode {
+    let mut files = HostFiles::new(&rt);
+    let mut out = HostSink::new(io::writer(&rt));
+    let status = match words(&rt, rt.alloc()) {
+        Ok(words) => run(&rt, rt.alloc(), words.as_slice(), &mut files, &mut out),
+        Err(Memory) => answer::Answer::OutOfMemory.put(&mut out),
+    };
+    ExitCode::from(status)
+}
+
+/// The words of the command line, without the name of the program; none where they are no text.
+fn words<R: Env + AllocGlobal>(rt: &R, alloc: Global) -> Result<Vec<String>, Memory> {
+    let mut words = Vec::new(alloc);
+    let Ok(arguments) = env::args(rt) else {
+        return Ok(words);
+    };
+    for word in arguments.skip(1) {
+        words.push(word)?;
+    }
+    Ok(words)
+}

@@ -1,0 +1,273 @@
+//! The program over files and sinks in memory: worked maps, bad input and faults of the outside.
+use crate::run;
+use plain_io::{
+    FileTexts, Files, HostFiles, HostSink, LoadFail, MemoryFile, MemoryFiles, MemorySink, Sink,
+    SureFiles, SureSink, Which,
+};
+use std::alloc::Global;
+use std::fs;
+use std::test::Fail;
+use tgap_model::{List, Memory, Text};
+
+const TWO_SQUARES: &str =
+    "tgap 1\ntransform 1 1 0 0\nratio 16\nclasses 1\nclass 0 1 1\nfaces 2\nface 1 0\nface 2 0\narcs 3\narc 1 0 4 10 10 0 10 0 0 10 0\narc 2 0 4 10 0 20 0 20 10 10 10\narc 1 2 2 10 0 10 10\nend\n";
+
+const FOUR_SQUARES: &str =
+    "tgap 1\ntransform 1 1 0 0\nratio 0\nclasses 1\nclass 0 1 1\nfaces 4\nface 1 0\nface 2 0\nface 3 0\nface 4 0\narcs 8\narc 1 0 3 0 10 0 0 10 0\narc 2 0 3 10 0 20 0 20 10\narc 4 0 3 20 10 20 20 10 20\narc 3 0 3 10 20 0 20 0 10\narc 1 2 2 10 0 10 10\narc 2 4 2 20 10 10 10\narc 4 3 2 10 20 10 10\narc 3 1 2 0 10 10 10\nend\n";
+
+const HOLE_WITH_FACE: &str =
+    "tgap 1\ntransform 1 1 0 0\nratio 0\nclasses 1\nclass 0 1 1\nfaces 2\nface 1 0\nface 2 0\narcs 2\narc 1 0 5 0 0 30 0 30 30 0 30 0 0\narc 2 1 5 10 10 20 10 20 20 10 20 10 10\nend\n";
+
+const USAGE: &str =
+    "usage: borders MAP STEP | check MAP [OBJECT RULES] | slice MAP STEP [OBJECT RULES] | packet MAP FROM TO [OBJECT RULES] | replay SLICE PACKET | grid N | serve MAP PORT WORKERS VERSIONS [OBJECT RULES]\n";
+
+const BAD_LINE: &str = "refused 18 bad-line 0\n";
+
+/// A map file of that name, the words cut at their spaces, and the calls that are to fail.
+fn one_file(
+    alloc: Global,
+    name: &str,
+    bytes: &[u8],
+    failing: List<u64>,
+) -> Result<MemoryFiles, Memory> {
+    let mut files = List::new(alloc);
+    files.push(MemoryFile {
+        name: Text::from_slice(alloc, name.as_bytes())?,
+        bytes: Text::from_slice(alloc, bytes)?,
+    })?;
+    Ok(MemoryFiles::new(files, failing))
+}
+
+fn words_of(alloc: Global, line: &str) -> Result<Vec<String>, Memory> {
+    let mut words = Vec::new(alloc);
+    for word in line.split_whitespace() {
+        words.push(String::from_str(alloc, word)?)?;
+    }
+    Ok(words)
+}
+
+/// The first call alone.
+fn first_call(alloc: Global) -> Result<List<u64>, Memory> {
+    let mut calls = List::new(alloc);
+    calls.push(0)?;
+    Ok(calls)
+}
+
+#[test]
+fn worked_maps(rt: HostRuntime) -> Result<(), Fail> {
+    let alloc = rt.alloc();
+    for (map, words, status, text) in [
+        (
+            TWO_SQUARES,
+            "borders map 0",
+            0,
+            "borders 0\nborder 0 1 0\nborder 1 2 0\nborder 2 1 2\nend\n",
+        ),
+        (
+            TWO_SQUARES,
+            "borders map 1",
+            0,
+            "borders 1\nborder 0 3 0\nborder 1 3 0\nend\n",
+        ),
+        (TWO_SQUARES, "borders map 2", 5, "step too high 1\n"),
+        (
+            TWO_SQUARES,
+            "borders map 4294967295",
+            5,
+            "step too high 1\n",
+        ),
+        (TWO_SQUARES, "borders none 0", 3, "load fault map\n"),
+        (
+            FOUR_SQUARES,
+            "borders map 2",
+            0,
+            "borders 2\nborder 0 5 0\nborder 1 5 0\nborder 2 6 0\nborder 3 6 0\nborder 5 5 6\nborder 7 6 5\nend\n",
+        ),
+        (
+            FOUR_SQUARES,
+            "borders map 3",
+            0,
+            "borders 3\nborder 0 7 0\nborder 1 7 0\nborder 2 7 0\nborder 3 7 0\nend\n",
+        ),
+        (
+            HOLE_WITH_FACE,
+            "borders map 1",
+            0,
+            "borders 1\nborder 0 3 0\nend\n",
+        ),
+        (
+            "tgap 1\ntransform 1 1 0 0\nratio 16\nclasses 1\nclass 0 1 1\nfaces 0\narcs 0\nend\n",
+            "borders map 0",
+            0,
+            "borders 0\nend\n",
+        ),
+        (TWO_SQUARES, "", 2, USAGE),
+        (TWO_SQUARES, "borders map", 2, USAGE),
+        (TWO_SQUARES, "borders map 1 2", 2, USAGE),
+        (TWO_SQUARES, "Borders map 1", 2, USAGE),
+        (TWO_SQUARES, "borders map 01", 2, USAGE),
+        (TWO_SQUARES, "borders map -1", 2, USAGE),
+        (TWO_SQUARES, "borders map 4294967296", 2, USAGE),
+        (TWO_SQUARES, "check map", 2, USAGE),
+    ] {
+        let mut files = one_file(alloc, "map", map.as_bytes(), List::new(alloc))?;
+        let mut out = MemorySink::new(alloc, 1000, List::new(alloc))?;
+        let words_asked = words_of(alloc, words)?;
+        assert_eq!(rt;
+            run(&rt, alloc, words_asked.as_slice(), &mut files, &mut out),
+            status,
+            "{words}"
+        );
+        assert_eq!(rt; out.bytes(), text.as_bytes(), "{words}");
+    }
+    Ok(())
+}
+
+/// The listing of the two squares, with one line in place of another.
+fn with_line(alloc: Global, number: usize, line: &[u8]) -> Result<Vec<u8>, Memory> {
+    let mut bytes = Vec::new(alloc);
+    for (i, old) in TWO_SQUARES.as_bytes().split(|b| *b == b'\n').enumerate() {
+        if i > 0 {
+            bytes.push(b'\n')?;
+        }
+        bytes.extend_from_slice(if i + 1 == number { line } else { old })?;
+    }
+    Ok(bytes)
+}
+
+#[test]
+fn bad_listings(rt: HostRuntime) -> Result<(), Fail> {
+    let alloc = rt.alloc();
+    let cases: [(usize, &[u8]); 24] = [
+        (1, b"tgap 2"),
+        (1, b"tgap 1\r"),
+        (1, b"\xff\xfe"),
+        (2, b"transform 1 1 0"),
+        (2, b"transform 1 1 0 2147483648"),
+        (3, b"ratio 016"),
+        (3, b"ratio 65536"),
+        (3, b"ratio  16"),
+        (4, b"classes 257"),
+        (4, b"classes 99999999999999999999999999"),
+        (5, b"class 0 0 1"),
+        (5, b"class 0 1 1001"),
+        (5, b"class 0 1 1 1"),
+        (8, b"face 2 1"),
+        (8, b"face 3 0"),
+        (10, b"arc 1 1 4 10 10 0 10 0 0 10 0"),
+        (10, b"arc 1 3 4 10 10 0 10 0 0 10 0"),
+        (10, b"arc 1 0 4 10 10 0 10 0 10 10 0"),
+        (10, b"arc 1 0 4 10 10 0 10 0 0 +10 0"),
+        (10, b"arc 1 0 4 10 10 0 10 0 0 268435457 0"),
+        (11, b"arc 1 0 4 10 0 20 0 20 10 10 10 "),
+        (12, b"arc 1 0 1 10 0"),
+        (13, b"end\nend"),
+        (13, b""),
+    ];
+    for (number, line) in cases {
+        let bytes = with_line(alloc, number, line)?;
+        let mut files = one_file(alloc, "map", bytes.as_slice(), List::new(alloc))?;
+        let mut out = MemorySink::new(alloc, 100, List::new(alloc))?;
+        let words = words_of(alloc, "borders map 0")?;
+        assert_eq!(rt;
+            run(&rt, alloc, words.as_slice(), &mut files, &mut out),
+            4,
+            "line {number}"
+        );
+        assert_eq!(rt; out.bytes(), BAD_LINE.as_bytes(), "line {number}");
+    }
+    Ok(())
+}
+
+#[test]
+fn cut_and_long_files(rt: HostRuntime) -> Result<(), Fail> {
+    let alloc = rt.alloc();
+    let words = words_of(alloc, "borders map 0")?;
+    let long = vec![in alloc; b' '; 16_777_217]?;
+    let cut = TWO_SQUARES.len() - 4;
+    for (bytes, text) in [
+        (&TWO_SQUARES.as_bytes()[..cut], BAD_LINE),
+        (&TWO_SQUARES.as_bytes()[..cut + 3], BAD_LINE),
+        (b"".as_slice(), BAD_LINE),
+        (long.as_slice(), "refused 20 input-long 16777216\n"),
+    ] {
+        let mut files = one_file(alloc, "map", bytes, List::new(alloc))?;
+        let mut out = MemorySink::new(alloc, 100, List::new(alloc))?;
+        assert_eq!(rt; run(&rt, alloc, words.as_slice(), &mut files, &mut out), 4);
+        assert_eq!(rt; out.bytes(), text.as_bytes());
+    }
+    Ok(())
+}
+
+#[test]
+fn faults_of_the_outside(rt: HostRuntime) -> Result<(), Fail> {
+    let alloc = rt.alloc();
+    let words = words_of(alloc, "borders map 1")?;
+    let mut files = one_file(alloc, "map", TWO_SQUARES.as_bytes(), first_call(alloc)?)?;
+    let mut out = MemorySink::new(alloc, 1000, first_call(alloc)?)?;
+    assert_eq!(rt; run(&rt, alloc, words.as_slice(), &mut files, &mut out), 6);
+    assert_eq!(rt; out.bytes(), b"".as_slice());
+    // The second load and the second put do not fail.
+    assert_eq!(rt; run(&rt, alloc, words.as_slice(), &mut files, &mut out), 0);
+    let mut small = MemorySink::new(alloc, 5, List::new(alloc))?;
+    assert_eq!(rt;
+        run(&rt, alloc, words.as_slice(), &mut files, &mut small),
+        6
+    );
+    let mut failing = one_file(alloc, "map", TWO_SQUARES.as_bytes(), first_call(alloc)?)?;
+    assert_eq!(rt;
+        run(&rt, alloc, words.as_slice(), &mut failing, &mut SureSink),
+        3
+    );
+    Ok(())
+}
+
+#[test]
+fn files_that_never_fail(rt: HostRuntime) -> Result<(), Fail> {
+    let alloc = rt.alloc();
+    let mut files = SureFiles::new(FileTexts {
+        map: Text::from_slice(alloc, HOLE_WITH_FACE.as_bytes())?,
+        rules: Text::new(alloc),
+        slice: Text::new(alloc),
+        packet: Text::new(alloc),
+    });
+    let mut out = MemorySink::new(alloc, 1000, List::new(alloc))?;
+    let words = words_of(alloc, "borders any 0")?;
+    assert_eq!(rt; run(&rt, alloc, words.as_slice(), &mut files, &mut out), 0);
+    assert_eq!(rt;
+        out.bytes(),
+        b"borders 0\nborder 0 1 0\nborder 1 2 1\nend\n".as_slice()
+    );
+    Ok(())
+}
+
+#[test]
+fn real_files_and_writers(rt: HostRuntime) -> Result<(), Fail> {
+    let alloc = rt.alloc();
+    fs::write(&rt, "two.tgap", TWO_SQUARES)?;
+    let mut files = HostFiles::new(&rt);
+    let size = TWO_SQUARES.len() as u64;
+    let Ok(text) = files.load(alloc, Which::Map, "two.tgap", size) else {
+        return Err("the file was not loaded".into());
+    };
+    assert_eq!(rt; text.as_slice(), TWO_SQUARES.as_bytes());
+    assert!(rt;
+        matches!(
+            files.load(alloc, Which::Map, "two.tgap", size - 1),
+            Err(LoadFail::TooLong { .. })
+        )
+    );
+    assert!(rt;
+        matches!(
+            files.load(alloc, Which::Map, "none.tgap", size),
+            Err(LoadFail::Failed)
+        )
+    );
+    let mut buffer = Vec::new(alloc);
+    let mut out = HostSink::new(&mut buffer);
+    assert!(rt; out.put(b"one ").is_ok());
+    assert!(rt; out.put(b"two").is_ok());
+    drop(out);
+    assert_eq!(rt; buffer.as_slice(), b"one two".as_slice());
+    Ok(())
+}
