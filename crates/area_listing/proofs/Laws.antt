@@ -1,24 +1,25 @@
 -- The two laws: the map that is read is spelled so, and the map that is spelled so is read.
-use Rattle.std.proofs.Common.{◌≡◌, ℕ, ◌+◌, ◌*◌, ◌^◌, ◌<◌, ◌≤◌, true, eqb, ◌&&◌, List, [], ◌∷◌, ◌++◌, length, map, Option, Some, None, Result, Ok, Err, refl, sym, ap, subst, ◌∙◌, arith}
+use Rattle.std.proofs.Common.{◌≡◌, ℕ, ◌+◌, ◌*◌, ◌^◌, ◌<◌, ◌≤◌, true, ◌&&◌, List, [], ◌∷◌, ◌++◌, length, map, Option, Some, None, Result, Ok, Err, refl, sym, ap, subst, ◌∙◌, arith}
 use Rattle.std.specs.Prelude.{codes, nat_le, nat_lt, IfOk}
 use Rattle.std.specs.List.{list_all, AllByRecursion}
-use Rattle.std.proofs.lemmas.Bool.{and_from, and_parts, leb-true, ltb-true, eqb-true}
+use Rattle.std.proofs.lemmas.Bool.{and_from, and_parts, leb-true, ltb-true}
 use Rattle.std.proofs.lemmas.List.{append-nil, append_assoc}
 use Rattle.std.proofs.lemmas.List.Folds.{list_all-append}
 use Rattle.std.proofs.lemmas.List.Sums.{sum_by-cons}
 use Rattle.std.proofs.lemmas.Option.{option_and_then_some, cond_some}
 use Rattle.tgap_model.specs.declared.base.Transform.{Transform}
+use Rattle.tgap_model.specs.declared.base.Rules.{Rules}
 use Rattle.tgap_model.specs.declared.base.BaseArc.{BaseArc}
 use Rattle.tgap_model.specs.declared.fault.MapFault.{MapFault}
 use Rattle.tgap_model.specs.declared.failure.Or.{Or}
 use Rattle.tgap_model.specs.declared.failure.Or.TheVariants.{Fault}
-use Rattle.tgap_model.specs.declared.limits.TheConstants.{MAX_POINTS, MAX_ARCS, MAX_FACES, MAX_CLASSES, MAX_WEIGHT, MAX_COMPATIBILITY, MAX_RATIO}
-use Rattle.tgap_model.specs.Base.{BaseMap, is_transform, is_rules, in_limits, is_arc, no_repeat, count_points, all_faces_bordered, is_base, checked}
+use Rattle.tgap_model.specs.declared.limits.TheConstants.{MAX_WEIGHT, MAX_COMPATIBILITY}
+use Rattle.tgap_model.specs.Base.{BaseMap, is_transform, is_arc, count_points, is_base, checked}
+use Rattle.tgap_model.proofs.BaseFacts.{rules_facts, arc_facts, base_facts}
 use Rattle.tgap_model.specs.Texts.{rows_of}
-use Rattle.tgap_model.specs.Listing.{Row, ◌>>=◌, transform_words, count_words, class_rows, face_rows, arc_words, listing_rows, IsListing, read_row, read_words, read_transform, read_count, classes_at, faces_at, arcs_at, read_listing, listing}
+use Rattle.tgap_model.specs.Listing.{Row, ◌>>=◌, transform_words, count_words, class_rows, face_rows, arc_words, listing_rows, IsListing, read_row, read_words, read_transform, read_count, classes_at, rules_at, all_faces_at, all_arcs_at, end_at, read_listing, listing}
 use Rattle.area_listing.specs.Reading.{GivesBase}
-use Rattle.area_listing.specs.Taking.{listed_of, parts_at}
-use Rattle.area_listing.proofs.Parts.{parts_are}
+use Rattle.area_listing.specs.Taking.{listed_of}
 use Rattle.area_listing.proofs.Cutting.{is_plain_row, lines_from_rows, rows_again}
 use Rattle.area_listing.proofs.Steps.{AreSmall, ended_is}
 use Rattle.area_listing.proofs.OneLine.{read_words_is, read_transform_is, read_transform_again, read_count_is, read_count_again}
@@ -64,31 +65,41 @@ joined : (rows r0 r1 r2 r3 r4 r5 r6 r7 r8 r9 r10 : List Row) (transform : Transf
     → rows ≡ sections transform ratio (length weighed.0) weighed (length classes) classes (length arcs) arcs (([] ∷ []) ∷ [])
 joined rows r0 r1 r2 r3 r4 r5 r6 r7 r8 r9 r10 transform ratio c weighed n classes k arcs e0 e1 e2 e3 e4 l0 e5 e6 l1 e7 e8 l2 e9 e10 e11 = cc
 
+-- one value is the other, where both are there
+some_is : {A : Type 0} (x y : A) → Some x ≡ Some y → x ≡ y
+some_is x y e = cc
+
 -- the rows of a map that is read are those of its listing, and one of an empty word
 pub listing_is : (rows : List Row) (m : BaseMap) → read_listing rows ≡ Some m → rows ≡ listing_rows m ++ ([] ∷ []) ∷ []
-unfolding read_listing
+unfolding read_listing rules_at all_faces_at all_arcs_at end_at
 listing_is rows m e =
     option_and_then_some _ (read_row (read_words (codes "tgap" ∷ codes "1" ∷ [])) rows) m e (λ head e0 r0.
     option_and_then_some _ (read_row read_transform head.1) m r0 (λ transform e1 r1.
-    option_and_then_some _ (read_row (read_count (codes "ratio")) transform.1) m r1 (λ ratio e2 r2.
-    option_and_then_some _ (read_row (read_count (codes "classes")) ratio.1) m r2 (λ c e3 r3.
-    option_and_then_some _ (classes_at c.0 0 c.0 c.1) m r3 (λ weighed e4 r4.
-    option_and_then_some _ (read_row (read_count (codes "faces")) weighed.1) m r4 (λ n e5 r5.
-    option_and_then_some _ (faces_at 1 n.0 n.1) m r5 (λ classes e6 r6.
-    option_and_then_some _ (read_row (read_count (codes "arcs")) classes.1) m r6 (λ k e7 r7.
-    option_and_then_some _ (arcs_at k.0 k.1) m r7 (λ arcs e8 r8.
-    option_and_then_some _ (read_row (read_words (codes "end" ∷ [])) arcs.1) m r8 (λ last e9 r9.
-    option_and_then_some _ (read_row (read_words ([] ∷ [])) last.1) m r9 (λ past e10 r10.
+    option_and_then_some _ (rules_at transform.1) m r1 (λ rules of_rules r2.
+    option_and_then_some _ (read_row (read_count (codes "ratio")) transform.1) rules of_rules (λ ratio e2 s2.
+    option_and_then_some _ (read_row (read_count (codes "classes")) ratio.1) rules s2 (λ c e3 s3.
+    option_and_then_some _ (classes_at c.0 0 c.0 c.1) rules s3 (λ weighed e4 s4.
+    option_and_then_some _ (all_faces_at rules.1) m r2 (λ classes of_faces r3.
+    option_and_then_some _ (read_row (read_count (codes "faces")) rules.1) classes of_faces (λ n e5 e6.
+    option_and_then_some _ (all_arcs_at classes.1) m r3 (λ arcs of_arcs r4.
+    option_and_then_some _ (read_row (read_count (codes "arcs")) classes.1) arcs of_arcs (λ k e7 e8.
+    option_and_then_some _ (end_at arcs.1) m r4 (λ end of_end r5.
+    option_and_then_some _ (read_row (read_words (codes "end" ∷ [])) arcs.1) end of_end (λ last e9 s9.
+    option_and_then_some _ (read_row (read_words ([] ∷ [])) last.1) end s9 (λ past e10 e11.
     let weights = classes_at_is c.0 0 c.0 c.1 weighed e4 in
     let faces = faces_at_is 1 n.0 n.1 classes e6 in
     let borders = arcs_at_is k.0 k.1 arcs e8 in
-    let made : BaseMap = record { transform = transform.0; rules = record { ratio = ratio.0; weights = weighed.0.0; compat = weighed.0.1 }; classes = classes.0; arcs = arcs.0 } in
-    let done = ended_is made m past.1 r10 in
+    let nothing : Unit {0} = tt in
+    let weighed_rules : Rules = record { ratio = ratio.0; weights = weighed.0.0; compat = weighed.0.1 } in
+    let same : (weighed_rules, weighed.1) ≡ rules = some_is (weighed_rules, weighed.1) rules s4 in
+    let tail : weighed.1 ≡ rules.1 = ap (λ (x : Rules × List Row). x.1) same in
+    let made : Rules → BaseMap = λ r. record { transform = transform.0; rules = r; classes = classes.0; arcs = arcs.0 } in
+    let whole : made weighed_rules ≡ m = ap (λ (x : Rules × List Row). made x.0) same ∙ some_is (made rules.0) m r5 in
     let spelled : rows ≡ sections transform.0 ratio.0 (length weighed.0.0) weighed.0 (length classes.0) classes.0 (length arcs.0) arcs.0 (([] ∷ []) ∷ []) =
-    joined rows head.1 transform.1 ratio.1 c.1 weighed.1 n.1 classes.1 k.1 arcs.1 last.1 past.1 transform.0 ratio.0 c.0 weighed.0 n.0 classes.0 k.0 arcs.0
-    (worded _ rows head e0) (transformed head.1 transform e1) (counted _ transform.1 ratio e2) (counted _ ratio.1 c e3) weights.0 weights.1
-    (counted _ weighed.1 n e5) faces.0 faces.1 (counted _ classes.1 k e7) borders.0 borders.1 (worded _ arcs.1 last e9) (worded _ last.1 past e10) done.0 in
-    spelled ∙ sym (regrouped made (([] ∷ []) ∷ [])) ∙ ap (λ (x : BaseMap). listing_rows x ++ ([] ∷ []) ∷ []) done.1)))))))))))
+    joined rows head.1 transform.1 ratio.1 c.1 rules.1 n.1 classes.1 k.1 arcs.1 last.1 past.1 transform.0 ratio.0 c.0 weighed.0 n.0 classes.0 k.0 arcs.0
+    (worded _ rows head e0) (transformed head.1 transform e1) (counted _ transform.1 ratio e2) (counted _ ratio.1 c e3) (weights.0 ∙ ap (λ (rest : List Row). class_rows c.0 0 weighed.0.0 weighed.0.1 ++ rest) tail) weights.1
+    (counted _ rules.1 n e5) faces.0 faces.1 (counted _ classes.1 k e7) borders.0 borders.1 (worded _ arcs.1 last e9) (worded _ last.1 past e10) (ended_is nothing end past.1 e11).0 in
+    spelled ∙ sym (regrouped (made weighed_rules) (([] ∷ []) ∷ [])) ∙ ap (λ (x : BaseMap). listing_rows x ++ ([] ∷ []) ∷ []) whole)))))))))))))
 
 -- What is read is spelled so.
 pub listing_spelled : (bytes : List ℕ) (m : BaseMap) → listing bytes ≡ Some m → IsListing bytes m
@@ -140,16 +151,9 @@ classes_small c (k ∷ ks) few h =
 
 -- the numbers of an arc fit 32 bits
 arc_small : (n : ℕ) (a : BaseArc) → n < 2 ^ 32 → is_arc n a ≡ true → length a.points < 2 ^ 32 → IsSmallArc a
-unfolding is_arc
 arc_small n a few h count =
-    let p0 = and_parts _ (no_repeat a.points) h in
-    let p1 = and_parts _ (list_all in_limits a.points) p0.0 in
-    let p2 = and_parts _ (nat_le 2 (length a.points)) p1.0 in
-    let p3 = and_parts (nat_le a.left n && nat_le a.right n) _ p2.0 in
-    let p4 = and_parts (nat_le a.left n) (nat_le a.right n) p3.0 in
-    let left : a.left ≤ n = leb-true a.left n p4.0 in
-    let right : a.right ≤ n = leb-true a.right n p4.1 in
-    record { left = omega arith; right = omega arith; count = count; inside = p1.1 }
+    let facts = arc_facts n a h in
+    record { left = omega (arith, facts.left); right = omega (arith, facts.right); count = count; inside = facts.in_limits }
 
 -- the numbers of all arcs fit 32 bits, since there are few points in all
 arcs_small : (n : ℕ) (arcs : List BaseArc) → n < 2 ^ 32 → list_all (is_arc n) arcs ≡ true → count_points arcs < 2 ^ 32 → AllByRecursion IsSmallArc arcs
@@ -161,42 +165,25 @@ arcs_small n (a ∷ arcs) few h count =
 
 -- the numbers of a base map fit
 small_map : (m : BaseMap) → is_base m ≡ true → IsSmallMap m
-unfolding is_base is_rules
 small_map m h =
-    let n = length m.classes in
-    let c = length m.rules.weights in
-    let bordered = and_parts _ (all_faces_bordered n m.arcs) h in
-    let of_arcs = and_parts _ (list_all (is_arc n) m.arcs) bordered.0 in
-    let points = and_parts _ (nat_le (count_points m.arcs) MAX_POINTS) of_arcs.0 in
-    let arc_count = and_parts _ (nat_le (length m.arcs) MAX_ARCS) points.0 in
-    let of_faces = and_parts _ (list_all (λ k. nat_lt k c) m.classes) arc_count.0 in
-    let face_count = and_parts (is_transform m.transform && is_rules m.rules) (nat_le n MAX_FACES) of_faces.0 in
-    let of_rules = and_parts (is_transform m.transform) (is_rules m.rules) face_count.0 in
-    let ratio = and_parts _ (nat_le m.rules.ratio MAX_RATIO) of_rules.1 in
-    let compat = and_parts _ (list_all (λ v. nat_le v MAX_COMPATIBILITY) m.rules.compat) ratio.0 in
-    let table = and_parts _ (eqb (length m.rules.compat) (c * c)) compat.0 in
-    let weights = and_parts (nat_le 1 c && nat_le c MAX_CLASSES) (list_all (λ w. nat_le 1 w && nat_le w MAX_WEIGHT) m.rules.weights) table.0 in
-    let few_classes : c ≤ MAX_CLASSES = leb-true c MAX_CLASSES (and_parts (nat_le 1 c) (nat_le c MAX_CLASSES) weights.0).1 in
-    let few_faces : n ≤ MAX_FACES = leb-true n MAX_FACES face_count.1 in
-    let few_arcs : length m.arcs ≤ MAX_ARCS = leb-true (length m.arcs) MAX_ARCS arc_count.1 in
-    let few_points : count_points m.arcs ≤ MAX_POINTS = leb-true (count_points m.arcs) MAX_POINTS points.1 in
-    let low_ratio : m.rules.ratio ≤ MAX_RATIO = leb-true m.rules.ratio MAX_RATIO ratio.1 in
+    let facts = base_facts m h in
+    let rules = rules_facts m.rules facts.rules in
     record {
-      transform = of_rules.0;
-      ratio = omega (arith, low_ratio);
-      class_count = omega (arith, few_classes);
-      weights = weights_small m.rules.weights weights.1;
-      table = eqb-true (length m.rules.compat) (c * c) table.1;
-      compat = compat_small m.rules.compat compat.1;
-      face_count = omega (arith, few_faces);
-      classes = classes_small c m.classes (omega (arith, few_classes)) of_faces.1;
-      arc_count = omega (arith, few_arcs);
-      arcs = arcs_small n m.arcs (omega (arith, few_faces)) of_arcs.1 (omega (arith, few_points));
+      transform = facts.transform;
+      ratio = omega (arith, rules.ratio);
+      class_count = omega (arith, rules.few_classes);
+      weights = weights_small m.rules.weights rules.weights;
+      table = rules.table;
+      compat = compat_small m.rules.compat rules.compat;
+      face_count = omega (arith, facts.few_faces);
+      classes = classes_small (length m.rules.weights) m.classes (omega (arith, rules.few_classes)) facts.classes;
+      arc_count = omega (arith, facts.few_arcs);
+      arcs = arcs_small (length m.classes) m.arcs (omega (arith, facts.few_faces)) facts.arcs (omega (arith, facts.few_points));
     }
 
 -- the rows of the listing of a base map are read as that map
 listing_rows_again : (m : BaseMap) → IsSmallMap m → read_listing (listing_rows m ++ ([] ∷ []) ∷ []) ≡ Some m
-unfolding read_listing
+unfolding read_listing rules_at all_faces_at all_arcs_at end_at
 listing_rows_again m small =
     let last : List Row = (codes "end" ∷ []) ∷ ([] ∷ []) ∷ [] in
     let of_arcs : List Row = map arc_words m.arcs ++ last in
@@ -237,10 +224,10 @@ listing_again bytes m is =
 -- ---- what the call answers
 
 -- the map of the parts, where it is a base map
-pub base_of_parts : (bytes : List ℕ) (m : BaseMap) (o : Option BaseMap) (r : Result BaseMap (Or MapFault)) → r ≡ listed_of o → o ≡ checked m → parts_at (rows_of bytes) ≡ Some m → GivesBase r (listing bytes)
+pub base_of_parts : (bytes : List ℕ) (m : BaseMap) (o : Option BaseMap) (r : Result BaseMap (Or MapFault)) → r ≡ listed_of o → o ≡ checked m → read_listing (rows_of bytes) ≡ Some m → GivesBase r (listing bytes)
 unfolding listing
-base_of_parts bytes m (Some b) r given is parts = rw given (ap (λ read. read >>= checked) (sym (parts_are (rows_of bytes)) ∙ parts) ∙ sym is)
-base_of_parts bytes m None r given is parts = rw given (refl, ap (λ read. read >>= checked) (sym (parts_are (rows_of bytes)) ∙ parts) ∙ sym is)
+base_of_parts bytes m (Some b) r given is parts = rw given (ap (λ read. read >>= checked) parts ∙ sym is)
+base_of_parts bytes m None r given is parts = rw given (refl, ap (λ read. read >>= checked) parts ∙ sym is)
 
 -- what is read is spelled so
 pub base_read : (bytes : List ℕ) (r : Result BaseMap (Or MapFault)) → GivesBase r (listing bytes) → IfOk r (IsListing bytes)

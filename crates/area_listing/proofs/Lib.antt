@@ -6,4 +6,3 @@ pub mod Sections
 pub mod Plain
 pub mod Laws
 pub mod Loops
-pub mod Parts

@@ -1,16 +1,18 @@
 -- Words: a number is read from its spelling and from no other word, and its spelling has neither a space nor a line feed.
-use Rattle.std.proofs.Common.{◌≡◌, ℕ, suc, ◌^◌, ◌<◌, ◌≤◌, Bool, true, false, eqb, ◌&&◌, not, List, [], ◌∷◌, Some, refl, sym, ap, ◌∙◌, arith}
-use Rattle.std.specs.Prelude.{ℤ, pos, negsuc, neg_ℤ, unsigned_abs, decimal, bytes_eq}
+use Rattle.std.proofs.Common.{◌≡◌, ℕ, suc, ◌^◌, ◌<◌, ◌≤◌, Bool, true, eqb, ◌&&◌, not, List, [], ◌∷◌, Some, refl, arith}
+use Rattle.std.specs.Prelude.{ℤ, pos, negsuc, unsigned_abs, decimal, bytes_eq}
 use Rattle.std.specs.Fmt.{signed_decimal}
 use Rattle.std.specs.List.{list_all}
-use Rattle.std.specs.Str.Parse.{AllDigits, digits_value}
-use Rattle.std.proofs.lemmas.Bool.{and_from, and_parts, ne_eqb}
+use Rattle.std.specs.Str.Parse.{AllDigits}
+use Rattle.std.proofs.lemmas.Bool.{and_from, ne_eqb}
 use Rattle.std.proofs.lemmas.Fmt.{decimal_is_IsNumeral}
-use Rattle.std.proofs.lemmas.Option.{cond_some}
 use Rattle.std.proofs.lemmas.Slice.Eq.{bytes_eq-Decides}
 use Rattle.std.proofs.lemmas.Str.Parse.{digit_from_value}
+use Rattle.std.specs.Int.{w64}
+use Rattle.std.proofs.lemmas.Int.{fits_signed_from_abs}
+use Rattle.plain_io.proofs.Numbers.{within_is, is_within, number_of-signed_decimal, number_of_some}
 use Rattle.tgap_model.specs.Base.{within}
-use Rattle.tgap_model.specs.Texts.{word_value, number_of}
+use Rattle.tgap_model.specs.Texts.{number_of}
 
 -- ---- bytes
 
@@ -52,32 +54,14 @@ signed_plain (negsuc n) small = decimal_plain (suc n) (omega arith)
 
 -- ---- numbers
 
--- digits spell the number that they have in all
-digits_word : (ds : List ℕ) → AllDigits 10 ds → word_value ds ≡ pos (digits_value 10 ds)
-digits_word [] h = refl
-digits_word (d ∷ ds) h =
-    let low = digit_from_value d h.0 in
-    let other : eqb d 45 ≡ false = ne_eqb d 45 (λ e. omega arith) in
-    rw other refl
-
--- the spelling of a number spells that number
-pub value_of_signed : (z : ℤ) → unsigned_abs z < 2 ^ 63 → word_value (signed_decimal z) ≡ z
-value_of_signed (pos n) small =
-    let numeral = decimal_is_IsNumeral n (omega arith) in
-    digits_word (decimal n) numeral.0.1 ∙ ap pos numeral.1
-value_of_signed (negsuc n) small =
-    let numeral = decimal_is_IsNumeral (suc n) (omega arith) in
-    ap (λ (k : ℕ). neg_ℤ (pos k)) numeral.1
-
 -- the spelling of a number in the range is read as that number
 pub number_again : (least most z : ℤ) → unsigned_abs z < 2 ^ 63 → within least most z ≡ true → number_of least most (signed_decimal z) ≡ Some z
-unfolding number_of
-number_again least most z small fits = rw (value_of_signed z small, bytes_eq_itself (signed_decimal z), fits) refl
+number_again least most z small fits =
+    let range = within_is least most z fits in
+    number_of-signed_decimal least most z (fits_signed_from_abs w64 z small) range.0 range.1
 
 -- a word that is read as a number is its spelling, and the number is in the range
 pub number_is : (least most z : ℤ) (word : List ℕ) → number_of least most word ≡ Some z → (word ≡ signed_decimal z) × (within least most z ≡ true)
-unfolding number_of
 number_is least most z word e =
-    let given = cond_some (bytes_eq word (signed_decimal (word_value word)) && within least most (word_value word)) (word_value word) z e in
-    let both = and_parts (bytes_eq word (signed_decimal (word_value word))) (within least most (word_value word)) given.0 in
-    (same_bytes word (signed_decimal (word_value word)) both.0 ∙ ap signed_decimal given.1, sym (ap (within least most) given.1) ∙ both.1)
+    let given = number_of_some least most word z e in
+    (given.0, is_within least most z given.1 given.2)

@@ -4,9 +4,9 @@
 
 ghost use Rattle.std.specs.Prelude.{◌≡◌, IfOk, Some, Err};
 ghost use Rattle.tgap_model.specs.Base.{BaseMap};
-ghost use Rattle.tgap_model.specs.Listing.{IsListing, listing};
+ghost use Rattle.tgap_model.specs.Listing.{IsListing, listing, read_listing};
 ghost use Rattle.area_listing.specs.Reading.{GivesBase};
-ghost use Rattle.area_listing.specs.Taking.{rows, parts_at, GivesParts};
+ghost use Rattle.area_listing.specs.Taking.{rows, GivesParts};
 
 mod fault;
 mod line;
@@ -38,7 +38,7 @@ pub fn read_listing(alloc: Global, bytes: &[u8]) -> Result<Base, Or<MapFault>>
 }
 
 /// The base map that the bytes list, by the definition of how a listing is read.
-#[tactic(auto, using(crate::proofs::Parts::parts_are), unfolding(tgap_model::specs::Listing::listing))]
+#[tactic(auto, unfolding(tgap_model::specs::Listing::listing))]
 fn read_checked(alloc: Global, bytes: &[u8]) -> Result<Base, Or<MapFault>>
     ensures { GivesBase result (listing bytes.now) }
 {
@@ -48,12 +48,12 @@ fn read_checked(alloc: Global, bytes: &[u8]) -> Result<Base, Or<MapFault>>
 }
 
 /// The parts of the map that is listed, whether it is a base map or not.
-#[tactic(auto, unfolding(crate::specs::Taking::parts_at))]
+#[tactic(auto, unfolding(tgap_model::specs::Listing::read_listing))]
 fn read_parts(
     alloc: Global,
     lines: &mut Pieces,
 ) -> Result<(Transform, Rules, List<u32>, List<BaseArc>), Or<MapFault>>
-    ensures { GivesParts result (parts_at (rows lines.old)) }
+    ensures { GivesParts result (read_listing (rows lines.old)) }
 {
     listed(read_heading(lines))?;
     let transform = listed(read_transform(lines))?;
@@ -63,6 +63,3 @@ fn read_parts(
     listed(read_end(lines))?;
     Ok((transform, rules, classes, arcs))
 }
-
-#[cfg(test)]
-mod tests;

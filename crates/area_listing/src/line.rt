@@ -1,8 +1,8 @@
 //! The lines of a listing, each read whole.
 
 ghost use Rattle.std.specs.Prelude.{◌≡◌, ◌∷◌, [], codes};
-ghost use Rattle.tgap_model.specs.Listing.{row_at, read_row, read_words, read_transform, read_count, read_class, read_face, read_arc};
-ghost use Rattle.area_listing.specs.Taking.{rows, Takes, Gives, GivesWith, class_onto, end_at};
+ghost use Rattle.tgap_model.specs.Listing.{row_at, read_row, read_words, read_transform, read_count, read_class, read_face, read_arc, end_at};
+ghost use Rattle.area_listing.specs.Taking.{rows, Takes, Gives, GivesWith, class_onto};
 
 use crate::fault::listed;
 use crate::row::{after_count, after_word, count_at, ended, points_at, push_counts, word_at};
@@ -103,7 +103,7 @@ pub fn read_arc(alloc: Global, lines: &mut Pieces) -> Result<BaseArc, Or<MapFaul
 }
 
 /// The last line, and nothing after it: past its line feed stands one empty word.
-#[tactic(auto, unfolding(crate::specs::Taking::end_at))]
+#[tactic(auto, unfolding(tgap_model::specs::Listing::end_at))]
 pub fn read_end(lines: &mut Pieces) -> Option<()>
     ensures { result ≡ end_at (rows lines.old) }
 {

@@ -1,8 +1,8 @@
 //! The sections of a listing: its rules, its faces and its arcs, each with its count before it.
 
 ghost use Rattle.std.specs.Prelude.{◌≡◌};
-ghost use Rattle.tgap_model.specs.Listing.{classes_at, faces_at, arcs_at};
-ghost use Rattle.area_listing.specs.Taking.{rows, Gives, rules_at, all_faces_at, all_arcs_at};
+ghost use Rattle.tgap_model.specs.Listing.{classes_at, faces_at, arcs_at, rules_at, all_faces_at, all_arcs_at};
+ghost use Rattle.area_listing.specs.Taking.{rows, Gives};
 
 use crate::fault::listed;
 use crate::line::{read_arc, read_class, read_count, read_face};
@@ -11,7 +11,7 @@ use std::alloc::Global;
 use tgap_model::{BaseArc, List, MapFault, Or, Rules};
 
 /// The line of the ratio, and the classes.
-#[tactic(auto, unfolding(crate::specs::Taking::rules_at))]
+#[tactic(auto, unfolding(tgap_model::specs::Listing::rules_at))]
 pub fn read_rules(alloc: Global, lines: &mut Pieces) -> Result<Rules, Or<MapFault>>
     ensures { Gives result (rows lines.new) (rules_at (rows lines.old)) }
 {
@@ -26,7 +26,7 @@ pub fn read_rules(alloc: Global, lines: &mut Pieces) -> Result<Rules, Or<MapFaul
 }
 
 /// The number of the faces, and the class of each.
-#[tactic(auto, unfolding(crate::specs::Taking::all_faces_at))]
+#[tactic(auto, unfolding(tgap_model::specs::Listing::all_faces_at))]
 pub fn read_faces(alloc: Global, lines: &mut Pieces) -> Result<List<u32>, Or<MapFault>>
     ensures { Gives result (rows lines.new) (all_faces_at (rows lines.old)) }
 {
@@ -35,7 +35,7 @@ pub fn read_faces(alloc: Global, lines: &mut Pieces) -> Result<List<u32>, Or<Map
 }
 
 /// The number of the arcs, and each arc.
-#[tactic(auto, unfolding(crate::specs::Taking::all_arcs_at))]
+#[tactic(auto, unfolding(tgap_model::specs::Listing::all_arcs_at))]
 pub fn read_arcs(alloc: Global, lines: &mut Pieces) -> Result<List<BaseArc>, Or<MapFault>>
     ensures { Gives result (rows lines.new) (all_arcs_at (rows lines.old)) }
 {

@@ -5,7 +5,8 @@ use Rattle.std.specs.Result.{result_ok}
 use Rattle.std.specs.Fmt.{signed_decimal}
 use Rattle.std.specs.Str.Parse.{digits_value, AllDigits, ParsesSigned}
 use Rattle.std.proofs.lemmas.Int.{ints}
-use Rattle.std.proofs.lemmas.Bool.{false≢true}
+use Rattle.std.proofs.lemmas.Bool.{false≢true, and_parts}
+use Rattle.std.proofs.lemmas.Option.{cond_some}
 use Rattle.std.proofs.lemmas.Slice.Eq.{bytes_eq-Decides}
 use Rattle.std.proofs.lemmas.Str.{IsUtf8-from_ascii}
 use Rattle.std.proofs.lemmas.Str.Parse.{IsNumeralModel, numerals_by_value, tells_digits, not_in_digits}
@@ -20,10 +21,11 @@ own = numerals_by_value (AllDigits 10) tells_digits
 pub fits_between : (least most z : ℤ) → FitsSigned w64 least → FitsSigned w64 most → least ≤ℤ z → z ≤ℤ most → FitsSigned w64 z
 fits_between least most z p q low high = omega (arith, ints)
 
-within_is : (least most z : ℤ) → within least most z ≡ true → (least ≤ℤ z) × (z ≤ℤ most)
+-- what the test of a range says
+pub within_is : (least most z : ℤ) → within least most z ≡ true → (least ≤ℤ z) × (z ≤ℤ most)
 within_is least most z h = (grind (arith, ints), grind (arith, ints))
 
-is_within : (least most z : ℤ) → least ≤ℤ z → z ≤ℤ most → within least most z ≡ true
+pub is_within : (least most z : ℤ) → least ≤ℤ z → z ≤ℤ most → within least most z ≡ true
 is_within least most z low high = grind (arith, ints)
 
 -- a word of digits has their value
@@ -51,21 +53,13 @@ pub number_of-signed_decimal : (least most z : ℤ) → FitsSigned w64 z → lea
 number_of-signed_decimal least most z fits low high =
     read_as least most (signed_decimal z) z true true (word_value-signed_decimal z fits) ((bytes_eq-Decides (signed_decimal z) (signed_decimal z)).1 refl) (is_within least most z low high)
 
-option_cases : (b : Bool) (x z : ℤ) → cond b (Some x) None ≡ Some z → (b ≡ true) × (x ≡ z)
-option_cases true x z h = (refl, cc)
-option_cases false x z h = absurd cc
-
-and_cases : (b c : Bool) → b && c ≡ true → (b ≡ true) × (c ≡ true)
-and_cases true c h = (refl, h)
-and_cases false c h = absurd (false≢true h)
-
 -- a word that is read spells the number, which is in range
 pub number_of_some : (least most : ℤ) (word : List ℕ) (z : ℤ) → number_of least most word ≡ Some z → (word ≡ signed_decimal z) × (least ≤ℤ z) × (z ≤ℤ most)
 unfolding number_of
 number_of_some least most word z h =
     let v = word_value word in
-    let g = option_cases (bytes_eq word (signed_decimal v) && within least most v) v z h in
-    let t = and_cases (bytes_eq word (signed_decimal v)) (within least most v) g.0 in
+    let g = cond_some (bytes_eq word (signed_decimal v) && within least most v) v z h in
+    let t = and_parts (bytes_eq word (signed_decimal v)) (within least most v) g.0 in
     let r = within_is least most v t.1 in
     let spelled = (bytes_eq-Decides word (signed_decimal v)).0 t.0 in
     (rw (← g.1) spelled, rw (← g.1) r.0, rw (← g.1) r.1)

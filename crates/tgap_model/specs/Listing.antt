@@ -3,6 +3,7 @@ use Rattle.std.specs.Prelude.{◌≡◌, ℕ, zero, suc, ◌+◌, ◌-◌, ◌^�
 use Rattle.std.specs.Fmt.{signed_decimal}
 use Rattle.tgap_model.specs.declared.geometry.Point.{Point}
 use Rattle.tgap_model.specs.declared.base.Transform.{Transform}
+use Rattle.tgap_model.specs.declared.base.Rules.{Rules}
 use Rattle.tgap_model.specs.declared.base.BaseArc.{BaseArc}
 use Rattle.tgap_model.specs.declared.limits.TheConstants.{MAX_COORDINATE}
 use Rattle.tgap_model.specs.Base.{BaseMap, is_base, checked}
@@ -185,21 +186,43 @@ abbrev pub read_words : Row → Row → Option (Unit {0})
 read_words [] row = ended tt row
 read_words (w ∷ words) row = after_word w row >>= λ rest. read_words words rest
 
+-- the ratio and the classes
+unfoldable pub rules_at : List Row → Option (Rules × List Row)
+rules_at rows = do
+  ratio ← read_row (read_count (codes "ratio")) rows
+  c ← read_row (read_count (codes "classes")) ratio.1
+  weighed ← classes_at c.0 0 c.0 c.1
+  Some (record { ratio = ratio.0; weights = weighed.0.0; compat = weighed.0.1 }, weighed.1)
+
+-- the number of the faces, and the class of each
+unfoldable pub all_faces_at : List Row → Option (List ℕ × List Row)
+all_faces_at rows = do
+  n ← read_row (read_count (codes "faces")) rows
+  faces_at 1 n.0 n.1
+
+-- the number of the arcs, and each arc
+unfoldable pub all_arcs_at : List Row → Option (List BaseArc × List Row)
+all_arcs_at rows = do
+  n ← read_row (read_count (codes "arcs")) rows
+  arcs_at n.0 n.1
+
+-- the last line, and nothing after it
+unfoldable pub end_at : List Row → Option (Unit {0})
+end_at rows = do
+  last ← read_row (read_words (codes "end" ∷ [])) rows
+  past ← read_row (read_words ([] ∷ [])) last.1
+  ended tt past.1
+
 -- the map that is listed, whether it is a base map or not
 unfoldable pub read_listing : List Row → Option BaseMap
 read_listing rows = do
   head ← read_row (read_words (codes "tgap" ∷ codes "1" ∷ [])) rows
   transform ← read_row read_transform head.1
-  ratio ← read_row (read_count (codes "ratio")) transform.1
-  c ← read_row (read_count (codes "classes")) ratio.1
-  weighed ← classes_at c.0 0 c.0 c.1
-  n ← read_row (read_count (codes "faces")) weighed.1
-  classes ← faces_at 1 n.0 n.1
-  m ← read_row (read_count (codes "arcs")) classes.1
-  arcs ← arcs_at m.0 m.1
-  last ← read_row (read_words (codes "end" ∷ [])) arcs.1
-  past ← read_row (read_words ([] ∷ [])) last.1
-  ended (record { transform = transform.0; rules = record { ratio = ratio.0; weights = weighed.0.0; compat = weighed.0.1 }; classes = classes.0; arcs = arcs.0 }) past.1
+  rules ← rules_at transform.1
+  classes ← all_faces_at rules.1
+  arcs ← all_arcs_at classes.1
+  end ← end_at arcs.1
+  Some (record { transform = transform.0; rules = rules.0; classes = classes.0; arcs = arcs.0 })
 
 -- the base map of which the bytes are the listing, or none
 unfoldable pub listing : List ℕ → Option BaseMap
