@@ -15,15 +15,23 @@ const TWO_SQUARES: &str =
 const FOUR_SQUARES: &str =
     "tgap 1\ntransform 1 1 0 0\nratio 0\nclasses 1\nclass 0 1 1\nfaces 4\nface 1 0\nface 2 0\nface 3 0\nface 4 0\narcs 8\narc 1 0 3 0 10 0 0 10 0\narc 2 0 3 10 0 20 0 20 10\narc 4 0 3 20 10 20 20 10 20\narc 3 0 3 10 20 0 20 0 10\narc 1 2 2 10 0 10 10\narc 2 4 2 20 10 10 10\narc 4 3 2 10 20 10 10\narc 3 1 2 0 10 10 10\nend\n";
 
+/// Three squares in a row. The first has a heavier class, and the others suit each other better.
+const THREE_SQUARES: &str =
+    "tgap 1\ntransform 1 1 0 0\nratio 0\nclasses 2\nclass 0 3 1 1\nclass 1 1 1 5\nfaces 3\nface 1 0\nface 2 1\nface 3 1\narcs 6\narc 1 0 4 10 10 0 10 0 0 10 0\narc 2 0 2 10 0 20 0\narc 3 0 4 20 0 30 0 30 10 20 10\narc 2 0 2 20 10 10 10\narc 1 2 2 10 0 10 10\narc 2 3 2 20 0 20 10\nend\n";
+
 const HOLE_WITH_FACE: &str =
     "tgap 1\ntransform 1 1 0 0\nratio 0\nclasses 1\nclass 0 1 1\nfaces 2\nface 1 0\nface 2 0\narcs 2\narc 1 0 5 0 0 30 0 30 30 0 30 0 0\narc 2 1 5 10 10 20 10 20 20 10 20 10 10\nend\n";
+
+/// A face that has no border.
+const LONELY_FACE: &str =
+    "tgap 1\ntransform 1 1 0 0\nratio 0\nclasses 1\nclass 0 1 1\nfaces 1\nface 1 0\narcs 0\nend\n";
 
 const USAGE: &str =
     "usage: borders MAP STEP | check MAP [OBJECT RULES] | slice MAP STEP [OBJECT RULES] | packet MAP FROM TO [OBJECT RULES] | replay SLICE PACKET | grid N | serve MAP PORT WORKERS VERSIONS [OBJECT RULES]\n";
 
 const BAD_LINE: &str = "refused 18 bad-line 0\n";
 
-/// A map file of that name, the words cut at their spaces, and the calls that are to fail.
+/// Files of which there is one, with that name and these bytes. The listed loads fail.
 fn one_file(
     alloc: Global,
     name: &str,
@@ -38,6 +46,7 @@ fn one_file(
     Ok(MemoryFiles::new(files, failing))
 }
 
+/// The words of a line, which stand between blanks.
 fn words_of(alloc: Global, line: &str) -> Result<Vec<String>, Memory> {
     let mut words = Vec::new(alloc);
     for word in line.split_whitespace() {
@@ -46,7 +55,7 @@ fn words_of(alloc: Global, line: &str) -> Result<Vec<String>, Memory> {
     Ok(words)
 }
 
-/// The first call alone.
+/// The list of the first call alone.
 fn first_call(alloc: Global) -> Result<List<u64>, Memory> {
     let mut calls = List::new(alloc);
     calls.push(0)?;
@@ -89,6 +98,19 @@ fn worked_maps(rt: HostRuntime) -> Result<(), Fail> {
             0,
             "borders 3\nborder 0 7 0\nborder 1 7 0\nborder 2 7 0\nborder 3 7 0\nend\n",
         ),
+        (
+            THREE_SQUARES,
+            "borders map 1",
+            0,
+            "borders 1\nborder 0 1 0\nborder 1 4 0\nborder 2 4 0\nborder 3 4 0\nborder 4 1 4\nend\n",
+        ),
+        (
+            THREE_SQUARES,
+            "borders map 2",
+            0,
+            "borders 2\nborder 0 5 0\nborder 1 5 0\nborder 2 5 0\nborder 3 5 0\nend\n",
+        ),
+        (THREE_SQUARES, "borders map 3", 5, "step too high 2\n"),
         (
             HOLE_WITH_FACE,
             "borders map 1",
@@ -180,7 +202,7 @@ fn bad_listings(rt: HostRuntime) -> Result<(), Fail> {
 }
 
 #[test]
-fn cut_and_long_files(rt: HostRuntime) -> Result<(), Fail> {
+fn cut_long_and_lonely_files(rt: HostRuntime) -> Result<(), Fail> {
     let alloc = rt.alloc();
     let words = words_of(alloc, "borders map 0")?;
     let long = vec![in alloc; b' '; 16_777_217]?;
@@ -189,6 +211,7 @@ fn cut_and_long_files(rt: HostRuntime) -> Result<(), Fail> {
         (&TWO_SQUARES.as_bytes()[..cut], BAD_LINE),
         (&TWO_SQUARES.as_bytes()[..cut + 3], BAD_LINE),
         (b"".as_slice(), BAD_LINE),
+        (LONELY_FACE.as_bytes(), BAD_LINE),
         (long.as_slice(), "refused 20 input-long 16777216\n"),
     ] {
         let mut files = one_file(alloc, "map", bytes, List::new(alloc))?;
