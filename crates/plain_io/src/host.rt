@@ -1,6 +1,6 @@
 //! Real files and a real sink: the trusted edge. They tell nothing of their bytes.
 
-ghost use Rattle.std.specs.Prelude.{◌≤◌, None, length, IfOk};
+ghost use Rattle.std.specs.Prelude.{◌≡◌, ◌≤◌, None, length, IfOk};
 ghost use Rattle.plain_io.specs.Held.{count_of};
 ghost use Rattle.plain_io.specs.Loads.{Loads};
 
@@ -19,9 +19,11 @@ pub struct HostFiles<'a, R> {
     faults: FaultCounts,
 }
 
-impl<'a, R> HostFiles<'a, R> {
+impl<'a, R: FileSystem> HostFiles<'a, R> {
     /// The files that this runtime reaches.
-    pub fn new(system: &'a R) -> Self {
+    pub fn new(system: &'a R) -> Self
+        ensures { (which : Which) → ⟦<HostFiles<'a, R> as Files>⟧.faults result which ≡ 0 }
+    {
         HostFiles {
             system,
             faults: FaultCounts::new(),
@@ -84,9 +86,11 @@ pub struct HostSink<W> {
     faults: u64,
 }
 
-impl<W> HostSink<W> {
+impl<W: Write> HostSink<W> {
     /// A sink that writes here.
-    pub fn new(writer: W) -> Self {
+    pub fn new(writer: W) -> Self
+        ensures { ⟦<HostSink<W> as Sink>⟧.faults result ≡ 0 }
+    {
         HostSink { writer, faults: 0 }
     }
 }

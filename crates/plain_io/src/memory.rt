@@ -1,6 +1,6 @@
 //! Files and a sink in memory, which fail on listed calls.
 
-ghost use Rattle.std.specs.Prelude.{◌≡◌, ◌≢◌, Some, Err, option_copied};
+ghost use Rattle.std.specs.Prelude.{ℕ, List, [], IfOk, ◌≡◌, ◌≢◌, Some, Err, option_copied};
 ghost use Rattle.plain_io.specs.Loads.{Loads};
 ghost use Rattle.plain_io.specs.Held.{count_of, bytes_of};
 
@@ -27,7 +27,10 @@ pub struct MemoryFiles {
 
 impl MemoryFiles {
     /// These files. The loads with the listed numbers, counted from 0, fail.
-    pub fn new(files: List<MemoryFile>, failing: List<u64>) -> Self {
+    pub fn new(files: List<MemoryFile>, failing: List<u64>) -> Self
+        ensures told { (which : Which) (name : List ℕ) → ⟦<MemoryFiles as Files>⟧.told result which name ≡ bytes_of files name }
+        ensures faults { (which : Which) → ⟦<MemoryFiles as Files>⟧.faults result which ≡ 0 }
+    {
         MemoryFiles {
             files,
             failing,
@@ -98,7 +101,10 @@ pub struct MemorySink {
 impl MemorySink {
     /// An empty sink with that much room, which is taken now. The puts with the listed numbers, counted from 0, fail, and
     /// so does one that does not fit.
-    pub fn new(alloc: Global, room: usize, failing: List<u64>) -> Result<Self, Memory> {
+    pub fn new(alloc: Global, room: usize, failing: List<u64>) -> Result<Self, Memory>
+        ensures told { IfOk result (λ sink. ⟦<MemorySink as Sink>⟧.told sink ≡ Some []) }
+        ensures faults { IfOk result (λ sink. ⟦<MemorySink as Sink>⟧.faults sink ≡ 0) }
+    {
         Ok(MemorySink {
             bytes: Vec::with_capacity(alloc, room)?,
             room,

@@ -1,6 +1,6 @@
 //! Files and a sink in memory that never fail.
 
-ghost use Rattle.std.specs.Prelude.{Some, None};
+ghost use Rattle.std.specs.Prelude.{◌≡◌, ℕ, List, Some, None};
 ghost use Rattle.plain_io.specs.Held.{text_of};
 
 use crate::files::{Files, LoadFail, Which};
@@ -26,7 +26,9 @@ pub struct SureFiles {
 
 impl SureFiles {
     /// Files with these texts.
-    pub fn new(texts: FileTexts) -> Self {
+    pub fn new(texts: FileTexts) -> Self
+        ensures { (which : Which) (name : List ℕ) → ⟦<SureFiles as Files>⟧.told result which name ≡ Some (text_of texts which) }
+    {
         SureFiles { texts }
     }
 }
