@@ -20,7 +20,7 @@ use Rattle.tgap_model.specs.Texts.{rows_of}
 use Rattle.tgap_model.specs.Listing.{Row, ◌>>=◌, transform_words, count_words, class_rows, face_rows, arc_words, listing_rows, IsListing, read_row, read_words, read_transform, read_count, classes_at, rules_at, all_faces_at, all_arcs_at, end_at, read_listing, listing}
 use Rattle.area_listing.specs.Reading.{GivesBase}
 use Rattle.area_listing.specs.Taking.{listed_of}
-use Rattle.area_listing.proofs.Cutting.{is_plain_row, lines_from_rows, rows_again}
+use Rattle.plain_io.proofs.Rows.{is_plain_row, lines_from_rows, rows_again}
 use Rattle.area_listing.proofs.Steps.{AreSmall, ended_is}
 use Rattle.area_listing.proofs.OneLine.{read_words_is, read_transform_is, read_transform_again, read_count_is, read_count_again}
 use Rattle.area_listing.proofs.Plain.{transform_plain, count_plain, classes_plain, faces_plain, arcs_plain}

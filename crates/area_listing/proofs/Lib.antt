@@ -1,5 +1,3 @@
-pub mod Words
-pub mod Cutting
 pub mod Steps
 pub mod OneLine
 pub mod Sections

@@ -9,8 +9,8 @@ use Rattle.tgap_model.specs.declared.base.BaseArc.{BaseArc}
 use Rattle.tgap_model.specs.declared.limits.TheConstants.{MAX_COORDINATE}
 use Rattle.tgap_model.specs.Base.{within, is_word, is_transform, in_limits}
 use Rattle.tgap_model.specs.Listing.{transform_words, count_words, class_rows, face_rows, point_words, arc_words}
-use Rattle.area_listing.proofs.Words.{is_plain_word, decimal_plain, signed_plain}
-use Rattle.area_listing.proofs.Cutting.{is_plain_row}
+use Rattle.plain_io.proofs.Words.{is_plain_word, decimal_plain, signed_plain}
+use Rattle.plain_io.proofs.Rows.{is_plain_row}
 use Rattle.area_listing.proofs.Steps.{AreSmall}
 use Rattle.area_listing.proofs.OneLine.{word_small, coordinate_small}
 use Rattle.area_listing.proofs.Sections.{IsSmallArc, small_take, small_drop}

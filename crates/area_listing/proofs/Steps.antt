@@ -9,7 +9,7 @@ use Rattle.std.proofs.lemmas.Option.{cond_some}
 use Rattle.tgap_model.specs.Base.{within}
 use Rattle.tgap_model.specs.Texts.{number_of}
 use Rattle.tgap_model.specs.Listing.{Row, ◌>>=◌, after_word, number_at, count_at, after_count, ended, counts_at}
-use Rattle.area_listing.proofs.Words.{same_bytes, bytes_eq_itself, number_again, number_is}
+use Rattle.plain_io.proofs.Words.{same_bytes, bytes_eq_itself, number_again, number_is}
 
 -- the value of a step that gave one
 pub bind_some : {A B : Type 0} (o : Option A) (f : A → Option B) (y : B) → (o >>= f) ≡ Some y → (x : A) × (o ≡ Some x) × (f x ≡ Some y)
