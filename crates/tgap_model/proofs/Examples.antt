@@ -109,6 +109,23 @@ hole_with_face_border_1 : border hole_with_face 1 ≡ row 0 3 0 ∷ []
 unfolding history_of next_step
 hole_with_face_border_1 = refl
 
+-- ---- three squares in a row: the first has a heavier class, and the others suit each other better
+
+abbrev pub three_squares : BaseMap
+three_squares = record {
+  transform = record { sx = pos 1; sy = pos 1; tx = pos 0; ty = pos 0 };
+  rules = record { ratio = 0; weights = 3 ∷ 1 ∷ []; compat = 1 ∷ 1 ∷ 1 ∷ 5 ∷ [] };
+  classes = 0 ∷ 1 ∷ 1 ∷ [];
+  arcs =
+      arc 1 0 (10 ∷ 10 ∷ 0 ∷ 10 ∷ 0 ∷ 0 ∷ 10 ∷ 0 ∷ []) ∷ arc 2 0 (10 ∷ 0 ∷ 20 ∷ 0 ∷ [])
+      ∷ arc 3 0 (20 ∷ 0 ∷ 30 ∷ 0 ∷ 30 ∷ 10 ∷ 20 ∷ 10 ∷ []) ∷ arc 2 0 (20 ∷ 10 ∷ 10 ∷ 10 ∷ [])
+      ∷ arc 1 2 (10 ∷ 0 ∷ 10 ∷ 10 ∷ []) ∷ arc 2 3 (20 ∷ 0 ∷ 20 ∷ 10 ∷ []) ∷ [];
+}
+
+three_squares_history : history_of three_squares ≡ step 2 3 4 ∷ step 4 1 5 ∷ []
+unfolding history_of next_step
+three_squares_history = refl
+
 -- ---- words of numbers
 
 least_number : number_of (negsuc 9) (pos 9) (codes "-10") ≡ Some (negsuc 9)
