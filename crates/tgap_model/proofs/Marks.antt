@@ -6,7 +6,7 @@ use Rattle.std.proofs.lemmas.Bool.Decides.{nat_tests}
 use Rattle.std.proofs.lemmas.List.{ext_get_or, take_more, get_or-set_same, get_or-set_other, length-set}
 use Rattle.std.proofs.lemmas.List.Recursion.{and_at, or_push}
 use Rattle.tgap_model.specs.declared.base.BaseArc.{BaseArc}
-use Rattle.tgap_model.specs.declared.borders.TheConstants.{MARK}
+use Rattle.tgap_model.specs.declared.bordered.TheConstants.{MARK}
 use Rattle.tgap_model.specs.Base.{is_arc, borders_face}
 use Rattle.tgap_model.specs.Marks.{marked, mark_on}
 

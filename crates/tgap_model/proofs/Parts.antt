@@ -5,7 +5,7 @@ use Rattle.std.proofs.lemmas.Bool.{and_parts, and_from, and_left, and_right, ltb
 use Rattle.tgap_model.specs.declared.base.Rules.{Rules}
 use Rattle.tgap_model.specs.declared.base.BaseArc.{BaseArc}
 use Rattle.tgap_model.specs.declared.limits.TheConstants.{MAX_POINTS, MAX_ARCS, MAX_FACES}
-use Rattle.tgap_model.specs.declared.borders.TheConstants.{MARK}
+use Rattle.tgap_model.specs.declared.bordered.TheConstants.{MARK}
 use Rattle.tgap_model.specs.Base.{BaseMap, is_transform, is_rules, is_arc, is_base, count_points, all_faces_bordered, checked}
 use Rattle.tgap_model.specs.Parts.{are_parts}
 use Rattle.tgap_model.proofs.Marks.{are_unmarked}

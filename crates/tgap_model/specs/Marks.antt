@@ -1,6 +1,6 @@
 -- Marks on the entries of a list, one entry a face from face 1 on: an entry with a mark is higher by MARK.
 use Rattle.std.specs.Prelude.{ℕ, zero, suc, ◌+◌, Bool, nat_lt, List, [], ◌∷◌, slice_index, slice_set, if◌then◌else◌}
-use Rattle.tgap_model.specs.declared.borders.TheConstants.{MARK}
+use Rattle.tgap_model.specs.declared.bordered.TheConstants.{MARK}
 
 -- the entries from face f on, with a mark on each whose face passes the test
 abbrev pub marked : (ℕ → Bool) → ℕ → List ℕ → List ℕ

@@ -3,7 +3,7 @@
 ghost use Rattle.std.specs.Prelude.{◌≡◌, IsTrue};
 ghost use Rattle.tgap_model.specs.Base.{is_base, is_transform, checked};
 
-use crate::borders::with_borders;
+use crate::bordered::with_borders;
 use crate::geometry::Point;
 use crate::list::List;
 use crate::validity::are_parts;

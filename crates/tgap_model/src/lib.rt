@@ -5,7 +5,7 @@
 
 mod base;
 mod border;
-mod borders;
+mod bordered;
 mod failure;
 mod fault;
 mod geometry;

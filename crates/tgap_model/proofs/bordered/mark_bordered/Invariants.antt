@@ -2,7 +2,7 @@ use Rattle.std.proofs.Common.{◌≡◌, take}
 use Rattle.std.specs.List.{list_any}
 use Rattle.tgap_model.specs.Base.{borders_face}
 use Rattle.tgap_model.specs.Marks.{marked}
-use Rattle.tgap_model.proofs.borders.mark_bordered.Given as goal
+use Rattle.tgap_model.proofs.bordered.mark_bordered.Given as goal
 
 -- the faces of the arcs so far have their marks
 abbrev pub invariant-loop-arc : goal.invariant-loop-arc

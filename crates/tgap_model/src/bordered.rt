@@ -6,10 +6,11 @@ ghost use Rattle.tgap_model.specs.Base.{is_arc, borders_face, all_faces_bordered
 ghost use Rattle.tgap_model.specs.Marks.{marked, mark_on};
 
 use crate::base::BaseArc;
+use crate::limits::MAX_CLASSES;
 use crate::list::List;
 
 /// What a mark adds to an entry. Each class is below it.
-const MARK: u32 = 256;
+const MARK: u32 = MAX_CLASSES as u32;
 
 /// Marks the entry of a face, once. The outside has no entry.
 fn mark_face(entries: &mut [u32], face: u32)

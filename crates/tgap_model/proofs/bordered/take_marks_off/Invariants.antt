@@ -1,6 +1,6 @@
 use Rattle.std.proofs.Common.{◌≡◌, ◌%◌, ◌++◌, map, take, drop}
-use Rattle.tgap_model.specs.declared.borders.TheConstants.{MARK}
-use Rattle.tgap_model.proofs.borders.take_marks_off.Given as goal
+use Rattle.tgap_model.specs.declared.bordered.TheConstants.{MARK}
+use Rattle.tgap_model.proofs.bordered.take_marks_off.Given as goal
 
 -- the marks of the entries so far are off
 abbrev pub invariant-loop-entry : goal.invariant-loop-entry

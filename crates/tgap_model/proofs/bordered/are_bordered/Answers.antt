@@ -2,9 +2,9 @@ use Rattle.std.proofs.Common.{◌%◌, map, ap, ◌∙◌}
 use Rattle.std.specs.List.{list_any, list_all}
 use Rattle.std.specs.Prelude.{nat_le}
 use Rattle.tgap_model.specs.Base.{borders_face}
-use Rattle.tgap_model.specs.declared.borders.TheConstants.{MARK}
+use Rattle.tgap_model.specs.declared.bordered.TheConstants.{MARK}
 use Rattle.tgap_model.proofs.Marks.{all-marked, map-marked}
-use Rattle.tgap_model.proofs.borders.are_bordered.Goals as goal
+use Rattle.tgap_model.proofs.bordered.are_bordered.Goals as goal
 
 pub returns-clause-value : goal.returns-clause-value
 returns-clause-value c =

@@ -1,6 +1,6 @@
 use Rattle.std.proofs.Common.{◌≡◌, ℕ, ◌+◌, ◌<◌, List, [], ◌∷◌, ◌++◌, length, get_or, set, take, drop, map, ◌∙◌, arith, append_assoc}
 use Rattle.std.proofs.lemmas.List.{drop_more, map_more, set_at, get_or_at, length-map, length-take-le}
-use Rattle.tgap_model.proofs.borders.take_marks_off.Goals as goal
+use Rattle.tgap_model.proofs.bordered.take_marks_off.Goals as goal
 
 -- one more entry is changed in place
 map_in_place : (f : ℕ → ℕ) (xs ys : List ℕ) (i : ℕ) → i < length ys → xs ≡ map f (take i ys) ++ drop i ys

@@ -1,7 +1,7 @@
 use Rattle.std.proofs.Common.{length, sym, ap, ◌∙◌, arith}
 use Rattle.tgap_model.specs.Marks.{mark_on}
 use Rattle.tgap_model.proofs.Marks.{marked-nothing, arc-faces, marks_more}
-use Rattle.tgap_model.proofs.borders.mark_bordered.Goals as goal
+use Rattle.tgap_model.proofs.bordered.mark_bordered.Goals as goal
 
 pub loop-arc-init : goal.loop-arc-init
 loop-arc-init c = sym (marked-nothing 1 c.args.classes.now)
