@@ -8,7 +8,8 @@ use Rattle.tgap_model.specs.declared.failure.Or.{Or}
 use Rattle.tgap_model.specs.declared.failure.Or.TheVariants.{Fault, Memory}
 use Rattle.tgap_model.specs.Listing.{Row, ◌>>=◌, count_at, counts_at, coordinate_at, points_at, read_row, read_class, read_face, read_arc, classes_at, faces_at, arcs_at}
 use Rattle.tgap_model.specs.declared.base.BaseArc.{BaseArc}
-use Rattle.area_listing.specs.Taking.{Takes, Refuses, listed_of, with_front, point_at, class_onto}
+use Rattle.area_listing.specs.Reading.{Refuses}
+use Rattle.area_listing.specs.Taking.{Takes, listed_of, with_front, point_at, class_onto}
 use Rattle.area_listing.proofs.Sections.{Classes}
 
 -- ---- what was taken, or the fault

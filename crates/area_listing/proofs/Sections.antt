@@ -19,10 +19,6 @@ read_row_is read (row ∷ rows) x e =
     let made : (value, rows) ≡ x = cc in
     (row, ap (λ y. row ∷ y.1) made, e0 ∙ ap (λ y. Some y.0) made))
 
--- a row that its reader reads is taken
-pub read_row_again : {A : Type 0} (read : Row → Option A) (row : Row) (rows : List Row) (x : A) → read row ≡ Some x → read_row read (row ∷ rows) ≡ Some (x, rows)
-read_row_again read row rows x e = rw e refl
-
 -- ---- classes
 
 -- weights and compatibilities, and the rows after them

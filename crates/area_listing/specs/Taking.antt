@@ -1,16 +1,17 @@
 -- What the steps of reading answer, beside the definitions of what is read.
-use Rattle.std.specs.Prelude.{◌≡◌, ℕ, ◌==◌, List, ◌++◌, map, Option, Some, None, Result, Ok, Err, ⊤}
+use Rattle.std.specs.Prelude.{◌≡◌, ℕ, ◌==◌, List, ◌++◌, map, Option, Some, None, Result, Ok, Err}
 use Rattle.std.specs.List.{slice_split}
 use Rattle.tgap_model.specs.declared.fault.MapFault.{MapFault}
 use Rattle.tgap_model.specs.declared.fault.MapFault.TheVariants.{BadLine}
 use Rattle.tgap_model.specs.declared.failure.Or.{Or}
-use Rattle.tgap_model.specs.declared.failure.Or.TheVariants.{Fault, Memory}
+use Rattle.tgap_model.specs.declared.failure.Or.TheVariants.{Fault}
 use Rattle.tgap_model.specs.declared.geometry.Point.{Point}
 use Rattle.tgap_model.specs.declared.base.Transform.{Transform}
 use Rattle.tgap_model.specs.declared.base.Rules.{Rules}
 use Rattle.tgap_model.specs.declared.base.BaseArc.{BaseArc}
 use Rattle.tgap_model.specs.Base.{BaseMap}
 use Rattle.tgap_model.specs.Listing.{Row, ◌>>=◌, coordinate_at}
+use Rattle.area_listing.specs.Reading.{Refuses}
 
 -- the rows of words of these lines
 abbrev pub rows : List (List ℕ) → List Row
@@ -25,11 +26,6 @@ Takes None rest read = read ≡ None
 abbrev pub Skips : {A S : Type 0} → Option A → S → Option S → Type 0
 Skips (Some x) rest read = read ≡ Some rest
 Skips None rest read = read ≡ None
-
--- the fault of a listing of no base map; want of memory says nothing
-abbrev pub Refuses : {Y : Type 0} → Or MapFault → Option Y → Type 0
-Refuses (Fault fault) read = (fault ≡ BadLine 0) × (read ≡ None)
-Refuses Memory read = ⊤
 
 -- what a step in memory took and what it left
 abbrev pub Gives : {A S : Type 0} → Result A (Or MapFault) → S → Option (A × S) → Type 0

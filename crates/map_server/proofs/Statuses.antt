@@ -129,48 +129,6 @@ pub put_whole : (a : Answer) (old new : Option (List ℕ)) (before now status : 
 put_whole a old new before now status (inl whole) other = (whole.0, whole.1)
 put_whole a old new before now status (inr failed) other = absurd (other failed.0)
 
-pub two_says : (words : List (List ℕ)) (told : List ℕ → Option (List ℕ)) (rose : Type 0) (a : Answer) (old new : Option (List ℕ)) (before now status : ℕ)
-    → Answers words told rose a → Delivers a old new before now status → status ≡ 2 → command words ≡ None
-two_says words told rose a old new before now status h d z =
-    let whole = put_whole a old new before now status d (λ six. omega (arith, z, six)) in
-    let two : a.status ≡ 2 = sym whole.0 ∙ z in
-    elim (words_cases words told rose a (command words) refl h) [
-      | inl none ↦ none.0
-      | inr asked ↦ absurd (asked.2.two_never two)
-    ]
-
-pub three_says : (words : List (List ℕ)) (told : List ℕ → Option (List ℕ)) (rose : Type 0) (a : Answer) (old new : Option (List ℕ)) (before now status : ℕ)
-    → Answers words told rose a → Delivers a old new before now status → status ≡ 3 → rose
-three_says words told rose a old new before now status h d z =
-    let whole = put_whole a old new before now status d (λ six. omega (arith, z, six)) in
-    let three : a.status ≡ 3 = sym whole.0 ∙ z in
-    elim (words_cases words told rose a (command words) refl h) [
-      | inl none ↦ absurd (omega (arith, none.1, three))
-      | inr asked ↦ asked.2.three_says three
-    ]
-
-pub four_says : (words : List (List ℕ)) (told : List ℕ → Option (List ℕ)) (rose : Type 0) (a : Answer) (old new : Option (List ℕ)) (before now status : ℕ)
-    → Answers words told rose a → Delivers a old new before now status → status ≡ 4
-    → (asked : Borders) × (command words ≡ Some asked) × IfSome (told asked.map) IsRefused
-four_says words told rose a old new before now status h d z =
-    let whole = put_whole a old new before now status d (λ six. omega (arith, z, six)) in
-    let four : a.status ≡ 4 = sym whole.0 ∙ z in
-    elim (words_cases words told rose a (command words) refl h) [
-      | inl none ↦ absurd (omega (arith, none.1, four))
-      | inr asked ↦ (asked.0, asked.1, asked.2.four_says four)
-    ]
-
-pub five_says : (words : List (List ℕ)) (told : List ℕ → Option (List ℕ)) (rose : Type 0) (a : Answer) (old new : Option (List ℕ)) (before now status : ℕ)
-    → Answers words told rose a → Delivers a old new before now status → status ≡ 5
-    → (asked : Borders) × (command words ≡ Some asked) × IfSome (told asked.map) (IsTooHigh asked.step)
-five_says words told rose a old new before now status h d z =
-    let whole = put_whole a old new before now status d (λ six. omega (arith, z, six)) in
-    let five : a.status ≡ 5 = sym whole.0 ∙ z in
-    elim (words_cases words told rose a (command words) refl h) [
-      | inl none ↦ absurd (omega (arith, none.1, five))
-      | inr asked ↦ (asked.0, asked.1, asked.2.five_says five)
-    ]
-
 -- the borders that were asked for are put
 abbrev pub PutsBorders : Option (List ℕ) → Option (List ℕ) → ℕ → List ℕ → Type 0
 PutsBorders old new k bytes = (m : BaseMap) × (listing bytes ≡ Some m) × (k ≤ length (history_of m)) × Appends old new (borders_text k (border m k))
@@ -179,13 +137,39 @@ puts_borders : (old new : Option (List ℕ)) (a : Answer) (k : ℕ) (told : Opti
 puts_borders old new a k None puts h = tt
 puts_borders old new a k (Some bytes) puts h = (h.0, h.1, h.2, subst (λ (text : List ℕ). Appends old new text) h.3 puts)
 
-pub zero_says : (words : List (List ℕ)) (told : List ℕ → Option (List ℕ)) (rose : Type 0) (a : Answer) (old new : Option (List ℕ)) (before now status : ℕ)
-    → Answers words told rose a → Delivers a old new before now status → status ≡ 0
-    → (asked : Borders) × (command words ≡ Some asked) × IfSome (told asked.map) (PutsBorders old new asked.step)
-zero_says words told rose a old new before now status h d z =
-    let whole = put_whole a old new before now status d (λ six. omega (arith, z, six)) in
-    let zero : a.status ≡ 0 = sym whole.0 ∙ z in
-    elim (words_cases words told rose a (command words) refl h) [
-      | inl none ↦ absurd (omega (arith, none.1, zero))
-      | inr asked ↦ (asked.0, asked.1, puts_borders old new a asked.0.step (told asked.0.map) whole.1 (asked.2.zero_says zero))
-    ]
+-- an answer to these words, put with this status
+module _ (words : List (List ℕ)) (told : List ℕ → Option (List ℕ)) (rose : Type 0) (a : Answer) (old new : Option (List ℕ)) (before now status : ℕ)
+    (answers : Answers words told rose a) (delivers : Delivers a old new before now status) where
+  cases : ((command words ≡ None) × (a.status ≡ 2)) ⊎ ((asked : Borders) × (command words ≡ Some asked) × StatusSays (told asked.map) rose asked.step a)
+  cases = words_cases words told rose a (command words) refl answers
+
+  -- a status below 6 is the answer's
+  status_is : (n : ℕ) → n < 6 → status ≡ n → a.status ≡ n
+  status_is n low e = sym (put_whole a old new before now status delivers (λ six. omega (arith, e, six))).0 ∙ e
+
+  pub zero_says : status ≡ 0 → (asked : Borders) × (command words ≡ Some asked) × IfSome (told asked.map) (PutsBorders old new asked.step)
+  zero_says e =
+      let zero = status_is 0 (omega arith) e in
+      let whole = put_whole a old new before now status delivers (λ six. omega (arith, e, six)) in
+      elim cases [
+        | inl none ↦ absurd (omega (arith, none.1, zero))
+        | inr asked ↦ (asked.0, asked.1, puts_borders old new a asked.0.step (told asked.0.map) whole.1 (asked.2.zero_says zero))
+      ]
+
+  pub two_says : status ≡ 2 → command words ≡ None
+  two_says e = elim cases [ inl none ↦ none.0 | inr asked ↦ absurd (asked.2.two_never (status_is 2 (omega arith) e)) ]
+
+  pub three_says : status ≡ 3 → rose
+  three_says e =
+      let three = status_is 3 (omega arith) e in
+      elim cases [ inl none ↦ absurd (omega (arith, none.1, three)) | inr asked ↦ asked.2.three_says three ]
+
+  pub four_says : status ≡ 4 → (asked : Borders) × (command words ≡ Some asked) × IfSome (told asked.map) IsRefused
+  four_says e =
+      let four = status_is 4 (omega arith) e in
+      elim cases [ inl none ↦ absurd (omega (arith, none.1, four)) | inr asked ↦ (asked.0, asked.1, asked.2.four_says four) ]
+
+  pub five_says : status ≡ 5 → (asked : Borders) × (command words ≡ Some asked) × IfSome (told asked.map) (IsTooHigh asked.step)
+  five_says e =
+      let five = status_is 5 (omega arith) e in
+      elim cases [ inl none ↦ absurd (omega (arith, none.1, five)) | inr asked ↦ (asked.0, asked.1, asked.2.five_says five) ]
