@@ -55,6 +55,7 @@ pub fn run<R, F: Files, K: Sink>(
     ensures usage { result ≡ 2 → command (map string_bytes words.now) ≡ None }
     ensures no_command { command (map string_bytes words.now) ≡ None → (result ≡ 2) ⊎ (result ≡ 6) }
     ensures load_fault { result ≡ 3 → Rose (F.faults files.old Which.Map) (F.faults files.new Which.Map) }
+    ensures load_kept { result ≢ 3 → result ≢ 6 → F.faults files.new Which.Map ≡ F.faults files.old Which.Map }
     ensures refused { result ≡ 4 → (asked : spec.Borders) × (command (map string_bytes words.now) ≡ Some asked)
         × IfSome (F.told files.old Which.Map asked.map) IsRefused }
     ensures too_high { result ≡ 5 → (asked : spec.Borders) × (command (map string_bytes words.now) ≡ Some asked)
@@ -67,7 +68,8 @@ pub fn run<R, F: Files, K: Sink>(
 
 /// The answer to the words.
 fn answer<F: Files>(alloc: Global, words: &[String], files: &mut F) -> Answer
-    ensures { Answers (map string_bytes words.now) (F.told files.old Which.Map) (Rose (F.faults files.old Which.Map) (F.faults files.new Which.Map)) (answer_of result) }
+    ensures answers { Answers (map string_bytes words.now) (F.told files.old Which.Map) (Rose (F.faults files.old Which.Map) (F.faults files.new Which.Map)) (answer_of result) }
+    ensures kept { (answer_of result).status ≢ 3 → F.faults files.new Which.Map ≡ F.faults files.old Which.Map }
 {
     match command(words) {
         Some(asked) => answer_borders(alloc, &asked, files),
@@ -77,7 +79,8 @@ fn answer<F: Files>(alloc: Global, words: &[String], files: &mut F) -> Answer
 
 /// The answer to `borders`.
 fn answer_borders<F: Files>(alloc: Global, asked: &Borders<'_>, files: &mut F) -> Answer
-    ensures { AnswersCommand (F.told files.old Which.Map asked.now.map.now) (Rose (F.faults files.old Which.Map) (F.faults files.new Which.Map)) asked.now.step (answer_of result) }
+    ensures answers { AnswersCommand (F.told files.old Which.Map asked.now.map.now) (Rose (F.faults files.old Which.Map) (F.faults files.new Which.Map)) asked.now.step (answer_of result) }
+    ensures kept { (answer_of result).status ≢ 3 → F.faults files.new Which.Map ≡ F.faults files.old Which.Map }
 {
     match files.load(alloc, Which::Map, asked.map, MAX_MAP_BYTES) {
         Ok(text) => answer_from_bytes(alloc, text.as_slice(), asked.step),
