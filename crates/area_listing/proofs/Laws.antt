@@ -6,7 +6,7 @@ use Rattle.std.proofs.lemmas.Bool.{and_from, and_parts, leb-true, ltb-true}
 use Rattle.std.proofs.lemmas.List.{append-nil, append_assoc}
 use Rattle.std.proofs.lemmas.List.Folds.{list_all-append}
 use Rattle.std.proofs.lemmas.List.Sums.{sum_by-cons}
-use Rattle.std.proofs.lemmas.Option.{option_and_then_some, cond_some}
+use Rattle.std.proofs.lemmas.Option.{option_and_then_some, cond_some, same_Some}
 use Rattle.tgap_model.specs.declared.base.Transform.{Transform}
 use Rattle.tgap_model.specs.declared.base.Rules.{Rules}
 use Rattle.tgap_model.specs.declared.base.BaseArc.{BaseArc}
@@ -65,10 +65,6 @@ joined : (rows r0 r1 r2 r3 r4 r5 r6 r7 r8 r9 r10 : List Row) (transform : Transf
     → rows ≡ sections transform ratio (length weighed.0) weighed (length classes) classes (length arcs) arcs (([] ∷ []) ∷ [])
 joined rows r0 r1 r2 r3 r4 r5 r6 r7 r8 r9 r10 transform ratio c weighed n classes k arcs e0 e1 e2 e3 e4 l0 e5 e6 l1 e7 e8 l2 e9 e10 e11 = cc
 
--- one value is the other, where both are there
-some_is : {A : Type 0} (x y : A) → Some x ≡ Some y → x ≡ y
-some_is x y e = cc
-
 -- the rows of a map that is read are those of its listing, and one of an empty word
 pub listing_is : (rows : List Row) (m : BaseMap) → read_listing rows ≡ Some m → rows ≡ listing_rows m ++ ([] ∷ []) ∷ []
 unfolding read_listing rules_at all_faces_at all_arcs_at end_at
@@ -91,10 +87,10 @@ listing_is rows m e =
     let borders = arcs_at_is k.0 k.1 arcs e8 in
     let nothing : Unit {0} = tt in
     let weighed_rules : Rules = record { ratio = ratio.0; weights = weighed.0.0; compat = weighed.0.1 } in
-    let same : (weighed_rules, weighed.1) ≡ rules = some_is (weighed_rules, weighed.1) rules s4 in
+    let same : (weighed_rules, weighed.1) ≡ rules = same_Some (weighed_rules, weighed.1) rules s4 in
     let tail : weighed.1 ≡ rules.1 = ap (λ (x : Rules × List Row). x.1) same in
     let made : Rules → BaseMap = λ r. record { transform = transform.0; rules = r; classes = classes.0; arcs = arcs.0 } in
-    let whole : made weighed_rules ≡ m = ap (λ (x : Rules × List Row). made x.0) same ∙ some_is (made rules.0) m r5 in
+    let whole : made weighed_rules ≡ m = ap (λ (x : Rules × List Row). made x.0) same ∙ same_Some (made rules.0) m r5 in
     let spelled : rows ≡ sections transform.0 ratio.0 (length weighed.0.0) weighed.0 (length classes.0) classes.0 (length arcs.0) arcs.0 (([] ∷ []) ∷ []) =
     joined rows head.1 transform.1 ratio.1 c.1 rules.1 n.1 classes.1 k.1 arcs.1 last.1 past.1 transform.0 ratio.0 c.0 weighed.0 n.0 classes.0 k.0 arcs.0
     (worded _ rows head e0) (transformed head.1 transform e1) (counted _ transform.1 ratio e2) (counted _ ratio.1 c e3) (weights.0 ∙ ap (λ (rest : List Row). class_rows c.0 0 weighed.0.0 weighed.0.1 ++ rest) tail) weights.1

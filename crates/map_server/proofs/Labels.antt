@@ -1,5 +1,6 @@
 -- The labels of faces, from the last step back to the first.
-use Rattle.std.proofs.Common.{◌≡◌, ◌≢◌, ℕ, zero, suc, ◌+◌, ◌-◌, ◌<◌, ◌≤◌, ◌==◌, ◌||◌, Bool, true, false, All, List, [], ◌∷◌, length, get_or, set, drop, take, eq-eqb, ne_eqb, refl, ap, ◌∙◌, subst, inl, inr, arith}
+use Rattle.std.proofs.Common.{◌≡◌, ◌≢◌, ℕ, zero, suc, ◌+◌, ◌-◌, ◌<◌, ◌≤◌, ◌==◌, All, List, [], ◌∷◌, length, get_or, set, drop, take, eq-eqb, ne_eqb, refl, ap, ◌∙◌, subst, inl, inr, arith}
+use Rattle.std.proofs.Math.Bool.{or-true}
 use Rattle.std.proofs.lemmas.Bool.{cases_eq}
 use Rattle.std.proofs.lemmas.List.{drop_more, get_or_read, get_or-set_same, get_or-set_other, length-set}
 use Rattle.tgap_model.specs.declared.merge.MergeStep.{MergeStep}
@@ -18,15 +19,12 @@ numbered_at n (s ∷ steps) (suc i) d h lt =
     let e : n + 1 + i ≡ n + suc i = omega arith in
     subst (λ m. IsNumberedStep m (get_or steps i d)) e (numbered_at (n + 1) steps i d h.1 (omega arith))
 
-or_true : (b : Bool) → b || true ≡ true
-or_true true = refl
-or_true false = refl
-
+-- a step gives its loser and its winner the new number, and leaves the other labels
 relabel_loser : (s : MergeStep) (f : ℕ) → f ≡ s.loser → relabel s f ≡ s.made
 relabel_loser s f e = rw (eq-eqb f s.loser e) refl
 
 relabel_winner : (s : MergeStep) (f : ℕ) → f ≡ s.winner → relabel s f ≡ s.made
-relabel_winner s f e = rw (eq-eqb f s.winner e, or_true (f == s.loser)) refl
+relabel_winner s f e = rw (eq-eqb f s.winner e, or-true (f == s.loser)) refl
 
 relabel_other : (s : MergeStep) (f : ℕ) → f ≢ s.loser → f ≢ s.winner → relabel s f ≡ f
 relabel_other s f p q = rw (ne_eqb f s.loser p, ne_eqb f s.winner q) refl

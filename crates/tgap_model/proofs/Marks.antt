@@ -1,6 +1,7 @@
 -- Lemmas on the marks of faces.
 use Rattle.std.proofs.Common.{◌≡◌, ℕ, zero, suc, ◌+◌, ◌%◌, ◌<◌, ◌≤◌, Bool, true, false, cond, ◌==◌, ◌||◌, nat_le, nat_lt, List, [], ◌∷◌, ◌++◌, length, get_or, set, take, map, refl, sym, ap, ◌∙◌, arith, IsTrue, inl, inr, if◌then◌else◌}
 use Rattle.std.specs.List.{list_all, list_any, range_with_len}
+use Rattle.std.proofs.Math.Bool.{or_assoc}
 use Rattle.std.proofs.lemmas.Bool.{and_parts, ltb-true, lt-ltb, le-ltb, cases_eq}
 use Rattle.std.proofs.lemmas.Bool.Decides.{nat_tests}
 use Rattle.std.proofs.lemmas.List.{ext_get_or, take_more, get_or-set_same, get_or-set_other, length-set}
@@ -123,11 +124,6 @@ is_arc-faces n a h = grind (arith, nat_tests)
 pub arc-faces : (n : ℕ) (arcs : List BaseArc) (i : ℕ) (a : BaseArc) → IsTrue (list_all (is_arc n) arcs) → i < length arcs → a ≡ get_or arcs i a
     → (a.left ≤ n) × (a.right ≤ n)
 arc-faces n arcs i a h l e = is_arc-faces n a (ap (is_arc n) e ∙ and_at (list_all (is_arc n)) (is_arc n) refl (λ _ _. refl) arcs i a l h)
-
--- three tests group either way
-or_assoc : (x y z : Bool) → ((x || y) || z) ≡ (x || (y || z))
-or_assoc true y z = refl
-or_assoc false y z = refl
 
 -- a face has a border among one more arc where it had one before, or that arc is one
 borders_more : (arcs : List BaseArc) (i g : ℕ) (a : BaseArc) → i < length arcs → a ≡ get_or arcs i a

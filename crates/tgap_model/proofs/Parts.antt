@@ -2,6 +2,7 @@
 use Rattle.std.proofs.Common.{◌≡◌, ℕ, ◌≤◌, Bool, true, false, nat_le, nat_lt, ◌&&◌, List, [], ◌∷◌, length, refl, sym, ap, ◌∙◌, arith, IsTrue, Some, None, if◌then◌else◌}
 use Rattle.std.specs.List.{list_all}
 use Rattle.std.proofs.lemmas.Bool.{and_parts, and_from, and_left, and_right, ltb-true, lt-ltb, leb-true}
+use Rattle.std.proofs.lemmas.Option.{cond_some}
 use Rattle.tgap_model.specs.declared.base.Rules.{Rules}
 use Rattle.tgap_model.specs.declared.base.BaseArc.{BaseArc}
 use Rattle.tgap_model.specs.declared.limits.TheConstants.{MAX_POINTS, MAX_ARCS, MAX_FACES}
@@ -72,11 +73,6 @@ none-false : {A : Type 0} (b : Bool) (x : A) → None ≡ (if b then Some x else
 none-false true x e = cc
 none-false false x e = refl
 
--- the test is true where there is a value, and it is that value
-some-true : {A : Type 0} (b : Bool) (x y : A) → Some y ≡ (if b then Some x else None) → (b ≡ true) × (y ≡ x)
-some-true true x y e = (refl, cc)
-some-true false x y e = cc
-
 -- no base map where some face has no border
 pub checked-not_bordered : (m : BaseMap) → is_transform m.transform ≡ true
     → None ≡ (if all_faces_bordered (length m.classes) m.arcs then Some m.classes else None) → None ≡ checked m
@@ -87,8 +83,8 @@ pub is_base-bordered : (m : BaseMap) (classes : List ℕ) → is_transform m.tra
     → Some classes ≡ (if all_faces_bordered (length m.classes) m.arcs then Some m.classes else None)
     → (is_base m ≡ true) × (classes ≡ m.classes)
 is_base-bordered m classes h parts some =
-    let found = some-true (all_faces_bordered (length m.classes) m.arcs) m.classes classes some in
-    (is_base-parts m h ∙ and_from _ _ parts found.0, found.1)
+    let found = cond_some (all_faces_bordered (length m.classes) m.arcs) m.classes classes (sym some) in
+    (is_base-parts m h ∙ and_from _ _ parts found.0, sym found.1)
 
 -- the same map with the classes that are given back
 abbrev pub with_classes : BaseMap → List ℕ → BaseMap
