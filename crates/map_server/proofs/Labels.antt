@@ -1,6 +1,5 @@
 -- The labels of faces, from the last step back to the first.
-use Rattle.std.proofs.Common.{◌≡◌, ◌≢◌, ℕ, zero, suc, ◌+◌, ◌-◌, ◌<◌, ◌≤◌, ◌==◌, All, List, [], ◌∷◌, length, get_or, set, drop, take, eq-eqb, ne_eqb, refl, ap, ◌∙◌, subst, inl, inr, arith}
-use Rattle.std.proofs.Math.Bool.{or-true}
+use Rattle.std.proofs.Common.{◌≡◌, ℕ, zero, suc, ◌+◌, ◌-◌, ◌<◌, ◌≤◌, All, List, [], ◌∷◌, length, get_or, set, drop, take, refl, ap, ◌∙◌, inl, inr, arith}
 use Rattle.std.proofs.lemmas.Bool.{cases_eq}
 use Rattle.std.proofs.lemmas.List.{drop_more, get_or_read, get_or-set_same, get_or-set_other, length-set}
 use Rattle.tgap_model.specs.declared.merge.MergeStep.{MergeStep}
@@ -9,25 +8,8 @@ use Rattle.std.proofs.lemmas.List.Elements.{All-weaker}
 use Rattle.tgap_model.specs.declared.base.BaseArc.{BaseArc}
 use Rattle.tgap_model.specs.Border.{border_by}
 use Rattle.tgap_model.proofs.BaseFacts.{ArcFacts}
-use Rattle.tgap_model.specs.History.{relabel, label_after, AreNumbered, IsNumberedStep}
-
--- the step at a place of numbered steps
-pub numbered_at : (n : ℕ) (steps : List MergeStep) (i : ℕ) (d : MergeStep) → AreNumbered n steps → i < length steps → IsNumberedStep (n + i) (get_or steps i d)
-numbered_at n [] i d h lt = absurd (omega arith)
-numbered_at n (s ∷ steps) zero d h lt = let e : n ≡ n + 0 = omega arith in subst (λ m. IsNumberedStep m s) e h.0
-numbered_at n (s ∷ steps) (suc i) d h lt =
-    let e : n + 1 + i ≡ n + suc i = omega arith in
-    subst (λ m. IsNumberedStep m (get_or steps i d)) e (numbered_at (n + 1) steps i d h.1 (omega arith))
-
--- a step gives its loser and its winner the new number, and leaves the other labels
-relabel_loser : (s : MergeStep) (f : ℕ) → f ≡ s.loser → relabel s f ≡ s.made
-relabel_loser s f e = rw (eq-eqb f s.loser e) refl
-
-relabel_winner : (s : MergeStep) (f : ℕ) → f ≡ s.winner → relabel s f ≡ s.made
-relabel_winner s f e = rw (eq-eqb f s.winner e, or-true (f == s.loser)) refl
-
-relabel_other : (s : MergeStep) (f : ℕ) → f ≢ s.loser → f ≢ s.winner → relabel s f ≡ f
-relabel_other s f p q = rw (ne_eqb f s.loser p, ne_eqb f s.winner q) refl
+use Rattle.tgap_model.proofs.MergeSteps.{numbered_at, relabel_loser, relabel_winner, relabel_other}
+use Rattle.tgap_model.specs.History.{label_after, AreNumbered}
 
 -- going back over one step gives its two faces the label of the face that they became
 pub labels_back : (labels : List ℕ) (rest : List MergeStep) (s : MergeStep) (v : ℕ) → s.loser < length labels → s.winner < length labels

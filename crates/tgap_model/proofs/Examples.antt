@@ -12,16 +12,16 @@ use Rattle.tgap_model.specs.Texts.{number_of, borders_text}
 use Rattle.tgap_model.specs.Listing.{listing_text, listing, read_listing, rules_at, all_faces_at, all_arcs_at, end_at, read_transform, read_count, counts_at, read_class, read_face, points_at, read_arc, classes_at, faces_at, arcs_at}
 
 -- an arc from the numbers of its line
-abbrev points_of : List ℕ → List Point
+abbrev pub points_of : List ℕ → List Point
 points_of [] = []
 points_of (x ∷ []) = []
 points_of (x ∷ y ∷ more) = record { x = pos x; y = pos y } ∷ points_of more
 
-abbrev arc : ℕ → ℕ → List ℕ → BaseArc
+abbrev pub arc : ℕ → ℕ → List ℕ → BaseArc
 arc left right coordinates = record { left = left; right = right; points = points_of coordinates }
 
 -- a map of one class with weight and compatibility 1
-abbrev plain_map : ℕ → List ℕ → List BaseArc → BaseMap
+abbrev pub plain_map : ℕ → List ℕ → List BaseArc → BaseMap
 plain_map ratio classes arcs = record {
   transform = record { sx = pos 1; sy = pos 1; tx = pos 0; ty = pos 0 };
   rules = record { ratio = ratio; weights = 1 ∷ []; compat = 1 ∷ [] };
@@ -29,7 +29,7 @@ plain_map ratio classes arcs = record {
   arcs = arcs;
 }
 
-abbrev step : ℕ → ℕ → ℕ → MergeStep
+abbrev pub step : ℕ → ℕ → ℕ → MergeStep
 step loser winner made = record { loser = loser; winner = winner; made = made }
 
 abbrev row : ℕ → ℕ → ℕ → BorderRow

@@ -9,9 +9,13 @@ mod bordered;
 mod failure;
 mod fault;
 mod geometry;
+mod laws;
 mod limits;
 mod list;
 mod merge;
+mod record;
+mod segment;
+mod slice;
 mod text;
 mod validity;
 
@@ -19,11 +23,18 @@ pub use base::{Base, BaseArc, Rules, Transform};
 pub use border::BorderRow;
 pub use failure::{Memory, Or};
 pub use fault::{LimitKind, MapFault};
-pub use geometry::{Fraction, Point};
+pub use geometry::{Fraction, Point, Seg, Shared, Window};
+pub use laws::{
+    chains_are_unique, clear_is_symmetric, ended_edges_vanish, inner_vertices_stand_once,
+    inside_one_face, labels_change, neighbours_cancel, slices_are_unique,
+};
 pub use limits::{
     MAX_ARCS, MAX_CLASSES, MAX_COMPATIBILITY, MAX_COORDINATE, MAX_FACES, MAX_MAP_BYTES, MAX_POINTS,
     MAX_RATIO, MAX_WEIGHT,
 };
 pub use list::List;
 pub use merge::{LabelledArc, MergeStep};
+pub use record::{Mend, Packet, Piece, Put, StepRecord};
+pub use segment::{LabelledSegment, base_segments};
+pub use slice::{Edge, FaceRow, Removal, Slice};
 pub use text::Text;

@@ -1,0 +1,35 @@
+//! The map after some steps of the history.
+
+use crate::geometry::Point;
+use crate::list::List;
+
+/// A face of a slice, with its class.
+#[derive(Clone, Copy, Debug, PartialEq, Eq)]
+pub struct FaceRow {
+    pub face: u32,
+    pub class: u32,
+}
+
+/// An edge of a slice: a row of arcs, or what the vertex removal left of it. Its key is the least number of its arcs.
+#[derive(Debug, Drop)]
+pub struct Edge {
+    pub key: u32,
+    pub left: u32,
+    pub right: u32,
+    pub points: List<Point>,
+}
+
+/// The map after so many steps: its faces by number, and its edges by key.
+#[derive(Debug, Drop)]
+pub struct Slice {
+    pub step: u32,
+    pub faces: List<FaceRow>,
+    pub edges: List<Edge>,
+}
+
+/// A vertex that is in no slice from this step on.
+#[derive(Clone, Copy, Debug, PartialEq, Eq)]
+pub struct Removal {
+    pub point: Point,
+    pub step: u32,
+}
