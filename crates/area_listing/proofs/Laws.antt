@@ -1,243 +1,408 @@
 -- The two laws: the map that is read is spelled so, and the map that is spelled so is read.
-use Rattle.std.proofs.Common.{◌≡◌, ℕ, ◌+◌, ◌*◌, ◌^◌, ◌<◌, ◌≤◌, true, ◌&&◌, List, [], ◌∷◌, ◌++◌, length, map, Option, Some, None, Result, Ok, Err, refl, sym, ap, subst, ◌∙◌, arith}
-use Rattle.std.specs.Prelude.{codes, nat_le, nat_lt, IfOk}
-use Rattle.std.specs.List.{list_all, AllByRecursion}
-use Rattle.std.proofs.lemmas.Bool.{and_from, and_parts, leb-true, ltb-true}
+use Rattle.std.proofs.Common.{◌≡◌, ◌≢◌, ℕ, ◌-◌, ◌*◌, ◌<◌, ◌≤◌, Bool, true, false, cond, ◌&&◌, nat_le, nat_lt, List, [], ◌∷◌, ◌++◌, length, map, Option, Some, None, Result, Ok, Err, refl, sym, ap, subst, ◌∙◌, arith}
+use Rattle.std.specs.Prelude.{codes, IfOk}
+use Rattle.std.specs.Option.{ok_or}
+use Rattle.std.specs.List.{list_all}
+use Rattle.std.proofs.lemmas.Bool.{and_from, and_parts, leb-true, ltb-true, le-leb, lt-ltb, eq-eqb}
 use Rattle.std.proofs.lemmas.List.{append-nil, append_assoc}
 use Rattle.std.proofs.lemmas.List.Folds.{list_all-append}
-use Rattle.std.proofs.lemmas.List.Sums.{sum_by-cons}
-use Rattle.std.proofs.lemmas.Option.{option_and_then_some, cond_some, same_Some}
-use Rattle.tgap_model.specs.declared.base.Transform.{Transform}
 use Rattle.tgap_model.specs.declared.base.Rules.{Rules}
 use Rattle.tgap_model.specs.declared.base.BaseArc.{BaseArc}
+use Rattle.tgap_model.specs.declared.fault.LimitKind.TheVariants.{Classes, Faces, Arcs}
 use Rattle.tgap_model.specs.declared.fault.MapFault.{MapFault}
-use Rattle.tgap_model.specs.declared.failure.Or.{Or}
-use Rattle.tgap_model.specs.declared.failure.Or.TheVariants.{Fault}
-use Rattle.tgap_model.specs.declared.limits.TheConstants.{MAX_WEIGHT, MAX_COMPATIBILITY}
-use Rattle.tgap_model.specs.Base.{BaseMap, is_transform, is_arc, count_points, is_base, checked}
-use Rattle.tgap_model.proofs.BaseFacts.{rules_facts, arc_facts, base_facts}
+use Rattle.tgap_model.specs.declared.fault.MapFault.TheVariants.{BadLine}
+use Rattle.tgap_model.specs.declared.limits.TheConstants.{MAX_WEIGHT, MAX_COMPATIBILITY, MAX_RATIO, MAX_CLASSES, MAX_FACES, MAX_ARCS, MAX_POINTS}
+use Rattle.tgap_model.specs.Base.{BaseMap, is_rules, is_arc, count_points, is_base, all_faces_bordered, checked}
+use Rattle.tgap_model.proofs.BaseFacts.{RulesFacts, BaseFacts, rules_facts, base_facts}
 use Rattle.tgap_model.specs.Texts.{rows_of}
-use Rattle.tgap_model.specs.Listing.{Row, ◌>>=◌, transform_words, count_words, class_rows, face_rows, arc_words, listing_rows, IsListing, read_row, read_words, read_transform, read_count, classes_at, rules_at, all_faces_at, all_arcs_at, end_at, read_listing, listing}
-use Rattle.area_listing.specs.Reading.{GivesBase}
-use Rattle.area_listing.specs.Taking.{listed_of}
+use Rattle.tgap_model.specs.Words.{Row, read_words}
+use Rattle.tgap_model.specs.Lines.{◌>>=◌, Lines, all_lines, next_number, read_line, is_over}
+use Rattle.tgap_model.specs.ListingLines.{read_transform, read_count}
+use Rattle.tgap_model.specs.Listing.{transform_words, count_words, class_rows, face_rows, arc_words, listing_rows, IsListing, count_line, classes_at, rules_at, all_faces_at, all_arcs_at, map_at, bordered, end_at, listing}
+use Rattle.tgap_model.specs.declared.failure.Or.{Or}
+use Rattle.tgap_model.specs.declared.failure.Or.TheVariants.{Fault, Memory}
+use Rattle.plain_io.specs.Taking.{GivesWhole, Refuses}
+use Rattle.plain_io.proofs.Words.{same_bytes}
 use Rattle.plain_io.proofs.Rows.{is_plain_row, lines_from_rows, rows_again}
-use Rattle.area_listing.proofs.Steps.{AreSmall, ended_is}
-use Rattle.area_listing.proofs.OneLine.{read_words_is, read_transform_is, read_transform_again, read_count_is, read_count_again}
+use Rattle.plain_io.proofs.Steps.{bound, read_words_is, read_line_is, read_line_again, number_after, lines_from, some_rows}
+use Rattle.area_listing.proofs.OneLine.{AreFrom, read_transform_is, read_transform_again, read_count_is, read_count_again}
 use Rattle.area_listing.proofs.Plain.{transform_plain, count_plain, classes_plain, faces_plain, arcs_plain}
-use Rattle.area_listing.proofs.Sections.{read_row_is, classes_at_is, classes_at_again, faces_at_is, faces_at_again, arcs_at_is, arcs_at_again, IsSmallArc}
+use Rattle.area_listing.proofs.Sections.{count_line_is, count_line_again, classes_at_is, classes_at_again, faces_at_is, faces_at_again, arcs_at_is, arcs_at_again}
 
 -- ---- what is read is spelled so
 
--- a line of a keyword and a number
-counted : (word : List ℕ) (rows : List Row) (x : ℕ × List Row) → read_row (read_count word) rows ≡ Some x → rows ≡ count_words word x.0 ∷ x.1
-counted word rows x e =
-    let row = read_row_is (read_count word) rows x e in
-    row.1 ∙ ap (λ r. r ∷ x.1) (read_count_is word row.0 x.0 row.2)
-
 -- a line of certain words
-worded : (words : Row) (rows : List Row) (x : Unit {0} × List Row) → read_row (read_words words) rows ≡ Some x → rows ≡ words ∷ x.1
-worded words rows x e =
-    let row = read_row_is (read_words words) rows x e in
-    row.1 ∙ ap (λ r. r ∷ x.1) (read_words_is words row.0 x.0 row.2)
+worded : (words : Row) (lines : Lines) (x : Unit {0} × Lines) → read_line {F = MapFault} BadLine (read_words words) lines ≡ Ok x → lines.rows ≡ words ∷ x.1.rows
+worded words lines x e =
+    let row = read_line_is BadLine (read_words words) lines x e in
+    row.1 ∙ ap (λ r. r ∷ x.1.rows) (read_words_is words row.0 x.0 row.2)
 
--- the line of the transform
-transformed : (rows : List Row) (x : Transform × List Row) → read_row read_transform rows ≡ Some x → rows ≡ transform_words x.0 ∷ x.1
-transformed rows x e =
-    let row = read_row_is read_transform rows x e in
-    row.1 ∙ ap (λ r. r ∷ x.1) (read_transform_is row.0 x.0 row.2)
+-- a list of numbers from least to most passes the test
+from_test : (least most : ℕ) (ns : List ℕ) → AreFrom least most ns → list_all (λ n. nat_le least n && nat_le n most) ns ≡ true
+from_test least most [] from = refl
+from_test least most (n ∷ ns) from = and_from _ _ (and_from _ _ (le-leb least n from.0.0) (le-leb n most from.0.1)) (from_test least most ns from.1)
 
--- the rows of the sections, one after another, where what is counted has these numbers
-abbrev sections : Transform → ℕ → ℕ → (List ℕ × List ℕ) → ℕ → List ℕ → ℕ → List BaseArc → List Row → List Row
-sections transform ratio c weighed n classes m arcs rest =
-    (codes "tgap" ∷ codes "1" ∷ []) ∷ transform_words transform ∷ count_words (codes "ratio") ratio
-    ∷ count_words (codes "classes") c ∷ (class_rows c 0 weighed.0 weighed.1 ++ (count_words (codes "faces") n
-    ∷ (face_rows 1 classes ++ (count_words (codes "arcs") m ∷ (map arc_words arcs ++ (codes "end" ∷ []) ∷ rest)))))
+most_test : (least most : ℕ) (ns : List ℕ) → AreFrom least most ns → list_all (λ n. nat_le n most) ns ≡ true
+most_test least most [] from = refl
+most_test least most (n ∷ ns) from = and_from _ _ (le-leb n most from.0.1) (most_test least most ns from.1)
 
--- the rows of a listing and what follows them, section after section
-regrouped : (m : BaseMap) (rest : List Row) → listing_rows m ++ rest ≡ sections m.transform m.rules.ratio (length m.rules.weights) (m.rules.weights, m.rules.compat) (length m.classes) m.classes (length m.arcs) m.arcs rest
+-- classes below c, of which there is one
+below_test : (c : ℕ) (ks : List ℕ) → 1 ≤ c → AreFrom 0 (c - 1) ks → list_all (λ k. nat_lt k c) ks ≡ true
+below_test c [] some from = refl
+below_test c (k ∷ ks) some from = and_from _ _ (lt-ltb k c (omega (arith, from.0.1))) (below_test c ks some from.1)
+
+-- rules that are read are spelled so
+pub record AreRules (lines : Lines) (x : Rules × Lines) : Type 0 where
+  pub spelled : lines.rows ≡ count_words (codes "ratio") x.0.ratio ∷ count_words (codes "classes") (length x.0.weights) ∷ class_rows (length x.0.weights) 0 x.0.weights x.0.compat ++ x.1.rows
+  pub rules : is_rules x.0 ≡ true
+
+pub rules_at_is : (lines : Lines) (x : Rules × Lines) → rules_at lines ≡ Ok x → AreRules lines x
+unfolding rules_at is_rules
+rules_at_is lines x e =
+    bound _ (read_line BadLine (read_count (codes "ratio") 0 MAX_RATIO) lines) x e (λ ratio e0 r0.
+    bound _ (count_line Classes MAX_CLASSES (codes "classes") 1 ratio.1) x r0 (λ c e1 r1.
+    bound _ (classes_at c.0 0 c.0 c.1) x r1 (λ weighed e2 r2.
+    let row = read_line_is BadLine (read_count (codes "ratio") 0 MAX_RATIO) lines ratio e0 in
+    let first = read_count_is (codes "ratio") 0 MAX_RATIO row.0 ratio.0 row.2 in
+    let count = count_line_is Classes MAX_CLASSES (codes "classes") 1 ratio.1 c e1 in
+    let classes = classes_at_is c.0 0 c.0 c.1 weighed e2 in
+    let rules : Rules = record { ratio = ratio.0; weights = weighed.0.0; compat = weighed.0.1 } in
+    let made : (rules, weighed.1) ≡ x = cc in
+    let f0 = row.1 in
+    let f1 = first.0 in
+    let f2 = count.spelled in
+    let f3 = classes.spelled in
+    let f4 = classes.count in
+    let spelled : lines.rows ≡ count_words (codes "ratio") ratio.0 ∷ count_words (codes "classes") (length weighed.0.0) ∷ class_rows (length weighed.0.0) 0 weighed.0.0 weighed.0.1 ++ weighed.1.rows = cc in
+    let table : length weighed.0.1 ≡ length weighed.0.0 * length weighed.0.0 = classes.table ∙ ap (λ (n : ℕ). n * n) (sym f4) in
+    let fits : is_rules rules ≡ true = rw (
+      le-leb 1 (length weighed.0.0) (omega (arith, count.low, f4)),
+      le-leb (length weighed.0.0) MAX_CLASSES (omega (arith, count.high, f4)),
+      from_test 1 MAX_WEIGHT weighed.0.0 classes.weights,
+      eq-eqb (length weighed.0.1) (length weighed.0.0 * length weighed.0.0) table,
+      most_test 0 MAX_COMPATIBILITY weighed.0.1 classes.compat,
+      le-leb ratio.0 MAX_RATIO first.2,
+    ) refl in
+    subst (λ (y : Rules × Lines). AreRules lines y) made (record { spelled = spelled; rules = fits }))))
+
+-- all faces that are read are spelled so
+pub record AreAllFaces (c : ℕ) (lines : Lines) (x : List ℕ × Lines) : Type 0 where
+  pub spelled : lines.rows ≡ count_words (codes "faces") (length x.0) ∷ face_rows 1 x.0 ++ x.1.rows
+  pub few : length x.0 ≤ MAX_FACES
+  pub classes : AreFrom 0 (c - 1) x.0
+
+pub all_faces_at_is : (c : ℕ) (lines : Lines) (x : List ℕ × Lines) → all_faces_at c lines ≡ Ok x → AreAllFaces c lines x
+unfolding all_faces_at
+all_faces_at_is c lines x e =
+    bound _ (count_line Faces MAX_FACES (codes "faces") 0 lines) x e (λ n e0 r0.
+    let count = count_line_is Faces MAX_FACES (codes "faces") 0 lines n e0 in
+    let faces = faces_at_is c 1 n.0 n.1 x r0 in
+    let f0 = count.spelled in
+    let f1 = faces.spelled in
+    let f2 = faces.count in
+    let spelled : lines.rows ≡ count_words (codes "faces") (length x.0) ∷ face_rows 1 x.0 ++ x.1.rows = cc in
+    record { spelled = spelled; few = omega (arith, count.high, f2); classes = faces.classes })
+
+-- all arcs that are read are spelled so
+pub record AreAllArcs (n : ℕ) (lines : Lines) (x : List BaseArc × Lines) : Type 0 where
+  pub spelled : lines.rows ≡ count_words (codes "arcs") (length x.0) ∷ map arc_words x.0 ++ x.1.rows
+  pub few : length x.0 ≤ MAX_ARCS
+  pub arcs : list_all (is_arc n) x.0 ≡ true
+  pub few_points : count_points x.0 ≤ MAX_POINTS
+
+all_arcs_at_is : (n : ℕ) (lines : Lines) (x : List BaseArc × Lines) → all_arcs_at n lines ≡ Ok x → AreAllArcs n lines x
+unfolding all_arcs_at
+all_arcs_at_is n lines x e =
+    bound _ (count_line Arcs MAX_ARCS (codes "arcs") 0 lines) x e (λ m e0 r0.
+    let count = count_line_is Arcs MAX_ARCS (codes "arcs") 0 lines m e0 in
+    let arcs = arcs_at_is n 0 m.0 m.1 x (omega arith) r0 in
+    let f0 = count.spelled in
+    let f1 = arcs.spelled in
+    let f2 = arcs.count in
+    let spelled : lines.rows ≡ count_words (codes "arcs") (length x.0) ∷ map arc_words x.0 ++ x.1.rows = cc in
+    record { spelled = spelled; few = omega (arith, count.high, f2); arcs = arcs.arcs; few_points = omega (arith, arcs.few) })
+
+-- the rows of a map up to its last line, one section after another
+abbrev sections : BaseMap → List Row → List Row
+sections m rest =
+    (codes "tgap" ∷ codes "1" ∷ []) ∷ transform_words m.transform ∷ count_words (codes "ratio") m.rules.ratio
+    ∷ count_words (codes "classes") (length m.rules.weights) ∷ (class_rows (length m.rules.weights) 0 m.rules.weights m.rules.compat
+    ++ (count_words (codes "faces") (length m.classes) ∷ (face_rows 1 m.classes
+    ++ (count_words (codes "arcs") (length m.arcs) ∷ (map arc_words m.arcs ++ rest)))))
+
+-- the rows of a listing, section after section
+regrouped : (m : BaseMap) (rest : List Row) → listing_rows m ++ rest ≡ sections m ((codes "end" ∷ []) ∷ rest)
 regrouped m rest = simp append_assoc
 
--- what each section took, put together
-joined : (rows r0 r1 r2 r3 r4 r5 r6 r7 r8 r9 r10 : List Row) (transform : Transform) (ratio c : ℕ) (weighed : List ℕ × List ℕ) (n : ℕ) (classes : List ℕ) (k : ℕ) (arcs : List BaseArc)
-    → rows ≡ (codes "tgap" ∷ codes "1" ∷ []) ∷ r0 → r0 ≡ transform_words transform ∷ r1 → r1 ≡ count_words (codes "ratio") ratio ∷ r2 → r2 ≡ count_words (codes "classes") c ∷ r3
-    → r3 ≡ class_rows c 0 weighed.0 weighed.1 ++ r4 → length weighed.0 ≡ c → r4 ≡ count_words (codes "faces") n ∷ r5 → r5 ≡ face_rows 1 classes ++ r6 → length classes ≡ n
-    → r6 ≡ count_words (codes "arcs") k ∷ r7 → r7 ≡ map arc_words arcs ++ r8 → length arcs ≡ k → r8 ≡ (codes "end" ∷ []) ∷ r9 → r9 ≡ ([] ∷ []) ∷ r10 → r10 ≡ []
-    → rows ≡ sections transform ratio (length weighed.0) weighed (length classes) classes (length arcs) arcs (([] ∷ []) ∷ [])
-joined rows r0 r1 r2 r3 r4 r5 r6 r7 r8 r9 r10 transform ratio c weighed n classes k arcs e0 e1 e2 e3 e4 l0 e5 e6 l1 e7 e8 l2 e9 e10 e11 = cc
+-- a map that is read is spelled so, and is a base map where each face has a border
+pub record IsMap (lines : Lines) (x : BaseMap × Lines) : Type 0 where
+  pub spelled : lines.rows ≡ sections x.0 x.1.rows
+  pub base : is_base x.0 ≡ all_faces_bordered (length x.0.classes) x.0.arcs
 
--- the rows of a map that is read are those of its listing, and one of an empty word
-pub listing_is : (rows : List Row) (m : BaseMap) → read_listing rows ≡ Some m → rows ≡ listing_rows m ++ ([] ∷ []) ∷ []
-unfolding read_listing rules_at all_faces_at all_arcs_at end_at
-listing_is rows m e =
-    option_and_then_some _ (read_row (read_words (codes "tgap" ∷ codes "1" ∷ [])) rows) m e (λ head e0 r0.
-    option_and_then_some _ (read_row read_transform head.1) m r0 (λ transform e1 r1.
-    option_and_then_some _ (rules_at transform.1) m r1 (λ rules of_rules r2.
-    option_and_then_some _ (read_row (read_count (codes "ratio")) transform.1) rules of_rules (λ ratio e2 s2.
-    option_and_then_some _ (read_row (read_count (codes "classes")) ratio.1) rules s2 (λ c e3 s3.
-    option_and_then_some _ (classes_at c.0 0 c.0 c.1) rules s3 (λ weighed e4 s4.
-    option_and_then_some _ (all_faces_at rules.1) m r2 (λ classes of_faces r3.
-    option_and_then_some _ (read_row (read_count (codes "faces")) rules.1) classes of_faces (λ n e5 e6.
-    option_and_then_some _ (all_arcs_at classes.1) m r3 (λ arcs of_arcs r4.
-    option_and_then_some _ (read_row (read_count (codes "arcs")) classes.1) arcs of_arcs (λ k e7 e8.
-    option_and_then_some _ (end_at arcs.1) m r4 (λ end of_end r5.
-    option_and_then_some _ (read_row (read_words (codes "end" ∷ [])) arcs.1) end of_end (λ last e9 s9.
-    option_and_then_some _ (read_row (read_words ([] ∷ [])) last.1) end s9 (λ past e10 e11.
-    let weights = classes_at_is c.0 0 c.0 c.1 weighed e4 in
-    let faces = faces_at_is 1 n.0 n.1 classes e6 in
-    let borders = arcs_at_is k.0 k.1 arcs e8 in
-    let nothing : Unit {0} = tt in
-    let weighed_rules : Rules = record { ratio = ratio.0; weights = weighed.0.0; compat = weighed.0.1 } in
-    let same : (weighed_rules, weighed.1) ≡ rules = same_Some (weighed_rules, weighed.1) rules s4 in
-    let tail : weighed.1 ≡ rules.1 = ap (λ (x : Rules × List Row). x.1) same in
-    let made : Rules → BaseMap = λ r. record { transform = transform.0; rules = r; classes = classes.0; arcs = arcs.0 } in
-    let whole : made weighed_rules ≡ m = ap (λ (x : Rules × List Row). made x.0) same ∙ same_Some (made rules.0) m r5 in
-    let spelled : rows ≡ sections transform.0 ratio.0 (length weighed.0.0) weighed.0 (length classes.0) classes.0 (length arcs.0) arcs.0 (([] ∷ []) ∷ []) =
-    joined rows head.1 transform.1 ratio.1 c.1 rules.1 n.1 classes.1 k.1 arcs.1 last.1 past.1 transform.0 ratio.0 c.0 weighed.0 n.0 classes.0 k.0 arcs.0
-    (worded _ rows head e0) (transformed head.1 transform e1) (counted _ transform.1 ratio e2) (counted _ ratio.1 c e3) (weights.0 ∙ ap (λ (rest : List Row). class_rows c.0 0 weighed.0.0 weighed.0.1 ++ rest) tail) weights.1
-    (counted _ rules.1 n e5) faces.0 faces.1 (counted _ classes.1 k e7) borders.0 borders.1 (worded _ arcs.1 last e9) (worded _ last.1 past e10) (ended_is nothing end past.1 e11).0 in
-    spelled ∙ sym (regrouped (made weighed_rules) (([] ∷ []) ∷ [])) ∙ ap (λ (x : BaseMap). listing_rows x ++ ([] ∷ []) ∷ []) whole)))))))))))))
+pub map_at_is : (lines : Lines) (x : BaseMap × Lines) → map_at lines ≡ Ok x → IsMap lines x
+unfolding map_at is_base
+map_at_is lines x e =
+    bound _ (read_line BadLine (read_words (codes "tgap" ∷ codes "1" ∷ [])) lines) x e (λ head e0 r0.
+    bound _ (read_line BadLine read_transform head.1) x r0 (λ transform e1 r1.
+    bound _ (rules_at transform.1) x r1 (λ rules e2 r2.
+    bound _ (all_faces_at (length rules.0.weights) rules.1) x r2 (λ classes e3 r3.
+    bound _ (all_arcs_at (length classes.0) classes.1) x r3 (λ arcs e4 r4.
+    let row = read_line_is BadLine read_transform head.1 transform e1 in
+    let of_transform = read_transform_is row.0 transform.0 row.2 in
+    let of_rules = rules_at_is transform.1 rules e2 in
+    let of_faces = all_faces_at_is (length rules.0.weights) rules.1 classes e3 in
+    let of_arcs = all_arcs_at_is (length classes.0) classes.1 arcs e4 in
+    let f0 = worded (codes "tgap" ∷ codes "1" ∷ []) lines head e0 in
+    let f1 = row.1 in
+    let f2 = of_transform.0 in
+    let f3 = of_rules.spelled in
+    let f4 = of_faces.spelled in
+    let f5 = of_arcs.spelled in
+    let m : BaseMap = record { transform = transform.0; rules = rules.0; classes = classes.0; arcs = arcs.0 } in
+    let made : (m, arcs.1) ≡ x = cc in
+    let spelled : lines.rows ≡ sections m arcs.1.rows = cc in
+    let facts = rules_facts rules.0 of_rules.rules in
+    let base : is_base m ≡ all_faces_bordered (length classes.0) arcs.0 = rw (
+      of_transform.1,
+      of_rules.rules,
+      le-leb (length classes.0) MAX_FACES of_faces.few,
+      below_test (length rules.0.weights) classes.0 facts.some_class of_faces.classes,
+      le-leb (length arcs.0) MAX_ARCS of_arcs.few,
+      le-leb (count_points arcs.0) MAX_POINTS of_arcs.few_points,
+      of_arcs.arcs,
+    ) refl in
+    subst (λ (y : BaseMap × Lines). IsMap lines y) made (record { spelled = spelled; base = base }))))))
+
+-- nothing is left but one row, of one empty word
+over_is : (rows : List Row) → is_over rows ≡ true → rows ≡ ([] ∷ []) ∷ []
+over_is [] e = absurd cc
+over_is ([] ∷ []) e = absurd cc
+over_is ([] ∷ row ∷ rows) e = absurd cc
+over_is ((word ∷ []) ∷ []) e = ap (λ (w : List ℕ). (w ∷ []) ∷ []) (same_bytes word [] e)
+over_is ((word ∷ []) ∷ row ∷ rows) e = absurd cc
+over_is ((word ∷ more ∷ words) ∷ []) e = absurd cc
+over_is ((word ∷ more ∷ words) ∷ row ∷ rows) e = absurd cc
+
+-- what a test lets pass, and what it gives
+cond_ok : {A F : Type 0} (b : Bool) (x y : A) (f : F) → cond b (Ok x) (Err f) ≡ Ok y → (b ≡ true) × (x ≡ y)
+cond_ok true x y f e = (refl, cc)
+cond_ok false x y f e = absurd cc
+
+-- the last line that is read is spelled so, and nothing is after it
+end_at_is : (lines : Lines) (x : Unit {0}) → end_at lines ≡ Ok x → lines.rows ≡ (codes "end" ∷ []) ∷ ([] ∷ []) ∷ []
+unfolding end_at
+end_at_is lines x e =
+    bound _ (read_line BadLine (read_words (codes "end" ∷ [])) lines) x e (λ last e0 r0.
+    let over = over_is last.1.rows (cond_ok (is_over last.1.rows) tt x (BadLine last.1.number) r0).0 in
+    worded (codes "end" ∷ []) lines last e0 ∙ ap (λ (rows : List Row). (codes "end" ∷ []) ∷ rows) over)
 
 -- What is read is spelled so.
-pub listing_spelled : (bytes : List ℕ) (m : BaseMap) → listing bytes ≡ Some m → IsListing bytes m
+pub listing_spelled : (bytes : List ℕ) (m : BaseMap) → listing bytes ≡ Ok m → IsListing bytes m
 unfolding listing
 listing_spelled bytes m e =
-    option_and_then_some _ (read_listing (rows_of bytes)) m e (λ x e0 r0.
-    let fits = cond_some (is_base x) x m r0 in
-    let same : read_listing (rows_of bytes) ≡ Some m = e0 ∙ ap (λ (y : BaseMap). Some y) fits.1 in
-    record { base = sym (ap is_base fits.1) ∙ fits.0; spelled = lines_from_rows bytes (listing_rows m) (listing_is (rows_of bytes) m same) })
+    bound _ (map_at (all_lines bytes)) m e (λ x e0 r0.
+    bound _ (bordered x.0 x.1.number) m r0 (λ base e1 r1.
+    bound _ (end_at x.1) m r1 (λ end e2 r2.
+    let is = map_at_is (all_lines bytes) x e0 in
+    let border = cond_ok (all_faces_bordered (length x.0.classes) x.0.arcs) x.0 base (BadLine x.1.number) e1 in
+    let last = end_at_is x.1 end e2 in
+    let one : base ≡ m = cc in
+    let same : x.0 ≡ m = border.1 ∙ one in
+    let rows : rows_of bytes ≡ listing_rows x.0 ++ ([] ∷ []) ∷ [] = is.spelled ∙ ap (sections x.0) last ∙ sym (regrouped x.0 (([] ∷ []) ∷ [])) in
+    subst (λ (b : BaseMap). IsListing bytes b) same (record { base = is.base ∙ border.0; spelled = lines_from_rows bytes (listing_rows x.0) rows }))))
 
 -- ---- what is spelled so is read
 
--- the numbers of the map are small enough to be read again
-record IsSmallMap (m : BaseMap) : Type 0 where
-  transform : is_transform m.transform ≡ true
-  ratio : m.rules.ratio < 2 ^ 32
-  class_count : length m.rules.weights < 2 ^ 32
-  weights : AreSmall m.rules.weights
-  table : length m.rules.compat ≡ length m.rules.weights * length m.rules.weights
-  compat : AreSmall m.rules.compat
-  face_count : 1 + length m.classes ≤ 2 ^ 32
-  classes : AreSmall m.classes
-  arc_count : length m.arcs < 2 ^ 32
-  arcs : AllByRecursion IsSmallArc m.arcs
+-- numbers that pass the test are in the range
+test_from : (least most : ℕ) (ns : List ℕ) → list_all (λ n. nat_le least n && nat_le n most) ns ≡ true → AreFrom least most ns
+test_from least most [] h = tt
+test_from least most (n ∷ ns) h =
+    let parts = and_parts (nat_le least n && nat_le n most) (list_all (λ k. nat_le least k && nat_le k most) ns) h in
+    let one = and_parts (nat_le least n) (nat_le n most) parts.0 in
+    ((leb-true least n one.0, leb-true n most one.1), test_from least most ns parts.1)
 
--- the weights of rules fit 32 bits
-weights_small : (ws : List ℕ) → list_all (λ w. nat_le 1 w && nat_le w MAX_WEIGHT) ws ≡ true → AreSmall ws
-weights_small [] h = tt
-weights_small (w ∷ ws) h =
-    let parts = and_parts (nat_le 1 w && nat_le w MAX_WEIGHT) (list_all (λ v. nat_le 1 v && nat_le v MAX_WEIGHT) ws) h in
-    let most : w ≤ MAX_WEIGHT = leb-true w MAX_WEIGHT (and_parts (nat_le 1 w) (nat_le w MAX_WEIGHT) parts.0).1 in
-    (omega arith, weights_small ws parts.1)
+test_most : (most : ℕ) (ns : List ℕ) → list_all (λ n. nat_le n most) ns ≡ true → AreFrom 0 most ns
+test_most most [] h = tt
+test_most most (n ∷ ns) h =
+    let parts = and_parts (nat_le n most) (list_all (λ k. nat_le k most) ns) h in
+    ((omega arith, leb-true n most parts.0), test_most most ns parts.1)
 
--- the compatibilities of rules fit 32 bits
-compat_small : (vs : List ℕ) → list_all (λ v. nat_le v MAX_COMPATIBILITY) vs ≡ true → AreSmall vs
-compat_small [] h = tt
-compat_small (v ∷ vs) h =
-    let parts = and_parts (nat_le v MAX_COMPATIBILITY) (list_all (λ u. nat_le u MAX_COMPATIBILITY) vs) h in
-    let most : v ≤ MAX_COMPATIBILITY = leb-true v MAX_COMPATIBILITY parts.0 in
-    (omega arith, compat_small vs parts.1)
-
--- the classes of faces fit 32 bits
-classes_small : (c : ℕ) (ks : List ℕ) → c < 2 ^ 32 → list_all (λ k. nat_lt k c) ks ≡ true → AreSmall ks
-classes_small c [] few h = tt
-classes_small c (k ∷ ks) few h =
+test_below : (c : ℕ) (ks : List ℕ) → list_all (λ k. nat_lt k c) ks ≡ true → AreFrom 0 (c - 1) ks
+test_below c [] h = tt
+test_below c (k ∷ ks) h =
     let parts = and_parts (nat_lt k c) (list_all (λ j. nat_lt j c) ks) h in
     let below : k < c = ltb-true k c parts.0 in
-    (omega arith, classes_small c ks few parts.1)
+    ((omega arith, omega arith), test_below c ks parts.1)
 
--- the numbers of an arc fit 32 bits
-arc_small : (n : ℕ) (a : BaseArc) → n < 2 ^ 32 → is_arc n a ≡ true → length a.points < 2 ^ 32 → IsSmallArc a
-arc_small n a few h count =
-    let facts = arc_facts n a h in
-    record { left = omega (arith, facts.left); right = omega (arith, facts.right); count = count; inside = facts.in_limits }
+-- what the rows of a map rest on
+record IsSpelled (m : BaseMap) : Type 0 where
+  facts : BaseFacts m
+  rules : RulesFacts m.rules
+  weights : AreFrom 1 MAX_WEIGHT m.rules.weights
+  compat : AreFrom 0 MAX_COMPATIBILITY m.rules.compat
+  classes : AreFrom 0 (length m.rules.weights - 1) m.classes
 
--- the numbers of all arcs fit 32 bits, since there are few points in all
-arcs_small : (n : ℕ) (arcs : List BaseArc) → n < 2 ^ 32 → list_all (is_arc n) arcs ≡ true → count_points arcs < 2 ^ 32 → AllByRecursion IsSmallArc arcs
-arcs_small n [] few h count = tt
-arcs_small n (a ∷ arcs) few h count =
-    let parts = and_parts (is_arc n a) (list_all (is_arc n) arcs) h in
-    let one : count_points (a ∷ arcs) ≡ length a.points + count_points arcs = sum_by-cons (λ (b : BaseArc). length b.points) a arcs in
-    (arc_small n a few parts.0 (omega arith), arcs_small n arcs few parts.1 (omega arith))
-
--- the numbers of a base map fit
-small_map : (m : BaseMap) → is_base m ≡ true → IsSmallMap m
-small_map m h =
+is_spelled : (m : BaseMap) → is_base m ≡ true → IsSpelled m
+is_spelled m h =
     let facts = base_facts m h in
     let rules = rules_facts m.rules facts.rules in
     record {
-      transform = facts.transform;
-      ratio = omega (arith, rules.ratio);
-      class_count = omega (arith, rules.few_classes);
-      weights = weights_small m.rules.weights rules.weights;
-      table = rules.table;
-      compat = compat_small m.rules.compat rules.compat;
-      face_count = omega (arith, facts.few_faces);
-      classes = classes_small (length m.rules.weights) m.classes (omega (arith, rules.few_classes)) facts.classes;
-      arc_count = omega (arith, facts.few_arcs);
-      arcs = arcs_small (length m.classes) m.arcs (omega (arith, facts.few_faces)) facts.arcs (omega (arith, facts.few_points));
+      facts = facts;
+      rules = rules;
+      weights = test_from 1 MAX_WEIGHT m.rules.weights rules.weights;
+      compat = test_most MAX_COMPATIBILITY m.rules.compat rules.compat;
+      classes = test_below (length m.rules.weights) m.classes facts.classes;
     }
 
--- the rows of the listing of a base map are read as that map
-listing_rows_again : (m : BaseMap) → IsSmallMap m → read_listing (listing_rows m ++ ([] ∷ []) ∷ []) ≡ Some m
-unfolding read_listing rules_at all_faces_at all_arcs_at end_at
-listing_rows_again m small =
-    let last : List Row = (codes "end" ∷ []) ∷ ([] ∷ []) ∷ [] in
-    let of_arcs : List Row = map arc_words m.arcs ++ last in
-    let of_faces : List Row = face_rows 1 m.classes ++ (count_words (codes "arcs") (length m.arcs) ∷ of_arcs) in
-    ap read_listing (regrouped m (([] ∷ []) ∷ [])) ∙
+-- the last line, and what is left after it
+abbrev last_rows : List Row
+last_rows = (codes "end" ∷ []) ∷ ([] ∷ []) ∷ []
+
+-- the arcs and what follows them
+abbrev from_arcs : BaseMap → List Row
+from_arcs m = count_words (codes "arcs") (length m.arcs) ∷ (map arc_words m.arcs ++ last_rows)
+
+-- the faces and what follows them
+abbrev from_faces : BaseMap → List Row
+from_faces m = count_words (codes "faces") (length m.classes) ∷ (face_rows 1 m.classes ++ from_arcs m)
+
+-- the rules are read again
+rules_again : (n : ℕ) (m : BaseMap) → IsSpelled m
+    → rules_at (lines_from n (count_words (codes "ratio") m.rules.ratio ∷ count_words (codes "classes") (length m.rules.weights) ∷ (class_rows (length m.rules.weights) 0 m.rules.weights m.rules.compat ++ from_faces m)))
+    ≡ Ok (m.rules, lines_from (number_after (length m.rules.weights) (next_number (next_number n))) (from_faces m))
+unfolding rules_at
+rules_again n m is =
+    let c = length m.rules.weights in
+    let of_classes : List Row = class_rows c 0 m.rules.weights m.rules.compat ++ from_faces m in
+    let some : of_classes ≢ [] = some_rows (class_rows c 0 m.rules.weights m.rules.compat) (from_faces m) (λ e. cc) in
+    let ratio = read_count_again (codes "ratio") 0 MAX_RATIO m.rules.ratio (omega arith) is.rules.ratio (omega (arith, is.rules.ratio)) in
     rw (
-      read_transform_again m.transform small.transform,
-      read_count_again (codes "ratio") m.rules.ratio small.ratio,
-      read_count_again (codes "classes") (length m.rules.weights) small.class_count,
-      classes_at_again (length m.rules.weights) 0 m.rules.weights m.rules.compat (count_words (codes "faces") (length m.classes) ∷ of_faces) (omega (arith, small.class_count)) small.table small.weights small.compat,
-      read_count_again (codes "faces") (length m.classes) (omega (arith, small.face_count)),
-      faces_at_again 1 m.classes (count_words (codes "arcs") (length m.arcs) ∷ of_arcs) small.face_count small.classes,
-      read_count_again (codes "arcs") (length m.arcs) small.arc_count,
-      arcs_at_again m.arcs last small.arcs,
+      read_line_again {F = MapFault} BadLine (read_count (codes "ratio") 0 MAX_RATIO) n (count_words (codes "ratio") m.rules.ratio) (count_words (codes "classes") c ∷ of_classes) m.rules.ratio (λ e. cc) ratio,
+      count_line_again Classes MAX_CLASSES (codes "classes") 1 (next_number n) c of_classes some is.rules.some_class is.rules.few_classes (omega (arith, is.rules.few_classes)),
+      classes_at_again c 0 (next_number (next_number n)) m.rules.weights m.rules.compat (from_faces m) (λ e. cc) (omega (arith, is.rules.few_classes)) is.rules.table is.weights is.compat,
+    ) refl
+
+-- and so are the faces
+faces_again : (n : ℕ) (m : BaseMap) → IsSpelled m → all_faces_at (length m.rules.weights) (lines_from n (from_faces m)) ≡ Ok (m.classes, lines_from (number_after (length m.classes) (next_number n)) (from_arcs m))
+unfolding all_faces_at
+faces_again n m is =
+    let of_faces : List Row = face_rows 1 m.classes ++ from_arcs m in
+    let some : of_faces ≢ [] = some_rows (face_rows 1 m.classes) (from_arcs m) (λ e. cc) in
+    rw (
+      count_line_again Faces MAX_FACES (codes "faces") 0 n (length m.classes) of_faces some (omega arith) is.facts.few_faces (omega (arith, is.facts.few_faces)),
+      faces_at_again (length m.rules.weights) 1 (next_number n) m.classes (from_arcs m) (λ e. cc) (omega (arith, is.facts.few_faces)) (omega (arith, is.rules.few_classes)) is.classes,
+    ) refl
+
+-- and the arcs
+arcs_again : (n : ℕ) (m : BaseMap) → IsSpelled m → all_arcs_at (length m.classes) (lines_from n (from_arcs m)) ≡ Ok (m.arcs, lines_from (number_after (length m.arcs) (next_number n)) last_rows)
+unfolding all_arcs_at
+arcs_again n m is =
+    let of_arcs : List Row = map arc_words m.arcs ++ last_rows in
+    let some : of_arcs ≢ [] = some_rows (map arc_words m.arcs) last_rows (λ e. cc) in
+    rw (
+      count_line_again Arcs MAX_ARCS (codes "arcs") 0 n (length m.arcs) of_arcs some (omega arith) is.facts.few_arcs (omega (arith, is.facts.few_arcs)),
+      arcs_at_again (length m.classes) 0 (next_number n) m.arcs last_rows (λ e. cc) (omega (arith, is.facts.few_faces)) is.facts.arcs (omega (arith, is.facts.few_points)),
+    ) refl
+
+-- the last line is read again
+end_again : (n : ℕ) → end_at (lines_from n last_rows) ≡ Ok tt
+unfolding end_at
+end_again n = refl
+
+-- the number of the last line
+abbrev end_number : BaseMap → ℕ
+end_number m = number_after (length m.arcs) (next_number (number_after (length m.classes) (next_number (number_after (length m.rules.weights) (next_number (next_number (next_number (next_number 1))))))))
+
+-- the rows of the map are read as that map
+map_again : (m : BaseMap) → IsSpelled m → map_at (lines_from 1 (sections m last_rows)) ≡ Ok (m, lines_from (end_number m) last_rows)
+unfolding map_at
+map_again m is =
+    let of_rules : List Row = count_words (codes "ratio") m.rules.ratio ∷ count_words (codes "classes") (length m.rules.weights) ∷ (class_rows (length m.rules.weights) 0 m.rules.weights m.rules.compat ++ from_faces m) in
+    rw (
+      read_line_again {F = MapFault} BadLine read_transform (next_number 1) (transform_words m.transform) of_rules m.transform (λ e. cc) (read_transform_again m.transform is.facts.transform),
+      rules_again (next_number (next_number 1)) m is,
+      faces_again (number_after (length m.rules.weights) (next_number (next_number (next_number (next_number 1))))) m is,
+      arcs_again (number_after (length m.classes) (next_number (number_after (length m.rules.weights) (next_number (next_number (next_number (next_number 1))))))) m is,
     ) refl
 
 -- no word of the listing of a base map has a separator
-listing_plain : (m : BaseMap) → IsSmallMap m → list_all is_plain_row (listing_rows m) ≡ true
-listing_plain m small =
-    let of_arcs : list_all is_plain_row (map arc_words m.arcs ++ (codes "end" ∷ []) ∷ []) ≡ true = list_all-append is_plain_row (map arc_words m.arcs) ((codes "end" ∷ []) ∷ []) ∙ and_from _ _ (arcs_plain m.arcs small.arcs) refl in
-    let from_arcs : list_all is_plain_row (count_words (codes "arcs") (length m.arcs) ∷ (map arc_words m.arcs ++ (codes "end" ∷ []) ∷ [])) ≡ true = and_from _ _ (count_plain (codes "arcs") (length m.arcs) refl small.arc_count) of_arcs in
-    let of_faces : list_all is_plain_row (face_rows 1 m.classes ++ (count_words (codes "arcs") (length m.arcs) ∷ (map arc_words m.arcs ++ (codes "end" ∷ []) ∷ []))) ≡ true = list_all-append is_plain_row (face_rows 1 m.classes) _ ∙ and_from _ _ (faces_plain 1 m.classes small.face_count small.classes) from_arcs in
-    let from_faces : list_all is_plain_row (count_words (codes "faces") (length m.classes) ∷ (face_rows 1 m.classes ++ (count_words (codes "arcs") (length m.arcs) ∷ (map arc_words m.arcs ++ (codes "end" ∷ []) ∷ [])))) ≡ true = and_from _ _ (count_plain (codes "faces") (length m.classes) refl (omega (arith, small.face_count))) of_faces in
-    let from_classes = list_all-append is_plain_row (class_rows (length m.rules.weights) 0 m.rules.weights m.rules.compat) _ ∙ and_from _ _ (classes_plain (length m.rules.weights) 0 m.rules.weights m.rules.compat (omega (arith, small.class_count)) small.weights small.compat) from_faces in
-    let head : list_all is_plain_row (sections m.transform m.rules.ratio (length m.rules.weights) (m.rules.weights, m.rules.compat) (length m.classes) m.classes (length m.arcs) m.arcs []) ≡ true =
-    and_from _ _ (transform_plain m.transform small.transform) (and_from _ _ (count_plain (codes "ratio") m.rules.ratio refl small.ratio) (and_from _ _ (count_plain (codes "classes") (length m.rules.weights) refl small.class_count) from_classes)) in
-    ap (list_all is_plain_row) (sym (append-nil (listing_rows m)) ∙ regrouped m []) ∙ head
+listing_plain : (m : BaseMap) → IsSpelled m → list_all is_plain_row (listing_rows m) ≡ true
+listing_plain m is =
+    let c = length m.rules.weights in
+    let few = is.rules.few_classes in
+    let last : List Row = (codes "end" ∷ []) ∷ [] in
+    let of_arcs : list_all is_plain_row (map arc_words m.arcs ++ last) ≡ true = list_all-append is_plain_row (map arc_words m.arcs) last ∙ and_from _ _ (arcs_plain (length m.classes) m.arcs (omega (arith, is.facts.few_faces)) is.facts.arcs (omega (arith, is.facts.few_points))) refl in
+    let with_arcs : list_all is_plain_row (count_words (codes "arcs") (length m.arcs) ∷ (map arc_words m.arcs ++ last)) ≡ true = and_from _ _ (count_plain (codes "arcs") (length m.arcs) refl (omega (arith, is.facts.few_arcs))) of_arcs in
+    let of_faces = list_all-append is_plain_row (face_rows 1 m.classes) (count_words (codes "arcs") (length m.arcs) ∷ (map arc_words m.arcs ++ last)) ∙ and_from _ _ (faces_plain 1 (c - 1) m.classes (omega (arith, is.facts.few_faces)) (omega arith) is.classes) with_arcs in
+    let with_faces : list_all is_plain_row (count_words (codes "faces") (length m.classes) ∷ (face_rows 1 m.classes ++ (count_words (codes "arcs") (length m.arcs) ∷ (map arc_words m.arcs ++ last)))) ≡ true = and_from _ _ (count_plain (codes "faces") (length m.classes) refl (omega (arith, is.facts.few_faces))) of_faces in
+    let of_classes = list_all-append is_plain_row (class_rows c 0 m.rules.weights m.rules.compat) _ ∙ and_from _ _ (classes_plain c 0 m.rules.weights m.rules.compat (omega arith) is.weights is.compat) with_faces in
+    let whole : list_all is_plain_row (sections m last) ≡ true =
+    and_from _ _ (transform_plain m.transform is.facts.transform) (and_from _ _ (count_plain (codes "ratio") m.rules.ratio refl (omega (arith, is.rules.ratio))) (and_from _ _ (count_plain (codes "classes") c refl (omega arith)) of_classes)) in
+    ap (list_all is_plain_row) (sym (append-nil (listing_rows m)) ∙ regrouped m []) ∙ whole
 
 -- What is spelled so is read.
-pub listing_again : (bytes : List ℕ) (m : BaseMap) → IsListing bytes m → listing bytes ≡ Some m
+pub listing_again : (bytes : List ℕ) (m : BaseMap) → IsListing bytes m → listing bytes ≡ Ok m
 unfolding listing
 listing_again bytes m is =
-    let small = small_map m is.base in
-    let rows : rows_of bytes ≡ listing_rows m ++ ([] ∷ []) ∷ [] = ap rows_of is.spelled ∙ rows_again (listing_rows m) (listing_plain m small) in
-    let read : read_listing (rows_of bytes) ≡ Some m = ap read_listing rows ∙ listing_rows_again m small in
-    rw (read, is.base) refl
+    let spelled = is_spelled m is.base in
+    let rows : rows_of bytes ≡ sections m last_rows = ap rows_of is.spelled ∙ rows_again (listing_rows m) (listing_plain m spelled) ∙ regrouped m (([] ∷ []) ∷ []) in
+    let read : map_at (all_lines bytes) ≡ Ok (m, lines_from (end_number m) last_rows) = ap (λ (r : List Row). map_at (lines_from 1 r)) rows ∙ map_again m spelled in
+    rw (read, spelled.facts.bordered, end_again (end_number m)) refl
 
--- ---- what the call answers
+-- ---- what the calls answer
 
--- the map of the parts, where it is a base map
-pub base_of_parts : (bytes : List ℕ) (m : BaseMap) (o : Option BaseMap) (r : Result BaseMap (Or MapFault)) → r ≡ listed_of o → o ≡ checked m → read_listing (rows_of bytes) ≡ Some m → GivesBase r (listing bytes)
-unfolding listing
-base_of_parts bytes m (Some b) r given is parts = rw given (ap (λ read. read >>= checked) parts ∙ sym is)
-base_of_parts bytes m None r given is parts = rw given (refl, ap (λ read. read >>= checked) parts ∙ sym is)
+-- a test, by a map or none, and by a map or the fault
+either : (b : Bool) (m : BaseMap) (n : ℕ) → ok_or (cond b (Some m) None) (BadLine n) ≡ cond b (Ok m) (Err (BadLine n))
+either true m n = refl
+either false m n = refl
+
+-- the map of parts that were read is what the library's test of a base map gives where each face has a border
+pub bordered_is : (lines : Lines) (m : BaseMap) (rest : Lines) (found : Option BaseMap) (n : ℕ) → map_at lines ≡ Ok (m, rest) → found ≡ checked m → ok_or found (BadLine n) ≡ bordered m n
+bordered_is lines m rest found n e given =
+    let base = (map_at_is lines (m, rest) e).base in
+    ap (λ o. ok_or o (BadLine n)) given ∙ ap (λ b. ok_or (cond b (Some m) None) (BadLine n)) base ∙ either (all_faces_bordered (length m.classes) m.arcs) m n
 
 -- what is read is spelled so
-pub base_read : (bytes : List ℕ) (r : Result BaseMap (Or MapFault)) → GivesBase r (listing bytes) → IfOk r (IsListing bytes)
+pub base_read : (bytes : List ℕ) (r : Result BaseMap (Or MapFault)) → GivesWhole r (listing bytes) → IfOk r (IsListing bytes)
 base_read bytes (Ok m) given = listing_spelled bytes m given
 base_read bytes (Err e) given = tt
 
 -- what is spelled so is read
-pub base_spelled : (bytes : List ℕ) (r : Result BaseMap (Or MapFault)) (m : BaseMap) → IsListing bytes m → GivesBase r (listing bytes) → GivesBase r (Some m)
-base_spelled bytes r m is given = subst (λ read. GivesBase r read) (listing_again bytes m is) given
+pub base_spelled : (bytes : List ℕ) (r : Result BaseMap (Or MapFault)) (m : BaseMap) → IsListing bytes m → GivesWhole r (listing bytes) → GivesWhole r (Ok m)
+base_spelled bytes r m is given = subst (λ read. GivesWhole r read) (listing_again bytes m is) given
 
 -- the fault comes where nothing is spelled
-pub base_fault : (bytes : List ℕ) (r : Result BaseMap (Or MapFault)) (f : MapFault) (m : BaseMap) → r ≡ Err (Fault f) → GivesBase r (listing bytes) → ¬ (IsListing bytes m)
+pub base_fault : (bytes : List ℕ) (r : Result BaseMap (Or MapFault)) (f : MapFault) (m : BaseMap) → r ≡ Err (Fault f) → GivesWhole r (listing bytes) → ¬ (IsListing bytes m)
 base_fault bytes r f m is given = λ spelled.
-    let refused = subst (λ (x : Result BaseMap (Or MapFault)). GivesBase x (listing bytes)) is given in
+    let refused : listing bytes ≡ Err f = subst (λ (x : Result BaseMap (Or MapFault)). GivesWhole x (listing bytes)) is given in
     let again = listing_again bytes m spelled in
-    let none : listing bytes ≡ None = refused.1 in
     cc
+
+-- the listing from where its parts were read
+pub listing_from : (bytes : List ℕ) (lines : Lines) (m : BaseMap) (rest : Lines) (found : Option BaseMap) (n : ℕ)
+    → lines ≡ all_lines bytes → map_at lines ≡ Ok (m, rest) → found ≡ checked m → n ≡ rest.number
+    → listing bytes ≡ (ok_or found (BadLine n) >>= λ base. end_at rest >>= λ end. Ok base)
+unfolding listing
+listing_from bytes lines m rest found n all read given number =
+    let whole : map_at (all_lines bytes) ≡ Ok (m, rest) = ap map_at (sym all) ∙ read in
+    let border : ok_or found (BadLine n) ≡ bordered m rest.number = bordered_is lines m rest found n read given ∙ ap (bordered m) number in
+    rw (whole, border) refl
+
+-- the fault where some face has no border
+pub no_border : {A : Type 0} (found : Option A) (f : Or MapFault) (n : ℕ) (go : A → Result A MapFault) → Err f ≡ ok_or found (Fault (BadLine n)) → Refuses f (ok_or found (BadLine n) >>= go)
+no_border (Some x) f n go e = absurd cc
+no_border None (Fault f) n go e = let same : BadLine n ≡ f = cc in ap Err same
+no_border None Memory n go e = tt
+
+-- the fault of the last line
+pub no_end : {A : Type 0} (found : Option A) (x : A) (f bad : Or MapFault) (n : ℕ) (end : Result (Unit {0}) MapFault) → Ok x ≡ ok_or found bad → Refuses f end
+    → Refuses f (ok_or found (BadLine n) >>= λ base. end >>= λ u. Ok base)
+no_end None x f bad n end e h = absurd cc
+no_end (Some y) x Memory bad n end e h = tt
+no_end (Some y) x (Fault f) bad n end e h = rw h refl
+
+-- all lines are read
+pub all_read : {A : Type 0} (found : Option A) (x : A) (bad : Or MapFault) (n : ℕ) (end : Result (Unit {0}) MapFault) (u : Unit {0}) → Ok x ≡ ok_or found bad → end ≡ Ok u
+    → (ok_or found (BadLine n) >>= λ base. end >>= λ v. Ok base) ≡ Ok x
+all_read None x bad n end u e h = absurd cc
+all_read (Some y) x bad n end u e h = let same : y ≡ x = cc in rw h (ap Ok same)

@@ -1,6 +1,6 @@
-pub mod Steps
 pub mod OneLine
+pub mod Loops
 pub mod Sections
 pub mod Plain
 pub mod Laws
-pub mod Loops
+pub mod Writing

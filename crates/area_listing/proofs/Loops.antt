@@ -1,34 +1,42 @@
 -- Reading one thing after another, as a loop does: what was read before, put in front of what is still read, is what is read in all.
-use Rattle.std.proofs.Common.{◌≡◌, ℕ, suc, ◌+◌, ◌-◌, ◌≤◌, ◌<◌, List, [], ◌∷◌, ◌++◌, Option, Some, None, Ok, Err, refl, sym, ap, ◌∙◌, append_assoc, arith}
-use Rattle.std.specs.Prelude.{ℤ}
+use Rattle.std.proofs.Common.{◌≡◌, ℕ, suc, ◌+◌, ◌-◌, ◌≤◌, ◌<◌, List, [], ◌∷◌, ◌++◌, length, Option, Some, None, Result, Ok, Err, refl, sym, ap, ◌∙◌, append_assoc, arith}
+use Rattle.std.specs.Prelude.{ℤ, codes}
+use Rattle.std.specs.Option.{ok_or}
 use Rattle.std.proofs.lemmas.List.{append-nil}
 use Rattle.tgap_model.specs.declared.geometry.Point.{Point}
+use Rattle.tgap_model.specs.declared.base.BaseArc.{BaseArc}
 use Rattle.tgap_model.specs.declared.fault.MapFault.{MapFault}
+use Rattle.tgap_model.specs.declared.fault.MapFault.TheVariants.{BadLine}
+use Rattle.tgap_model.specs.declared.limits.TheConstants.{MAX_WEIGHT, MAX_COMPATIBILITY}
 use Rattle.tgap_model.specs.declared.failure.Or.{Or}
 use Rattle.tgap_model.specs.declared.failure.Or.TheVariants.{Fault, Memory}
-use Rattle.tgap_model.specs.Listing.{Row, ◌>>=◌, count_at, counts_at, coordinate_at, points_at, read_row, read_class, read_face, read_arc, classes_at, faces_at, arcs_at}
-use Rattle.tgap_model.specs.declared.base.BaseArc.{BaseArc}
-use Rattle.area_listing.specs.Reading.{Refuses}
-use Rattle.area_listing.specs.Taking.{Takes, listed_of, with_front, point_at, class_onto}
-use Rattle.area_listing.proofs.Sections.{Classes}
+use Rattle.tgap_model.specs.Words.{Row, ◌>>=◌, natural_at, after_word, after_count, ended}
+use Rattle.tgap_model.specs.Lines.{Lines, line_at, read_line, ◌>>=◌ as ◌or>>=◌}
+use Rattle.tgap_model.specs.ListingLines.{coordinate_at, naturals_at, points_at, read_class, read_face}
+use Rattle.tgap_model.specs.Listing.{arc_at, classes_at, faces_at, arcs_at}
+use Rattle.plain_io.specs.Taking.{Takes, Skips, Refuses}
+use Rattle.area_listing.specs.Fronts.{with_front, in_front, point_at, class_onto}
 
--- ---- what was taken, or the fault
+-- ---- what was found, or the fault of a line
 
 -- what a step took, behind the fault
-pub listed_ok : {A S : Type 0} (taken : Option A) (x : A) (rest : S) (read : Option (A × S)) → Ok x ≡ listed_of taken → Takes taken rest read → read ≡ Some (x, rest)
-listed_ok (Some y) x rest read e h = let same : y ≡ x = cc in h ∙ ap (λ z. Some (z, rest)) same
-listed_ok None x rest read e h = absurd cc
+pub found : {A S : Type 0} (taken : Option A) (x : A) (rest : S) (read : Option (A × S)) (bad : Or MapFault) → Ok x ≡ ok_or taken bad → Takes taken rest read → read ≡ Some (x, rest)
+found (Some y) x rest read bad e h = let same : y ≡ x = cc in h ∙ ap (λ z. Some (z, rest)) same
+found None x rest read bad e h = absurd cc
 
--- the fault of a step that took nothing
-pub listed_err : {A S : Type 0} (taken : Option A) (f : Or MapFault) (rest : S) (read : Option (A × S)) → Err f ≡ listed_of taken → Takes taken rest read → Refuses f read
-listed_err (Some y) f rest read e h = absurd cc
-listed_err None Memory rest read e h = tt
-listed_err None (Fault f) rest read e h = (cc, h)
+-- a step that took nothing
+pub missing : {A S : Type 0} (taken : Option A) (f bad : Or MapFault) (rest : S) (read : Option (A × S)) → Err f ≡ ok_or taken bad → Takes taken rest read → (f ≡ bad) × (read ≡ None)
+missing (Some y) f bad rest read e h = absurd cc
+missing None f bad rest read e h = (cc, h)
+
+-- the fault of a line where nothing was read
+pub refused_at : {X : Type 0} (f : Or MapFault) (n : ℕ) (read : Option X) → f ≡ Fault (BadLine n) → read ≡ None → Refuses f (ok_or read (BadLine n))
+refused_at f n read e none = rw (e, none) refl
 
 -- where one is refused, so is what stands on it
-pub refused : {X Y : Type 0} (f : Or MapFault) (read : Option X) (total : Option Y) → (read ≡ None → total ≡ None) → Refuses f read → Refuses f total
+pub refused : {X Y : Type 0} (f : Or MapFault) (read : Result X MapFault) (total : Result Y MapFault) → ((e : MapFault) → read ≡ Err e → total ≡ Err e) → Refuses f read → Refuses f total
 refused Memory read total goes h = tt
-refused (Fault f) read total goes h = (h.0, goes h.1)
+refused (Fault f) read total goes h = goes f h
 
 -- ---- fronts
 
@@ -37,38 +45,53 @@ regroup : {A S : Type 0} (front : List A) (v : A) (read : Option (List A × S)) 
 regroup front v (Some x) = ap (λ vs. Some (vs, x.1)) (sym (append_assoc front (v ∷ []) x.0))
 regroup front v None = refl
 
--- ---- counts
+-- what is read first, and what is read after it
+abbrev then_rest : {A S F : Type 0} → A → Result (List A × S) F → Result (List A × S) F
+then_rest v (Ok x) = Ok (v ∷ x.0, x.1)
+then_rest v (Err f) = Err f
 
--- a count more
-pub counts_go_on : (front : List ℕ) (n i : ℕ) (words : Row) (v : ℕ) (rest : Row) → i < n → count_at words ≡ Some (v, rest)
-    → with_front (front ++ v ∷ []) (counts_at (n - (i + 1)) rest) ≡ with_front front (counts_at (n - i) words)
-unfolding counts_at
-counts_go_on front n i words v rest lt e =
+-- the same, as a definition has it
+shape : {A S F : Type 0} (v : A) (read : Result (List A × S) F) → (read or>>= λ x. Ok (v ∷ x.0, x.1)) ≡ then_rest v read
+shape v (Ok x) = refl
+shape v (Err f) = refl
+
+-- the same of what may be a fault
+regroup_or : {A S F : Type 0} (front : List A) (v : A) (read : Result (List A × S) F) → in_front front (then_rest v read) ≡ in_front (front ++ v ∷ []) read
+regroup_or front v (Ok x) = ap (λ vs. Ok (vs, x.1)) (sym (append_assoc front (v ∷ []) x.0))
+regroup_or front v (Err f) = refl
+
+-- ---- numbers
+
+-- a number more
+pub numbers_go_on : (least most : ℕ) (front : List ℕ) (n i : ℕ) (words : Row) (v : ℕ) (rest : Row) → i < n → natural_at least most words ≡ Some (v, rest)
+    → with_front (front ++ v ∷ []) (naturals_at least most (n - (i + 1)) rest) ≡ with_front front (naturals_at least most (n - i) words)
+unfolding naturals_at
+numbers_go_on least most front n i words v rest lt e =
     let more : n - i ≡ suc (n - (i + 1)) = omega arith in
-    sym (rw (more, e) (regroup front v (counts_at (n - (i + 1)) rest)))
+    sym (rw (more, e) (regroup front v (naturals_at least most (n - (i + 1)) rest)))
 
--- no count where there was to be one
-pub counts_stop : (front : List ℕ) (n i : ℕ) (words : Row) → i < n → count_at words ≡ None → with_front front (counts_at (n - i) words) ≡ None
-unfolding counts_at
-counts_stop front n i words lt e =
+-- no number where there was to be one
+pub numbers_stop : (least most : ℕ) (front : List ℕ) (n i : ℕ) (words : Row) → i < n → natural_at least most words ≡ None → with_front front (naturals_at least most (n - i) words) ≡ None
+unfolding naturals_at
+numbers_stop least most front n i words lt e =
     let more : n - i ≡ suc (n - (i + 1)) = omega arith in
     rw (more, e) refl
 
--- all counts
-pub counts_done : (front : List ℕ) (n i : ℕ) (words : Row) → n ≤ i → with_front front (counts_at (n - i) words) ≡ Some (front, words)
-unfolding counts_at
-counts_done front n i words le =
+-- all numbers
+pub numbers_done : (least most : ℕ) (front : List ℕ) (n i : ℕ) (words : Row) → n ≤ i → with_front front (naturals_at least most (n - i) words) ≡ Some (front, words)
+unfolding naturals_at
+numbers_done least most front n i words le =
     let none : n - i ≡ 0 = omega arith in
     rw none (ap (λ vs. Some (vs, words)) (append-nil front))
 
 -- ---- points
 
 -- a point, and those after it
-abbrev then_points : (Row → Option (List Point × Row)) → Point × Row → Option (List Point × Row)
+abbrev pub then_points : (Row → Option (List Point × Row)) → Point × Row → Option (List Point × Row)
 then_points more p = more p.1 >>= λ points. Some (p.0 ∷ points.0, points.1)
 
 -- a point from its x and its y
-abbrev with_y : ℤ → ℤ × Row → Option (Point × Row)
+abbrev pub with_y : ℤ → ℤ × Row → Option (Point × Row)
 with_y x y = Some (record { x = x; y = y.0 }, y.1)
 
 -- y and the points after it, put together before or after
@@ -109,94 +132,148 @@ points_done front n i words le =
 
 -- ---- faces
 
--- a face more
-pub faces_go_on : (front : List ℕ) (n i : ℕ) (rows : List Row) (k : ℕ) (rest : List Row) → i < n → read_row (read_face (i + 1)) rows ≡ Some (k, rest)
-    → with_front (front ++ k ∷ []) (faces_at (i + 1 + 1) (n - (i + 1)) rest) ≡ with_front front (faces_at (i + 1) (n - i) rows)
+-- one face more is a face, and those after it
+one_face_more : (c f n : ℕ) (lines rest : Lines) (k : ℕ) → read_line BadLine (read_face c f) lines ≡ Ok (k, rest) → faces_at c f (suc n) lines ≡ then_rest k (faces_at c (f + 1) n rest)
 unfolding faces_at
-faces_go_on front n i rows k rest lt e =
+one_face_more c f n lines rest k e = rw e (shape k (faces_at c (f + 1) n rest))
+
+-- a face more
+pub faces_go_on : (c : ℕ) (front : List ℕ) (n i : ℕ) (lines : Lines) (k : ℕ) (rest : Lines) → i < n → read_line BadLine (read_face c (i + 1)) lines ≡ Ok (k, rest)
+    → in_front (front ++ k ∷ []) (faces_at c (i + 1 + 1) (n - (i + 1)) rest) ≡ in_front front (faces_at c (i + 1) (n - i) lines)
+faces_go_on c front n i lines k rest lt e =
     let more : n - i ≡ suc (n - (i + 1)) = omega arith in
-    sym (rw (more, e) (regroup front k (faces_at (i + 1 + 1) (n - (i + 1)) rest)))
+    sym (rw (more, one_face_more c (i + 1) (n - (i + 1)) lines rest k e) (regroup_or front k (faces_at c (i + 1 + 1) (n - (i + 1)) rest)))
 
 -- no face where there was to be one
-pub faces_stop : (front : List ℕ) (n i : ℕ) (rows : List Row) → i < n → read_row (read_face (i + 1)) rows ≡ None → with_front front (faces_at (i + 1) (n - i) rows) ≡ None
+pub faces_stop : (c : ℕ) (front : List ℕ) (n i : ℕ) (lines : Lines) (f : MapFault) → i < n → read_line BadLine (read_face c (i + 1)) lines ≡ Err f → in_front front (faces_at c (i + 1) (n - i) lines) ≡ Err f
 unfolding faces_at
-faces_stop front n i rows lt e =
+faces_stop c front n i lines f lt e =
     let more : n - i ≡ suc (n - (i + 1)) = omega arith in
     rw (more, e) refl
 
 -- all faces
-pub faces_done : (front : List ℕ) (n i : ℕ) (rows : List Row) → n ≤ i → with_front front (faces_at (i + 1) (n - i) rows) ≡ Some (front, rows)
+pub faces_done : (c : ℕ) (front : List ℕ) (n i : ℕ) (lines : Lines) → n ≤ i → in_front front (faces_at c (i + 1) (n - i) lines) ≡ Ok (front, lines)
 unfolding faces_at
-faces_done front n i rows le =
+faces_done c front n i lines le =
     let none : n - i ≡ 0 = omega arith in
-    rw none (ap (λ ks. Some (ks, rows)) (append-nil front))
+    rw none (ap (λ ks. Ok (ks, lines)) (append-nil front))
 
 -- ---- arcs
 
--- an arc more
-pub arcs_go_on : (front : List BaseArc) (n i : ℕ) (rows : List Row) (a : BaseArc) (rest : List Row) → i < n → read_row read_arc rows ≡ Some (a, rest)
-    → with_front (front ++ a ∷ []) (arcs_at (n - (i + 1)) rest) ≡ with_front front (arcs_at (n - i) rows)
+-- one arc more is an arc, and those after it
+one_arc_more : (faces before m : ℕ) (lines rest : Lines) (a : BaseArc) → arc_at faces before lines ≡ Ok (a, rest)
+    → arcs_at faces before (suc m) lines ≡ then_rest a (arcs_at faces (before + length a.points) m rest)
 unfolding arcs_at
-arcs_go_on front n i rows a rest lt e =
+one_arc_more faces before m lines rest a e = rw e (shape a (arcs_at faces (before + length a.points) m rest))
+
+-- an arc more
+pub arcs_go_on : (faces before : ℕ) (front : List BaseArc) (n i : ℕ) (lines : Lines) (a : BaseArc) (rest : Lines) → i < n → arc_at faces before lines ≡ Ok (a, rest)
+    → in_front (front ++ a ∷ []) (arcs_at faces (before + length a.points) (n - (i + 1)) rest) ≡ in_front front (arcs_at faces before (n - i) lines)
+arcs_go_on faces before front n i lines a rest lt e =
     let more : n - i ≡ suc (n - (i + 1)) = omega arith in
-    sym (rw (more, e) (regroup front a (arcs_at (n - (i + 1)) rest)))
+    sym (rw (more, one_arc_more faces before (n - (i + 1)) lines rest a e) (regroup_or front a (arcs_at faces (before + length a.points) (n - (i + 1)) rest)))
 
 -- no arc where there was to be one
-pub arcs_stop : (front : List BaseArc) (n i : ℕ) (rows : List Row) → i < n → read_row read_arc rows ≡ None → with_front front (arcs_at (n - i) rows) ≡ None
+pub arcs_stop : (faces before : ℕ) (front : List BaseArc) (n i : ℕ) (lines : Lines) (f : MapFault) → i < n → arc_at faces before lines ≡ Err f → in_front front (arcs_at faces before (n - i) lines) ≡ Err f
 unfolding arcs_at
-arcs_stop front n i rows lt e =
+arcs_stop faces before front n i lines f lt e =
     let more : n - i ≡ suc (n - (i + 1)) = omega arith in
     rw (more, e) refl
 
 -- all arcs
-pub arcs_done : (front : List BaseArc) (n i : ℕ) (rows : List Row) → n ≤ i → with_front front (arcs_at (n - i) rows) ≡ Some (front, rows)
+pub arcs_done : (faces before : ℕ) (front : List BaseArc) (n i : ℕ) (lines : Lines) → n ≤ i → in_front front (arcs_at faces before (n - i) lines) ≡ Ok (front, lines)
 unfolding arcs_at
-arcs_done front n i rows le =
+arcs_done faces before front n i lines le =
     let none : n - i ≡ 0 = omega arith in
-    rw none (ap (λ arcs. Some (arcs, rows)) (append-nil front))
+    rw none (ap (λ arcs. Ok (arcs, lines)) (append-nil front))
 
 -- ---- classes
 
+-- weights and compatibilities, and the lines after them
+abbrev pub Classes : Type 0
+Classes = (List ℕ × List ℕ) × Lines
+
 -- the weights and the compatibilities that were read before, and what is still read
-abbrev pub with_fronts : List ℕ → List ℕ → Option Classes → Option Classes
-with_fronts weights compat read = read >>= λ x. Some ((weights ++ x.0.0, compat ++ x.0.1), x.1)
+abbrev pub with_fronts : List ℕ → List ℕ → Result Classes MapFault → Result Classes MapFault
+with_fronts weights compat (Ok x) = Ok ((weights ++ x.0.0, compat ++ x.0.1), x.1)
+with_fronts weights compat (Err f) = Err f
 
 -- a class, and those after it
-abbrev then_classes : (List Row → Option Classes) → (ℕ × List ℕ) × List Row → Option Classes
-then_classes more x = more x.1 >>= λ y. Some ((x.0.0 ∷ y.0.0, x.0.1 ++ y.0.1), y.1)
+abbrev then_classes : ℕ → List ℕ → Result Classes MapFault → Result Classes MapFault
+then_classes w row (Ok y) = Ok ((w ∷ y.0.0, row ++ y.0.1), y.1)
+then_classes w row (Err f) = Err f
+
+-- the same, as a definition has it
+class_shape : (w : ℕ) (row : List ℕ) (read : Result Classes MapFault) → (read or>>= λ y. Ok ((w ∷ y.0.0, row ++ y.0.1), y.1)) ≡ then_classes w row read
+class_shape w row (Ok y) = refl
+class_shape w row (Err f) = refl
 
 -- a class more in front, or first of what is still read
-regroup_class : (weights compat : List ℕ) (x : ℕ × List ℕ) (read : Option Classes)
-    → with_fronts weights compat (read >>= λ y. Some ((x.0 ∷ y.0.0, x.1 ++ y.0.1), y.1)) ≡ with_fronts (weights ++ x.0 ∷ []) (compat ++ x.1) read
-regroup_class weights compat x (Some y) = rw (append_assoc weights (x.0 ∷ []) y.0.0, append_assoc compat x.1 y.0.1) refl
-regroup_class weights compat x None = refl
+regroup_class : (weights compat : List ℕ) (w : ℕ) (row : List ℕ) (read : Result Classes MapFault)
+    → with_fronts weights compat (then_classes w row read) ≡ with_fronts (weights ++ w ∷ []) (compat ++ row) read
+regroup_class weights compat w row (Ok y) = rw (append_assoc weights (w ∷ []) y.0.0, append_assoc compat row y.0.1) refl
+regroup_class weights compat w row (Err f) = refl
 
--- the same, where the class is still to be read
-regroup_classes : (weights compat : List ℕ) (first : Option ((ℕ × List ℕ) × List Row)) (more : List Row → Option Classes)
-    → with_fronts weights compat (first >>= then_classes more) ≡ (class_onto compat first >>= λ y. with_fronts (weights ++ y.0.1 ∷ []) y.0.0 (more y.1))
-regroup_classes weights compat (Some x) more = regroup_class weights compat x.0 (more x.1)
-regroup_classes weights compat None more = refl
+-- the class that was put after those before
+class_before : (compat : List ℕ) (read : Result ((ℕ × List ℕ) × Lines) MapFault) (all : List ℕ) (w : ℕ) (rest : Lines) → class_onto compat read ≡ Ok ((all, w), rest)
+    → (row : List ℕ) × (read ≡ Ok ((w, row), rest)) × (compat ++ row ≡ all)
+class_before compat (Ok x) all w rest e =
+    let same : ((compat ++ x.0.1, x.0.0), x.1) ≡ ((all, w), rest) = cc in
+    (x.0.1, ap (λ (y : (List ℕ × ℕ) × Lines). Ok ((y.0.1, x.0.1), y.1)) same, ap (λ (y : (List ℕ × ℕ) × Lines). y.0.0) same)
+class_before compat (Err f) all w rest e = absurd cc
+
+-- a fault that comes before the class is put after those before
+no_class_before : (compat : List ℕ) (read : Result ((ℕ × List ℕ) × Lines) MapFault) (f : MapFault) → class_onto compat read ≡ Err f → read ≡ Err f
+no_class_before compat (Ok x) f e = absurd cc
+no_class_before compat (Err g) f e = let same : g ≡ f = cc in ap Err same
+
+-- a row of compatibilities that is not read
+pub row_stops : (compat : List ℕ) (read : Option (List ℕ × Row)) (w line : ℕ) (rest : Lines) (f : Or MapFault) → Refuses f (ok_or (with_front compat read) (BadLine line))
+    → Refuses f (class_onto compat (ok_or (read >>= (λ vs. ended (w, vs.0) vs.1) >>= λ x. Some (x, rest)) (BadLine line)))
+row_stops compat read w line rest Memory h = tt
+row_stops compat (Some vs) w line rest (Fault f) h = absurd cc
+row_stops compat None w line rest (Fault f) h = let same : BadLine line ≡ f = cc in ap Err same
+
+-- a step that only leaves, behind the fault
+pub passed : {A S : Type 0} (taken : Option A) (x : A) (rest : S) (read : Option S) (bad : Or MapFault) → Ok x ≡ ok_or taken bad → Skips taken rest read → read ≡ Some rest
+passed (Some y) x rest read bad e h = h
+passed None x rest read bad e h = absurd cc
+
+-- the class whose weight was read, and whose row is still to be read
+pub read_class_from : (c i : ℕ) (lines rest : Lines) (line : ℕ) (row start named after : Row) (w : ℕ) → line ≡ lines.number → line_at lines ≡ Some (row, rest) → after_word (codes "class") row ≡ Some start
+    → after_count i start ≡ Some named → natural_at 1 MAX_WEIGHT named ≡ Some (w, after)
+    → read_line BadLine (read_class c i) lines ≡ ok_or (naturals_at 0 MAX_COMPATIBILITY c after >>= (λ vs. ended (w, vs.0) vs.1) >>= λ x. Some (x, rest)) (BadLine line)
+unfolding read_class
+read_class_from c i lines rest line row start named after w e0 e1 e2 e3 e4 = rw (e0, e1, e2, e3, e4) refl
+
+-- one class more is a class, and those after it
+one_class_more : (c i n : ℕ) (lines rest : Lines) (w : ℕ) (row : List ℕ) → read_line BadLine (read_class c i) lines ≡ Ok ((w, row), rest)
+    → classes_at c i (suc n) lines ≡ then_classes w row (classes_at c (i + 1) n rest)
+unfolding classes_at
+one_class_more c i n lines rest w row e = rw e (class_shape w row (classes_at c (i + 1) n rest))
 
 -- a class more
-pub classes_go_on : (weights compat : List ℕ) (n i : ℕ) (rows : List Row) (w : ℕ) (all : List ℕ) (rest : List Row) → i < n → class_onto compat (read_row (read_class n i) rows) ≡ Some ((all, w), rest)
-    → with_fronts (weights ++ w ∷ []) all (classes_at n (i + 1) (n - (i + 1)) rest) ≡ with_fronts weights compat (classes_at n i (n - i) rows)
-unfolding classes_at
-classes_go_on weights compat n i rows w all rest lt e =
+pub classes_go_on : (weights compat : List ℕ) (n i : ℕ) (lines : Lines) (w : ℕ) (all : List ℕ) (rest : Lines) → i < n → class_onto compat (read_line BadLine (read_class n i) lines) ≡ Ok ((all, w), rest)
+    → with_fronts (weights ++ w ∷ []) all (classes_at n (i + 1) (n - (i + 1)) rest) ≡ with_fronts weights compat (classes_at n i (n - i) lines)
+classes_go_on weights compat n i lines w all rest lt e =
     let more : n - i ≡ suc (n - (i + 1)) = omega arith in
-    sym (ap (λ k. with_fronts weights compat (classes_at n i k rows)) more ∙ regroup_classes weights compat (read_row (read_class n i) rows) (classes_at n (i + 1) (n - (i + 1)))
-    ∙ ap (λ first. first >>= λ y. with_fronts (weights ++ y.0.1 ∷ []) y.0.0 (classes_at n (i + 1) (n - (i + 1)) y.1)) e)
+    let first = class_before compat (read_line BadLine (read_class n i) lines) all w rest e in
+    sym (ap (λ k. with_fronts weights compat (classes_at n i k lines)) more
+    ∙ ap (with_fronts weights compat) (one_class_more n i (n - (i + 1)) lines rest w first.0 first.1)
+    ∙ regroup_class weights compat w first.0 (classes_at n (i + 1) (n - (i + 1)) rest)
+    ∙ ap (λ (vs : List ℕ). with_fronts (weights ++ w ∷ []) vs (classes_at n (i + 1) (n - (i + 1)) rest)) first.2)
 
 -- no class where there was to be one
-pub classes_stop : (weights compat : List ℕ) (n i : ℕ) (rows : List Row) → i < n → class_onto compat (read_row (read_class n i) rows) ≡ None → with_fronts weights compat (classes_at n i (n - i) rows) ≡ None
+pub classes_stop : (weights compat : List ℕ) (n i : ℕ) (lines : Lines) (f : MapFault) → i < n → class_onto compat (read_line BadLine (read_class n i) lines) ≡ Err f → with_fronts weights compat (classes_at n i (n - i) lines) ≡ Err f
 unfolding classes_at
-classes_stop weights compat n i rows lt e =
+classes_stop weights compat n i lines f lt e =
     let more : n - i ≡ suc (n - (i + 1)) = omega arith in
-    ap (λ k. with_fronts weights compat (classes_at n i k rows)) more ∙ regroup_classes weights compat (read_row (read_class n i) rows) (classes_at n (i + 1) (n - (i + 1)))
-    ∙ ap (λ first. first >>= λ y. with_fronts (weights ++ y.0.1 ∷ []) y.0.0 (classes_at n (i + 1) (n - (i + 1)) y.1)) e
+    let first = no_class_before compat (read_line BadLine (read_class n i) lines) f e in
+    rw (more, first) refl
 
 -- all classes
-pub classes_done : (weights compat : List ℕ) (n i : ℕ) (rows : List Row) → n ≤ i → with_fronts weights compat (classes_at n i (n - i) rows) ≡ Some ((weights, compat), rows)
+pub classes_done : (weights compat : List ℕ) (n i : ℕ) (lines : Lines) → n ≤ i → with_fronts weights compat (classes_at n i (n - i) lines) ≡ Ok ((weights, compat), lines)
 unfolding classes_at
-classes_done weights compat n i rows le =
+classes_done weights compat n i lines le =
     let none : n - i ≡ 0 = omega arith in
     rw none (rw (append-nil weights, append-nil compat) refl)

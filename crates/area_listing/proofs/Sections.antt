@@ -1,129 +1,249 @@
 -- The counted sections: what is read is spelled so, and what is spelled so is read.
-use Rattle.std.proofs.Common.{◌≡◌, ℕ, zero, suc, ◌+◌, ◌-◌, ◌*◌, ◌^◌, ◌<◌, ◌≤◌, true, List, [], ◌∷◌, ◌++◌, length, take, drop, map, Option, Some, refl, ap, subst, ◌∙◌, arith}
-use Rattle.std.specs.List.{list_all, AllByRecursion}
-use Rattle.std.proofs.lemmas.List.{take_at, drop_at, length-take, length-drop, take-append-drop}
-use Rattle.std.proofs.lemmas.Option.{option_and_then_some}
+use Rattle.std.proofs.Common.{◌≡◌, ◌≢◌, ℕ, zero, suc, ◌+◌, ◌-◌, ◌*◌, ◌^◌, ◌<◌, ◌≤◌, Bool, true, false, cond, not, eqb, nat_le, List, [], ◌∷◌, ◌++◌, length, take, drop, map, Some, Ok, Err, refl, ap, subst, ◌∙◌, arith}
+use Rattle.std.specs.Option.{ok_or}
+use Rattle.std.specs.List.{list_all, flat_map}
+use Rattle.std.proofs.lemmas.Bool.{and_from, and_parts, leb-true, le-leb}
+use Rattle.std.proofs.lemmas.List.{take_at, drop_at, length-take, length-drop, length-append, take-append-drop}
+use Rattle.std.proofs.lemmas.List.Sums.{sum_by-cons}
 use Rattle.tgap_model.specs.declared.base.BaseArc.{BaseArc}
-use Rattle.tgap_model.specs.Base.{in_limits}
-use Rattle.tgap_model.specs.Listing.{Row, class_rows, face_rows, arc_words, read_row, read_class, read_face, read_arc, classes_at, faces_at, arcs_at}
-use Rattle.area_listing.proofs.Steps.{AreSmall}
-use Rattle.area_listing.proofs.OneLine.{class_words, read_class_is, read_class_again, read_face_is, read_face_again, read_arc_is, read_arc_again}
+use Rattle.tgap_model.specs.declared.fault.LimitKind.{LimitKind}
+use Rattle.tgap_model.specs.declared.fault.LimitKind.TheVariants.{Points}
+use Rattle.tgap_model.specs.declared.fault.MapFault.{MapFault}
+use Rattle.tgap_model.specs.declared.fault.MapFault.TheVariants.{BadLine, Limit}
+use Rattle.tgap_model.specs.declared.limits.TheConstants.{MAX_WEIGHT, MAX_COMPATIBILITY, MAX_POINTS}
+use Rattle.tgap_model.specs.Base.{is_arc, count_points}
+use Rattle.tgap_model.specs.Words.{Row}
+use Rattle.tgap_model.specs.Lines.{Lines, next_number, line_at, read_line}
+use Rattle.tgap_model.specs.ListingLines.{read_count, read_class, read_face, head_at, read_points}
+use Rattle.tgap_model.specs.Listing.{count_words, class_rows, face_rows, point_words, arc_words, within_limit, count_line, classes_at, faces_at, arc_at, arcs_at}
+use Rattle.tgap_model.proofs.BaseFacts.{arc_facts}
+use Rattle.plain_io.proofs.Steps.{bound, ok_or_is, line_at_is, line_at_again, read_line_is, read_line_again, number_after, lines_from, some_rows}
+use Rattle.area_listing.proofs.Loops.{Classes}
+use Rattle.area_listing.proofs.OneLine.{AreFrom, read_count_is, read_count_again, class_words, read_class_is, read_class_again, face_words, read_face_is, read_face_again, read_points_is, read_points_again, head_at_is, head_at_again}
 
--- ---- a row
+-- ---- limits
 
--- the row that was read
-pub read_row_is : {A : Type 0} (read : Row → Option A) (rows : List Row) (x : A × List Row) → read_row read rows ≡ Some x → (row : Row) × (rows ≡ row ∷ x.1) × (read row ≡ Some x.0)
-read_row_is read [] x e = absurd cc
-read_row_is read (row ∷ rows) x e =
-    option_and_then_some _ (read row) x e (λ value e0 r0.
-    let made : (value, rows) ≡ x = cc in
-    (row, ap (λ y. row ∷ y.1) made, e0 ∙ ap (λ y. Some y.0) made))
+-- a limit that was kept
+cond_ok : {A F : Type 0} (b : Bool) (x y : A) (f : F) → cond b (Ok x) (Err f) ≡ Ok y → b ≡ true
+cond_ok true x y f e = refl
+cond_ok false x y f e = absurd cc
+
+pub within_limit_is : (which : LimitKind) (most n : ℕ) (x : Unit {0}) → within_limit which most n ≡ Ok x → n ≤ most
+within_limit_is which most n x e = leb-true n most (cond_ok (nat_le n most) tt x (Limit which n) e)
+
+pub within_limit_again : (which : LimitKind) (most n : ℕ) → n ≤ most → within_limit which most n ≡ Ok tt
+within_limit_again which most n le = rw (le-leb n most le) refl
+
+-- a line of a count is spelled so, and within its limit
+pub record IsCountLine (most : ℕ) (keyword : List ℕ) (least : ℕ) (lines : Lines) (x : ℕ × Lines) : Type 0 where
+  pub spelled : lines.rows ≡ count_words keyword x.0 ∷ x.1.rows
+  pub low : least ≤ x.0
+  pub high : x.0 ≤ most
+
+pub count_line_is : (which : LimitKind) (most : ℕ) (keyword : List ℕ) (least : ℕ) (lines : Lines) (x : ℕ × Lines) → count_line which most keyword least lines ≡ Ok x → IsCountLine most keyword least lines x
+unfolding count_line
+count_line_is which most keyword least lines x e =
+    bound _ (read_line BadLine (read_count keyword least (2 ^ 32 - 1)) lines) x e (λ n e0 r0.
+    bound _ (within_limit which most n.0) x r0 (λ u e1 r1.
+    let row = read_line_is BadLine (read_count keyword least (2 ^ 32 - 1)) lines n e0 in
+    let count = read_count_is keyword least (2 ^ 32 - 1) row.0 n.0 row.2 in
+    let made : n ≡ x = cc in
+    subst (λ (y : ℕ × Lines). IsCountLine most keyword least lines y) made
+    (record { spelled = row.1 ∙ ap (λ (r : Row). r ∷ n.1.rows) count.0; low = count.1; high = within_limit_is which most n.0 u e1 })))
+
+pub count_line_again : (which : LimitKind) (most : ℕ) (keyword : List ℕ) (least n k : ℕ) (rest : List Row) → rest ≢ [] → least ≤ k → k ≤ most → k < 2 ^ 32
+    → count_line which most keyword least (lines_from n (count_words keyword k ∷ rest)) ≡ Ok (k, lines_from (next_number n) rest)
+unfolding count_line
+count_line_again which most keyword least n k rest some low high small =
+    let word = read_count_again keyword least (2 ^ 32 - 1) k low (omega arith) small in
+    rw (read_line_again {F = MapFault} BadLine (read_count keyword least (2 ^ 32 - 1)) n (count_words keyword k) rest k some word, within_limit_again which most k high) refl
 
 -- ---- classes
 
--- weights and compatibilities, and the rows after them
-abbrev pub Classes : Type 0
-Classes = (List ℕ × List ℕ) × List Row
+-- n classes that are read are spelled so
+pub record AreClasses (c i n : ℕ) (lines : Lines) (x : Classes) : Type 0 where
+  pub spelled : lines.rows ≡ class_rows c i x.0.0 x.0.1 ++ x.1.rows
+  pub count : length x.0.0 ≡ n
+  pub table : length x.0.1 ≡ n * c
+  pub weights : AreFrom 1 MAX_WEIGHT x.0.0
+  pub compat : AreFrom 0 MAX_COMPATIBILITY x.0.1
 
--- what is read as n classes is spelled so
-pub classes_at_is : (c i n : ℕ) (rows : List Row) (x : Classes) → classes_at c i n rows ≡ Some x → (rows ≡ class_rows c i x.0.0 x.0.1 ++ x.1) × (length x.0.0 ≡ n)
+-- numbers in a range, one list after another
+from_append : (least most : ℕ) (xs ys : List ℕ) → AreFrom least most xs → AreFrom least most ys → AreFrom least most (xs ++ ys)
+from_append least most [] ys p q = q
+from_append least most (x ∷ xs) ys p q = (p.0, from_append least most xs ys p.1 q)
+
+pub classes_at_is : (c i n : ℕ) (lines : Lines) (x : Classes) → classes_at c i n lines ≡ Ok x → AreClasses c i n lines x
 unfolding classes_at
-classes_at_is c i zero rows x e =
-    let made : (([], []), rows) ≡ x = cc in
-    subst (λ (y : Classes). (rows ≡ class_rows c i y.0.0 y.0.1 ++ y.1) × (length y.0.0 ≡ 0)) made (refl, refl)
-classes_at_is c i (suc n) rows x e =
-    option_and_then_some _ (read_row (read_class c i) rows) x e (λ first e0 r0.
-    option_and_then_some _ (classes_at c (i + 1) n first.1) x r0 (λ more e1 r1.
-    let f0 = read_row_is (read_class c i) rows first e0 in
-    let f1 = read_class_is c i f0.0 first.0 f0.2 in
-    let f2 = classes_at_is c (i + 1) n first.1 more e1 in
+classes_at_is c i zero lines x e =
+    let made : (([], []), lines) ≡ x = cc in
+    subst (λ (y : Classes). AreClasses c i 0 lines y) made (record { spelled = refl; count = refl; table = omega arith; weights = tt; compat = tt })
+classes_at_is c i (suc n) lines x e =
+    bound _ (read_line BadLine (read_class c i) lines) x e (λ first e0 r0.
+    bound _ (classes_at c (i + 1) n first.1) x r0 (λ more e1 r1.
+    let row = read_line_is BadLine (read_class c i) lines first e0 in
+    let one = read_class_is c i row.0 first.0 row.2 in
+    let rest = classes_at_is c (i + 1) n first.1 more e1 in
     let made : ((first.0.0 ∷ more.0.0, first.0.1 ++ more.0.1), more.1) ≡ x = cc in
-    let front : take c (first.0.1 ++ more.0.1) ≡ first.0.1 = take_at first.0.1 more.0.1 c f1.1 in
-    let back : drop c (first.0.1 ++ more.0.1) ≡ more.0.1 = drop_at first.0.1 more.0.1 c f1.1 in
-    let spelled : rows ≡ class_rows c i (first.0.0 ∷ more.0.0) (first.0.1 ++ more.0.1) ++ more.1 = cc in
-    subst (λ (y : Classes). (rows ≡ class_rows c i y.0.0 y.0.1 ++ y.1) × (length y.0.0 ≡ suc n)) made (spelled, ap suc f2.1)))
+    let front : take c (first.0.1 ++ more.0.1) ≡ first.0.1 = take_at first.0.1 more.0.1 c one.count in
+    let back : drop c (first.0.1 ++ more.0.1) ≡ more.0.1 = drop_at first.0.1 more.0.1 c one.count in
+    let f0 = row.1 in
+    let f1 = one.spelled in
+    let f2 = rest.spelled in
+    let spelled : lines.rows ≡ class_rows c i (first.0.0 ∷ more.0.0) (first.0.1 ++ more.0.1) ++ more.1.rows = cc in
+    let t1 = one.count in
+    let t2 = rest.table in
+    let table : length (first.0.1 ++ more.0.1) ≡ suc n * c = omega (arith, length-append first.0.1 more.0.1) in
+    subst (λ (y : Classes). AreClasses c i (suc n) lines y) made
+    (record { spelled = spelled; count = ap suc rest.count; table = table; weights = ((one.least, one.most), rest.weights); compat = from_append 0 MAX_COMPATIBILITY first.0.1 more.0.1 one.compat rest.compat })))
 
--- the first of small numbers are small
-pub small_take : (n : ℕ) (vs : List ℕ) → AreSmall vs → AreSmall (take n vs)
-small_take zero vs small = tt
-small_take (suc n) [] small = tt
-small_take (suc n) (v ∷ vs) small = (small.0, small_take n vs small.1)
+-- the first numbers of a range are in it
+pub from_take : (least most n : ℕ) (vs : List ℕ) → AreFrom least most vs → AreFrom least most (take n vs)
+from_take least most zero vs from = tt
+from_take least most (suc n) [] from = tt
+from_take least most (suc n) (v ∷ vs) from = (from.0, from_take least most n vs from.1)
 
--- the last of small numbers are small
-pub small_drop : (n : ℕ) (vs : List ℕ) → AreSmall vs → AreSmall (drop n vs)
-small_drop zero vs small = small
-small_drop (suc n) [] small = tt
-small_drop (suc n) (v ∷ vs) small = small_drop n vs small.1
+-- and so are the last
+pub from_drop : (least most n : ℕ) (vs : List ℕ) → AreFrom least most vs → AreFrom least most (drop n vs)
+from_drop least most zero vs from = from
+from_drop least most (suc n) [] from = tt
+from_drop least most (suc n) (v ∷ vs) from = from_drop least most n vs from.1
 
 -- a table of one row more is longer by a row
-one_more : (c n len : ℕ) → len ≡ suc n * c → (c ≤ len) × (len - c ≡ n * c)
+pub one_more : (c n len : ℕ) → len ≡ suc n * c → (c ≤ len) × (len - c ≡ n * c)
 one_more c n len e = (omega arith, omega arith)
 
 -- the rows of classes are read as these classes
-pub classes_at_again : (c i : ℕ) (weights compat : List ℕ) (rest : List Row) → i + length weights ≤ 2 ^ 32 → length compat ≡ length weights * c → AreSmall weights → AreSmall compat
-    → classes_at c i (length weights) (class_rows c i weights compat ++ rest) ≡ Some ((weights, compat), rest)
+pub classes_at_again : (c i n : ℕ) (weights compat : List ℕ) (rest : List Row) → rest ≢ [] → i + length weights ≤ 2 ^ 32 → length compat ≡ length weights * c
+    → AreFrom 1 MAX_WEIGHT weights → AreFrom 0 MAX_COMPATIBILITY compat
+    → classes_at c i (length weights) (lines_from n (class_rows c i weights compat ++ rest)) ≡ Ok ((weights, compat), lines_from (number_after (length weights) n) rest)
 unfolding classes_at
-classes_at_again c i [] [] rest room len small_w small = refl
-classes_at_again c i [] (v ∷ compat) rest room len small_w small = absurd (omega arith)
-classes_at_again c i (w ∷ weights) compat rest room len small_w small =
+classes_at_again c i n [] [] rest some room len from_w from = refl
+classes_at_again c i n [] (v ∷ compat) rest some room len from_w from = absurd (omega arith)
+classes_at_again c i n (w ∷ weights) compat rest some room len from_w from =
     let long : c ≤ length compat = (one_more c (length weights) (length compat) len).0 in
     let of_class : length (take c compat) ≡ c = omega (arith, length-take c compat) in
     let others : length (drop c compat) ≡ length weights * c = length-drop c compat ∙ (one_more c (length weights) (length compat) len).1 in
-    let first : read_class c i (class_words i w (take c compat)) ≡ Some (w, take c compat) = subst (λ k. read_class k i (class_words i w (take c compat)) ≡ Some (w, take c compat)) of_class (read_class_again i w (take c compat) (omega arith) small_w.0 (small_take c compat small)) in
-    let more = classes_at_again c (i + 1) weights (drop c compat) rest (omega arith) others small_w.1 (small_drop c compat small) in
-    rw (first, more) (ap (λ vs. Some ((w ∷ weights, vs), rest)) (take-append-drop c compat))
+    let after : List Row = class_rows c (i + 1) weights (drop c compat) ++ rest in
+    let some_after : after ≢ [] = some_rows (class_rows c (i + 1) weights (drop c compat)) rest some in
+    let first : read_class c i (class_words i w (take c compat)) ≡ Some (w, take c compat) = subst (λ k. read_class k i (class_words i w (take c compat)) ≡ Some (w, take c compat)) of_class (read_class_again i w (take c compat) (omega arith) from_w.0.0 from_w.0.1 (from_take 0 MAX_COMPATIBILITY c compat from)) in
+    let more = classes_at_again c (i + 1) (next_number n) weights (drop c compat) rest some (omega arith) others from_w.1 (from_drop 0 MAX_COMPATIBILITY c compat from) in
+    rw (read_line_again {F = MapFault} BadLine (read_class c i) n (class_words i w (take c compat)) after (w, take c compat) some_after first, more)
+    (ap (λ vs. Ok ((w ∷ weights, vs), lines_from (number_after (length weights) (next_number n)) rest)) (take-append-drop c compat))
 
 -- ---- faces
 
--- what is read as the classes of n faces is spelled so
-pub faces_at_is : (f n : ℕ) (rows : List Row) (x : List ℕ × List Row) → faces_at f n rows ≡ Some x → (rows ≡ face_rows f x.0 ++ x.1) × (length x.0 ≡ n)
+-- the classes of n faces that are read are spelled so
+pub record AreFaces (c f n : ℕ) (lines : Lines) (x : List ℕ × Lines) : Type 0 where
+  pub spelled : lines.rows ≡ face_rows f x.0 ++ x.1.rows
+  pub count : length x.0 ≡ n
+  pub classes : AreFrom 0 (c - 1) x.0
+
+pub faces_at_is : (c f n : ℕ) (lines : Lines) (x : List ℕ × Lines) → faces_at c f n lines ≡ Ok x → AreFaces c f n lines x
 unfolding faces_at
-faces_at_is f zero rows x e =
-    let made : ([], rows) ≡ x = cc in
-    subst (λ (y : List ℕ × List Row). (rows ≡ face_rows f y.0 ++ y.1) × (length y.0 ≡ 0)) made (refl, refl)
-faces_at_is f (suc n) rows x e =
-    option_and_then_some _ (read_row (read_face f) rows) x e (λ first e0 r0.
-    option_and_then_some _ (faces_at (f + 1) n first.1) x r0 (λ more e1 r1.
-    let f0 = read_row_is (read_face f) rows first e0 in
-    let f1 = read_face_is f f0.0 first.0 f0.2 in
-    let f2 = faces_at_is (f + 1) n first.1 more e1 in
+faces_at_is c f zero lines x e =
+    let made : ([], lines) ≡ x = cc in
+    subst (λ (y : List ℕ × Lines). AreFaces c f 0 lines y) made (record { spelled = refl; count = refl; classes = tt })
+faces_at_is c f (suc n) lines x e =
+    bound _ (read_line BadLine (read_face c f) lines) x e (λ first e0 r0.
+    bound _ (faces_at c (f + 1) n first.1) x r0 (λ more e1 r1.
+    let row = read_line_is BadLine (read_face c f) lines first e0 in
+    let one = read_face_is c f row.0 first.0 row.2 in
+    let rest = faces_at_is c (f + 1) n first.1 more e1 in
     let made : (first.0 ∷ more.0, more.1) ≡ x = cc in
-    let spelled : rows ≡ face_rows f (first.0 ∷ more.0) ++ more.1 = cc in
-    subst (λ (y : List ℕ × List Row). (rows ≡ face_rows f y.0 ++ y.1) × (length y.0 ≡ suc n)) made (spelled, ap suc f2.1)))
+    let f0 = row.1 in
+    let f1 = one.0 in
+    let f2 = rest.spelled in
+    let spelled : lines.rows ≡ face_rows f (first.0 ∷ more.0) ++ more.1.rows = cc in
+    subst (λ (y : List ℕ × Lines). AreFaces c f (suc n) lines y) made
+    (record { spelled = spelled; count = ap suc rest.count; classes = ((omega arith, one.1), rest.classes) })))
 
 -- the rows of faces are read as their classes
-pub faces_at_again : (f : ℕ) (classes : List ℕ) (rest : List Row) → f + length classes ≤ 2 ^ 32 → AreSmall classes → faces_at f (length classes) (face_rows f classes ++ rest) ≡ Some (classes, rest)
+pub faces_at_again : (c f n : ℕ) (classes : List ℕ) (rest : List Row) → rest ≢ [] → f + length classes ≤ 2 ^ 32 → c ≤ 2 ^ 32 → AreFrom 0 (c - 1) classes
+    → faces_at c f (length classes) (lines_from n (face_rows f classes ++ rest)) ≡ Ok (classes, lines_from (number_after (length classes) n) rest)
 unfolding faces_at
-faces_at_again f [] rest room small = refl
-faces_at_again f (k ∷ classes) rest room small = rw (read_face_again f k (omega arith) small.0, faces_at_again (f + 1) classes rest (omega arith) small.1) refl
+faces_at_again c f n [] rest some room few from = refl
+faces_at_again c f n (k ∷ classes) rest some room few from =
+    let some_after = some_rows (face_rows (f + 1) classes) rest some in
+    let first = read_face_again c f k (omega arith) from.0.1 (omega (arith, from.0.1)) in
+    rw (read_line_again {F = MapFault} BadLine (read_face c f) n (face_words f k) (face_rows (f + 1) classes ++ rest) k some_after first, faces_at_again c (f + 1) (next_number n) classes rest some (omega arith) few from.1) refl
 
 -- ---- arcs
 
--- what is read as n arcs is spelled so
-pub arcs_at_is : (n : ℕ) (rows : List Row) (x : List BaseArc × List Row) → arcs_at n rows ≡ Some x → (rows ≡ map arc_words x.0 ++ x.1) × (length x.0 ≡ n)
-unfolding arcs_at
-arcs_at_is zero rows x e =
-    let made : ([], rows) ≡ x = cc in
-    subst (λ (y : List BaseArc × List Row). (rows ≡ map arc_words y.0 ++ y.1) × (length y.0 ≡ 0)) made (refl, refl)
-arcs_at_is (suc n) rows x e =
-    option_and_then_some _ (read_row read_arc rows) x e (λ first e0 r0.
-    option_and_then_some _ (arcs_at n first.1) x r0 (λ more e1 r1.
-    let f0 = read_row_is read_arc rows first e0 in
-    let f1 = read_arc_is f0.0 first.0 f0.2 in
-    let f2 = arcs_at_is n first.1 more e1 in
-    let made : (first.0 ∷ more.0, more.1) ≡ x = cc in
-    let spelled : rows ≡ map arc_words (first.0 ∷ more.0) ++ more.1 = cc in
-    subst (λ (y : List BaseArc × List Row). (rows ≡ map arc_words y.0 ++ y.1) × (length y.0 ≡ suc n)) made (spelled, ap suc f2.1)))
+-- an arc that is read is spelled so, and leaves the points within their limit
+pub record IsArcLine (n before : ℕ) (lines : Lines) (x : BaseArc × Lines) : Type 0 where
+  pub spelled : lines.rows ≡ arc_words x.0 ∷ x.1.rows
+  pub arc : is_arc n x.0 ≡ true
+  pub few : before + length x.0.points ≤ MAX_POINTS
 
--- the numbers of the arc's row are small, and its points within the limits
-pub record IsSmallArc (a : BaseArc) : Type 0 where
-  pub left : a.left < 2 ^ 32
-  pub right : a.right < 2 ^ 32
-  pub count : length a.points < 2 ^ 32
-  pub inside : list_all in_limits a.points ≡ true
+pub arc_at_is : (n before : ℕ) (lines : Lines) (x : BaseArc × Lines) → arc_at n before lines ≡ Ok x → IsArcLine n before lines x
+unfolding arc_at is_arc
+arc_at_is n before lines x e =
+    bound _ (ok_or (line_at lines) (BadLine lines.number)) x e (λ line e0 r0.
+    bound _ (ok_or (head_at n line.0) (BadLine lines.number)) x r0 (λ head e1 r1.
+    bound _ (within_limit Points MAX_POINTS (before + head.0.2)) x r1 (λ u e2 r2.
+    bound _ (ok_or (read_points head.0.2 head.1) (BadLine lines.number)) x r2 (λ points e3 r3.
+    let f0 = line_at_is lines line (ok_or_is (line_at lines) (BadLine lines.number) line e0) in
+    let one = head_at_is n line.0 head (ok_or_is (head_at n line.0) (BadLine lines.number) head e1) in
+    let all = read_points_is head.0.2 head.1 points (ok_or_is (read_points head.0.2 head.1) (BadLine lines.number) points e3) in
+    let f1 = one.spelled in
+    let f2 = all.spelled in
+    let f3 = all.count in
+    let a : BaseArc = record { left = head.0.0; right = head.0.1; points = points } in
+    let made : (a, line.1) ≡ x = cc in
+    let spelled : lines.rows ≡ arc_words a ∷ line.1.rows = cc in
+    let two : 2 ≤ length points = omega (arith, one.two, all.count) in
+    let differ : not (eqb head.0.0 head.0.1) ≡ true = ap not one.differ in
+    let fits : is_arc n a ≡ true = rw (le-leb head.0.0 n one.left, le-leb head.0.1 n one.right, one.differ, le-leb 2 (length points) two, all.inside, all.apart) refl in
+    let room = within_limit_is Points MAX_POINTS (before + head.0.2) u e2 in
+    subst (λ (y : BaseArc × Lines). IsArcLine n before lines y) made
+    (record { spelled = spelled; arc = fits; few = omega (arith, room, all.count) })))))
+
+-- the row of an arc is read as that arc
+pub arc_at_again : (n before k : ℕ) (a : BaseArc) (rest : List Row) → rest ≢ [] → n < 2 ^ 32 → is_arc n a ≡ true → before + length a.points ≤ MAX_POINTS
+    → arc_at n before (lines_from k (arc_words a ∷ rest)) ≡ Ok (a, lines_from (next_number k) rest)
+unfolding arc_at
+arc_at_again n before k a rest some few fits room =
+    let facts = arc_facts n a fits in
+    rw (
+      line_at_again k (arc_words a) rest some,
+      head_at_again n a.left a.right (length a.points) (flat_map point_words a.points) facts.left facts.right few facts.differ facts.two_points (omega arith),
+      within_limit_again Points MAX_POINTS (before + length a.points) room,
+      read_points_again a.points facts.in_limits facts.apart,
+    ) refl
+
+-- m arcs that are read are spelled so
+pub record AreArcs (n before m : ℕ) (lines : Lines) (x : List BaseArc × Lines) : Type 0 where
+  pub spelled : lines.rows ≡ map arc_words x.0 ++ x.1.rows
+  pub count : length x.0 ≡ m
+  pub arcs : list_all (is_arc n) x.0 ≡ true
+  pub few : before + count_points x.0 ≤ MAX_POINTS
+
+pub arcs_at_is : (n before m : ℕ) (lines : Lines) (x : List BaseArc × Lines) → before ≤ MAX_POINTS → arcs_at n before m lines ≡ Ok x → AreArcs n before m lines x
+unfolding arcs_at
+arcs_at_is n before zero lines x room e =
+    let made : ([], lines) ≡ x = cc in
+    subst (λ (y : List BaseArc × Lines). AreArcs n before 0 lines y) made (record { spelled = refl; count = refl; arcs = refl; few = omega arith })
+arcs_at_is n before (suc m) lines x room e =
+    bound _ (arc_at n before lines) x e (λ first e0 r0.
+    bound _ (arcs_at n (before + length first.0.points) m first.1) x r0 (λ more e1 r1.
+    let one = arc_at_is n before lines first e0 in
+    let rest = arcs_at_is n (before + length first.0.points) m first.1 more one.few e1 in
+    let made : (first.0 ∷ more.0, more.1) ≡ x = cc in
+    let f0 = one.spelled in
+    let f1 = rest.spelled in
+    let spelled : lines.rows ≡ map arc_words (first.0 ∷ more.0) ++ more.1.rows = cc in
+    let sum : count_points (first.0 ∷ more.0) ≡ length first.0.points + count_points more.0 = sum_by-cons (λ (b : BaseArc). length b.points) first.0 more.0 in
+    subst (λ (y : List BaseArc × Lines). AreArcs n before (suc m) lines y) made
+    (record { spelled = spelled; count = ap suc rest.count; arcs = and_from (is_arc n first.0) (list_all (is_arc n) more.0) one.arc rest.arcs; few = omega (arith, rest.few, sum) })))
 
 -- the rows of arcs are read as these arcs
-pub arcs_at_again : (arcs : List BaseArc) (rest : List Row) → AllByRecursion IsSmallArc arcs → arcs_at (length arcs) (map arc_words arcs ++ rest) ≡ Some (arcs, rest)
+pub arcs_at_again : (n before k : ℕ) (arcs : List BaseArc) (rest : List Row) → rest ≢ [] → n < 2 ^ 32 → list_all (is_arc n) arcs ≡ true → before + count_points arcs ≤ MAX_POINTS
+    → arcs_at n before (length arcs) (lines_from k (map arc_words arcs ++ rest)) ≡ Ok (arcs, lines_from (number_after (length arcs) k) rest)
 unfolding arcs_at
-arcs_at_again [] rest small = refl
-arcs_at_again (a ∷ arcs) rest small = rw (read_arc_again a small.0.left small.0.right small.0.count small.0.inside, arcs_at_again arcs rest small.1) refl
+arcs_at_again n before k [] rest some few fits room = refl
+arcs_at_again n before k (a ∷ arcs) rest some few fits room =
+    let parts = and_parts (is_arc n a) (list_all (is_arc n) arcs) fits in
+    let sum : count_points (a ∷ arcs) ≡ length a.points + count_points arcs = sum_by-cons (λ (b : BaseArc). length b.points) a arcs in
+    let some_after = some_rows (map arc_words arcs) rest some in
+    rw (arc_at_again n before k a (map arc_words arcs ++ rest) some_after few parts.0 (omega arith), arcs_at_again n (before + length a.points) (next_number k) arcs rest some few parts.1 (omega arith)) refl

@@ -1,2 +1,2 @@
-pub mod Reading
-pub mod Taking
+pub mod Fronts
+pub mod Written

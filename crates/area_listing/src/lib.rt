@@ -1,65 +1,70 @@
-//! The plain listing of a base map. It stands on `tgap_model`, whose `Listing` says how a base map is spelled, and on
-//! `plain_io`, which cuts a text into lines and words and reads numbers.
+//! The plain listing of a base map. It stands on `tgap_model`, whose `Listing` says how a base map is spelled and what the
+//! first fault of other bytes is, and on `plain_io`, which cuts a text into lines and words, and reads and writes numbers.
 #![tactic(auto)]
 
-ghost use Rattle.std.specs.Prelude.{◌≡◌, IfOk, Some, Err};
+ghost use Rattle.std.specs.Prelude.{◌≡◌, IfOk, Ok, Err};
 ghost use Rattle.tgap_model.specs.Base.{BaseMap};
-ghost use Rattle.tgap_model.specs.Listing.{IsListing, listing, read_listing};
-ghost use Rattle.area_listing.specs.Reading.{GivesBase};
-ghost use Rattle.area_listing.specs.Taking.{rows, GivesParts};
+ghost use Rattle.tgap_model.specs.declared.fault.MapFault.{MapFault as Fault};
+ghost use Rattle.tgap_model.specs.Listing.{IsListing, listing, map_at};
+ghost use Rattle.plain_io.specs.Taking.{GivesWhole};
+ghost use Rattle.area_listing.specs.Fronts.{GivesParts};
 
 mod fault;
 mod line;
 mod row;
 mod section;
+mod write;
 
-use fault::listed;
+use fault::at_line;
 use line::{read_end, read_heading, read_transform};
-use plain_io::Pieces;
+use plain_io::Lines;
 use section::{read_arcs, read_faces, read_rules};
 use std::alloc::Global;
 use tgap_model::{Base, BaseArc, List, MapFault, Or, Rules, Transform};
+pub use write::write_listing;
 
 /// The base map that a listing spells, by 'The area listing' of docs/formats.md.
 ///
-/// The fault is `BadLine` with line 0, exactly where the bytes are the listing of no base map. It is one pass over the
-/// bytes, in memory of a small multiple of them.
+/// The faults are `BadLine`, with the number of the first line that is not of its form, and `Limit`, where a count of a
+/// line of its form is above its limit. It is one pass over the bytes, in memory of a small multiple of them.
 pub fn read_listing(alloc: Global, bytes: &[u8]) -> Result<Base, Or<MapFault>>
+    // The base map, or the first fault, by the function that computes on small listings.
+    ensures exact { GivesWhole result (listing bytes.now) }
     // What is read is spelled so, each byte of it.
     ensures read { IfOk result (IsListing bytes.now) }
     // What is spelled so is read, and nothing else comes but want of memory.
-    ensures spelled { (m : BaseMap) → IsListing bytes.now m → GivesBase result (Some m) }
-    // The fault comes exactly where the bytes are the listing of no base map.
-    ensures fault { (f : MapFault) → result ≡ Err (Or.Fault f) → (m : BaseMap) → ¬ (IsListing bytes.now m) }
-    // The same, by the function that computes on small listings.
-    ensures exact { GivesBase result (listing bytes.now) }
+    ensures spelled { (m : BaseMap) → IsListing bytes.now m → GivesWhole result (Ok m) }
+    // A fault comes only where the bytes are the listing of no base map.
+    ensures fault { (f : Fault) → result ≡ Err (Or.Fault f) → (m : BaseMap) → ¬ (IsListing bytes.now m) }
 {
     read_checked(alloc, bytes)
 }
 
-/// The base map that the bytes list, by the definition of how a listing is read.
+/// The base map that the bytes list, or their first fault. Only the border of each face is left to be asked for before
+/// the last line: all else of a base map is asked line by line.
 #[tactic(auto, unfolding(tgap_model::specs::Listing::listing))]
 fn read_checked(alloc: Global, bytes: &[u8]) -> Result<Base, Or<MapFault>>
-    ensures { GivesBase result (listing bytes.now) }
+    ensures { GivesWhole result (listing bytes.now) }
 {
-    let mut lines = Pieces::lines(bytes);
-    let (transform, rules, classes, arcs) = read_parts(alloc, &mut lines)?;
-    listed(Base::new(transform, rules, classes, arcs))
+    let mut lines = Lines::of(bytes);
+    let (transform, rules, classes, arcs) = read_map(alloc, &mut lines)?;
+    let base = at_line(lines.number(), Base::new(transform, rules, classes, arcs))?;
+    read_end(&mut lines)?;
+    Ok(base)
 }
 
-/// The parts of the map that is listed, whether it is a base map or not.
-#[tactic(auto, unfolding(tgap_model::specs::Listing::read_listing))]
-fn read_parts(
+/// The parts of the map that is listed, up to the last line.
+#[tactic(auto, unfolding(tgap_model::specs::Listing::map_at))]
+fn read_map(
     alloc: Global,
-    lines: &mut Pieces,
+    lines: &mut Lines,
 ) -> Result<(Transform, Rules, List<u32>, List<BaseArc>), Or<MapFault>>
-    ensures { GivesParts result (read_listing (rows lines.old)) }
+    ensures { GivesParts result lines.new (map_at lines.old) }
 {
-    listed(read_heading(lines))?;
-    let transform = listed(read_transform(lines))?;
+    at_line(lines.number(), read_heading(lines))?;
+    let transform = at_line(lines.number(), read_transform(lines))?;
     let rules = read_rules(alloc, lines)?;
-    let classes = read_faces(alloc, lines)?;
-    let arcs = read_arcs(alloc, lines)?;
-    listed(read_end(lines))?;
+    let classes = read_faces(alloc, lines, rules.weights.len() as u32)?;
+    let arcs = read_arcs(alloc, lines, classes.len() as u32)?;
     Ok((transform, rules, classes, arcs))
 }

@@ -1,39 +1,37 @@
 //! The lines of a listing, each read whole.
 
-ghost use Rattle.std.specs.Prelude.{◌≡◌, ◌∷◌, [], codes};
-ghost use Rattle.tgap_model.specs.Listing.{row_at, read_row, read_words, read_transform, read_count, read_class, read_face, read_arc, end_at};
-ghost use Rattle.area_listing.specs.Taking.{rows, Takes, Gives, GivesWith, class_onto};
+ghost use Rattle.std.specs.Prelude.{◌≡◌, ◌≤◌, ◌∷◌, [], codes};
+ghost use Rattle.std.specs.Option.{ok_or};
+ghost use Rattle.tgap_model.specs.declared.fault.MapFault.TheVariants.{BadLine};
+ghost use Rattle.tgap_model.specs.Words.{read_words};
+ghost use Rattle.tgap_model.specs.Lines.{read_row, read_line};
+ghost use Rattle.tgap_model.specs.ListingLines.{read_transform, read_count, read_class, read_face};
+ghost use Rattle.tgap_model.specs.Listing.{count_line, arc_at, end_at};
+ghost use Rattle.plain_io.specs.Taking.{Takes, Gives, GivesWith, GivesWhole};
+ghost use Rattle.area_listing.specs.Fronts.{class_onto};
 
-use crate::fault::listed;
-use crate::row::{after_count, after_word, count_at, ended, points_at, push_counts, word_at};
-use plain_io::Pieces;
+use crate::fault::{at_line, within_limit};
+use crate::row::{head_at, push_compatibilities, read_points, word_at};
+use plain_io::{Lines, after_count, after_word, ended, natural_at};
 use std::alloc::Global;
-use tgap_model::{BaseArc, List, MapFault, Or, Transform};
-
-/// The words of the next line.
-pub fn row_at<'a>(lines: &mut Pieces<'a>) -> Option<Pieces<'a>>
-    ensures { Takes result (rows lines.new) (row_at (rows lines.old)) }
-{
-    let line = lines.next_piece()?;
-    Some(Pieces::words(line))
-}
+use tgap_model::{BaseArc, LimitKind, List, MAX_POINTS, MAX_WEIGHT, MapFault, Or, Transform};
 
 /// The first line: the name of the format, and its version.
-pub fn read_heading(lines: &mut Pieces) -> Option<()>
-    ensures { Takes result (rows lines.new) (read_row (read_words (codes "tgap" ∷ codes "1" ∷ [])) (rows lines.old)) }
+pub fn read_heading(lines: &mut Lines) -> Option<()>
+    ensures { Takes result lines.new (read_row (read_words (codes "tgap" ∷ codes "1" ∷ [])) lines.old) }
 {
-    let mut words = row_at(lines)?;
+    let mut words = lines.next_line()?;
     after_word(&mut words, b"tgap")?;
     after_word(&mut words, b"1")?;
     ended(&mut words, ())
 }
 
 /// The transform of the map.
-#[tactic(auto, unfolding(tgap_model::specs::Listing::read_transform))]
-pub fn read_transform(lines: &mut Pieces) -> Option<Transform>
-    ensures { Takes result (rows lines.new) (read_row read_transform (rows lines.old)) }
+#[tactic(auto, unfolding(tgap_model::specs::ListingLines::read_transform))]
+pub fn read_transform(lines: &mut Lines) -> Option<Transform>
+    ensures { Takes result lines.new (read_row read_transform lines.old) }
 {
-    let mut words = row_at(lines)?;
+    let mut words = lines.next_line()?;
     after_word(&mut words, b"transform")?;
     let sx = word_at(&mut words)?;
     let sy = word_at(&mut words)?;
@@ -42,81 +40,105 @@ pub fn read_transform(lines: &mut Pieces) -> Option<Transform>
     ended(&mut words, Transform { sx, sy, tx, ty })
 }
 
-/// A line of this keyword and a count.
-#[tactic(auto, unfolding(tgap_model::specs::Listing::read_count))]
-pub fn read_count(lines: &mut Pieces, keyword: &[u8]) -> Option<u32>
-    ensures { Takes result (rows lines.new) (read_row (read_count keyword.now) (rows lines.old)) }
+/// A line of this keyword and a number from `least` to `most`.
+#[tactic(auto, unfolding(tgap_model::specs::ListingLines::read_count))]
+pub fn read_count(lines: &mut Lines, keyword: &[u8], least: u32, most: u32) -> Option<u32>
+    ensures { Takes result lines.new (read_row (read_count keyword.now least most) lines.old) }
 {
-    let mut words = row_at(lines)?;
+    let mut words = lines.next_line()?;
     after_word(&mut words, keyword)?;
-    let count = count_at(&mut words)?;
+    let count = natural_at(&mut words, least, most)?;
     ended(&mut words, count)
 }
 
+/// A line of this keyword and a count from `least` on, of which there may be so many.
+#[tactic(auto, unfolding(tgap_model::specs::Listing::count_line))]
+pub fn count_line(
+    lines: &mut Lines,
+    which: LimitKind,
+    limit: usize,
+    keyword: &[u8],
+    least: u32,
+) -> Result<u32, Or<MapFault>>
+    ensures { Gives result lines.new (count_line which limit keyword.now least lines.old) }
+{
+    let count = at_line(lines.number(), read_count(lines, keyword, least, u32::MAX))?;
+    within_limit(which, limit, u64::from(count))?;
+    Ok(count)
+}
+
 /// The weight of this class, of so many in all. Its compatibilities are put after those of `compat`.
-#[tactic(auto, unfolding(tgap_model::specs::Listing::read_class))]
+#[tactic(auto, unfolding(tgap_model::specs::ListingLines::read_class))]
 pub fn read_class(
-    lines: &mut Pieces,
+    lines: &mut Lines,
     classes: u32,
     class: u32,
     compat: &mut List<u32>,
 ) -> Result<u32, Or<MapFault>>
-    ensures { GivesWith result compat.new (rows lines.new) (class_onto compat.old (read_row (read_class classes class) (rows lines.old))) }
+    ensures { GivesWith result compat.new lines.new (class_onto compat.old (read_line BadLine (read_class classes class) lines.old)) }
 {
-    let mut words = listed(row_at(lines))?;
-    listed(after_word(&mut words, b"class"))?;
-    listed(after_count(&mut words, class))?;
-    let weight = listed(count_at(&mut words))?;
-    push_counts(&mut words, classes, compat)?;
-    listed(ended(&mut words, weight))
+    let line = lines.number();
+    let mut words = at_line(line, lines.next_line())?;
+    at_line(line, after_word(&mut words, b"class"))?;
+    at_line(line, after_count(&mut words, class))?;
+    let weight = at_line(line, natural_at(&mut words, 1, MAX_WEIGHT))?;
+    push_compatibilities(&mut words, line, classes, compat)?;
+    at_line(line, ended(&mut words, weight))
 }
 
-/// The class of this face.
-#[tactic(auto, unfolding(tgap_model::specs::Listing::read_face))]
-pub fn read_face(lines: &mut Pieces, face: u32) -> Option<u32>
-    ensures { Takes result (rows lines.new) (read_row (read_face face) (rows lines.old)) }
+/// The class of this face, where there are so many classes.
+#[tactic(auto, unfolding(tgap_model::specs::ListingLines::read_face))]
+pub fn read_face(lines: &mut Lines, classes: u32, face: u32) -> Option<u32>
+    ensures { Takes result lines.new (read_row (read_face classes face) lines.old) }
 {
-    let mut words = row_at(lines)?;
+    let mut words = lines.next_line()?;
     after_word(&mut words, b"face")?;
     after_count(&mut words, face)?;
-    let class = count_at(&mut words)?;
+    let class = natural_at(&mut words, 0, classes.saturating_sub(1))?;
     ended(&mut words, class)
 }
 
-/// An arc: its faces and its points.
-#[tactic(auto, unfolding(tgap_model::specs::Listing::read_arc))]
-pub fn read_arc(alloc: Global, lines: &mut Pieces) -> Result<BaseArc, Or<MapFault>>
-    ensures { Gives result (rows lines.new) (read_row read_arc (rows lines.old)) }
+/// An arc of a map with so many faces, after arcs with so many points.
+#[tactic(auto, unfolding(tgap_model::specs::Listing::arc_at))]
+pub fn read_arc(
+    alloc: Global,
+    lines: &mut Lines,
+    faces: u32,
+    before: usize,
+) -> Result<BaseArc, Or<MapFault>>
+    requires { before ≤ MAX_POINTS }
+    ensures { Gives result lines.new (arc_at faces before lines.old) }
 {
-    let mut words = listed(row_at(lines))?;
-    listed(after_word(&mut words, b"arc"))?;
-    let left = listed(count_at(&mut words))?;
-    let right = listed(count_at(&mut words))?;
-    let count = listed(count_at(&mut words))?;
-    let points = points_at(alloc, &mut words, count)?;
-    let arc = BaseArc {
+    let line = lines.number();
+    let mut words = at_line(line, lines.next_line())?;
+    let (left, right, count) = at_line(line, head_at(&mut words, faces))?;
+    within_limit(
+        LimitKind::Points,
+        MAX_POINTS,
+        before as u64 + u64::from(count),
+    )?;
+    let points = read_points(alloc, &mut words, line, count)?;
+    Ok(BaseArc {
         left,
         right,
         points,
-    };
-    listed(ended(&mut words, arc))
+    })
 }
 
-/// The last line, and nothing after it: past its line feed stands one empty word.
+/// The last line, and nothing after it.
 #[tactic(auto, unfolding(tgap_model::specs::Listing::end_at))]
-pub fn read_end(lines: &mut Pieces) -> Option<()>
-    ensures { result ≡ end_at (rows lines.old) }
+pub fn read_end(lines: &mut Lines) -> Result<(), Or<MapFault>>
+    ensures { GivesWhole result (end_at lines.old) }
 {
-    read_word(lines, b"end")?;
-    read_word(lines, b"")?;
-    ended(lines, ())
+    at_line(lines.number(), read_last(lines))?;
+    at_line(lines.number(), lines.is_over().then_some(()))
 }
 
-/// A line of this word alone.
-fn read_word(lines: &mut Pieces, word: &[u8]) -> Option<()>
-    ensures { Takes result (rows lines.new) (read_row (read_words (word.now ∷ [])) (rows lines.old)) }
+/// The last line.
+fn read_last(lines: &mut Lines) -> Option<()>
+    ensures { Takes result lines.new (read_row (read_words (codes "end" ∷ [])) lines.old) }
 {
-    let mut words = row_at(lines)?;
-    after_word(&mut words, word)?;
+    let mut words = lines.next_line()?;
+    after_word(&mut words, b"end")?;
     ended(&mut words, ())
 }

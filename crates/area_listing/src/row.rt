@@ -1,30 +1,18 @@
-//! The words of a row, one after another.
+//! The words of a line of a listing, one after another.
 
-ghost use Rattle.std.specs.Prelude.{◌≡◌, ◌≤ℤ◌, IfSome};
-ghost use Rattle.tgap_model.specs.Listing.{after_word, number_at, count_at, after_count, ended, word_at, coordinate_at, counts_at, points_at};
-ghost use Rattle.area_listing.specs.Taking.{Takes, Skips, Gives, GivesOnto, point_at, with_front};
+ghost use Rattle.std.specs.Prelude.{◌≡◌};
+ghost use Rattle.std.specs.Option.{ok_or};
+ghost use Rattle.tgap_model.specs.ListingLines.{word_at, coordinate_at, naturals_at, points_at, head_at, read_points};
+ghost use Rattle.tgap_model.specs.declared.fault.MapFault.TheVariants.{BadLine};
+ghost use Rattle.plain_io.specs.Taking.{Takes, Gives, GivesOnto, GivesWhole};
+ghost use Rattle.area_listing.specs.Fronts.{point_at, with_front};
 
-use crate::fault::listed;
-use plain_io::{Pieces, read_number};
+use crate::fault::at_line;
+use plain_io::{Pieces, after_word, ended, natural_at, number_at};
 use std::alloc::Global;
-use tgap_model::{List, MAX_COORDINATE, MapFault, Or, Point};
-
-/// The next word, a number from `least` to `most`.
-pub fn number_at(words: &mut Pieces, least: i64, most: i64) -> Option<i64>
-    ensures taken { Takes result words.new (number_at least most words.old) }
-    ensures range { IfSome result (λ n. (least ≤ℤ n) × (n ≤ℤ most)) }
-{
-    let word = words.next_piece()?;
-    read_number(word, least, most)
-}
-
-/// The next word, a number of 32 bits without a sign.
-pub fn count_at(words: &mut Pieces) -> Option<u32>
-    ensures { Takes result words.new (count_at words.old) }
-{
-    let count = number_at(words, 0, u32::MAX as i64)?;
-    Some(count as u32)
-}
+use tgap_model::{
+    List, MAX_COMPATIBILITY, MAX_COORDINATE, MapFault, Or, Point, are_without_repeat,
+};
 
 /// The next word, a number of 32 bits with a sign.
 pub fn word_at(words: &mut Pieces) -> Option<i32>
@@ -35,14 +23,14 @@ pub fn word_at(words: &mut Pieces) -> Option<i32>
 }
 
 /// The next word, a coordinate within the limits.
-pub fn coordinate_at(words: &mut Pieces) -> Option<i64>
+fn coordinate_at(words: &mut Pieces) -> Option<i64>
     ensures { Takes result words.new (coordinate_at words.old) }
 {
     number_at(words, -MAX_COORDINATE, MAX_COORDINATE)
 }
 
 /// The next two words, the coordinates of a point.
-pub fn point_at(words: &mut Pieces) -> Option<Point>
+fn point_at(words: &mut Pieces) -> Option<Point>
     ensures { Takes result words.new (point_at words.old) }
 {
     let x = coordinate_at(words)?;
@@ -50,48 +38,67 @@ pub fn point_at(words: &mut Pieces) -> Option<Point>
     Some(Point { x, y })
 }
 
-/// Passes over the next word, which is this one.
-pub fn after_word(words: &mut Pieces, word: &[u8]) -> Option<()>
-    ensures { Skips result words.new (after_word word.now words.old) }
+/// What stands before the points of an arc of a map with so many faces: its left and right face, which differ, and how
+/// many points it has.
+#[tactic(auto, unfolding(tgap_model::specs::ListingLines::head_at))]
+pub fn head_at(words: &mut Pieces, faces: u32) -> Option<(u32, u32, u32)>
+    ensures { Takes result words.new (head_at faces words.old) }
 {
-    let next = words.next_piece()?;
-    (next == word).then_some(())
+    after_word(words, b"arc")?;
+    let left = natural_at(words, 0, faces)?;
+    let right = natural_at(words, 0, faces)?;
+    let count = natural_at(words, 2, u32::MAX)?;
+    if left == right {
+        None
+    } else {
+        Some((left, right, count))
+    }
 }
 
-/// Passes over the next word, which is this number.
-pub fn after_count(words: &mut Pieces, count: u32) -> Option<()>
-    ensures { Skips result words.new (after_count count words.old) }
-{
-    let next = count_at(words)?;
-    (next == count).then_some(())
-}
-
-/// The value, where no word is left.
-pub fn ended<T: Drop>(words: &mut Pieces, value: T) -> Option<T>
-    ensures { result ≡ ended value words.old }
-{
-    words.next_piece().is_none().then_some(value)
-}
-
-/// The next `n` words, each a count, put after those of `counts`.
-pub fn push_counts(words: &mut Pieces, n: u32, counts: &mut List<u32>) -> Result<(), Or<MapFault>>
-    ensures { GivesOnto result counts.new words.new (with_front counts.old (counts_at n words.old)) }
+/// The next `n` words of the line with this number, each a compatibility, put after those of `compat`.
+pub fn push_compatibilities(
+    words: &mut Pieces,
+    line: u32,
+    n: u32,
+    compat: &mut List<u32>,
+) -> Result<(), Or<MapFault>>
+    ensures { GivesOnto result compat.new words.new (ok_or (with_front compat.old (naturals_at 0 MAX_COMPATIBILITY n words.old)) (BadLine line)) }
 {
     for _ in 0..n {
-        let count = listed(count_at(words))?;
-        counts.push(count)?;
+        let value = at_line(line, natural_at(words, 0, MAX_COMPATIBILITY))?;
+        compat.push(value)?;
     }
     Ok(())
 }
 
-/// The next `n` points, of two words each.
-pub fn points_at(alloc: Global, words: &mut Pieces, n: u32) -> Result<List<Point>, Or<MapFault>>
-    ensures { Gives result words.new (points_at n words.old) }
+/// The next `n` points of the line with this number, of two words each.
+fn points_at(
+    alloc: Global,
+    words: &mut Pieces,
+    line: u32,
+    n: u32,
+) -> Result<List<Point>, Or<MapFault>>
+    ensures { Gives result words.new (ok_or (points_at n words.old) (BadLine line)) }
 {
     let mut points = List::new(alloc);
     for _ in 0..n {
-        let point = listed(point_at(words))?;
+        let point = at_line(line, point_at(words))?;
         points.push(point)?;
     }
     Ok(points)
+}
+
+/// The `n` points to the end of the line with this number, no two in a row equal.
+#[tactic(auto, unfolding(tgap_model::specs::ListingLines::read_points))]
+pub fn read_points(
+    alloc: Global,
+    words: &mut Pieces,
+    line: u32,
+    n: u32,
+) -> Result<List<Point>, Or<MapFault>>
+    ensures { GivesWhole result (ok_or (read_points n words.old) (BadLine line)) }
+{
+    let points = points_at(alloc, words, line, n)?;
+    at_line(line, are_without_repeat(points.as_slice()).then_some(()))?;
+    at_line(line, ended(words, points))
 }

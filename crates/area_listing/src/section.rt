@@ -2,21 +2,23 @@
 
 ghost use Rattle.std.specs.Prelude.{◌≡◌};
 ghost use Rattle.tgap_model.specs.Listing.{classes_at, faces_at, arcs_at, rules_at, all_faces_at, all_arcs_at};
-ghost use Rattle.area_listing.specs.Taking.{rows, Gives};
+ghost use Rattle.plain_io.specs.Taking.{Gives};
 
-use crate::fault::listed;
-use crate::line::{read_arc, read_class, read_count, read_face};
-use plain_io::Pieces;
+use crate::fault::at_line;
+use crate::line::{count_line, read_arc, read_class, read_count, read_face};
+use plain_io::Lines;
 use std::alloc::Global;
-use tgap_model::{BaseArc, List, MapFault, Or, Rules};
+use tgap_model::{
+    BaseArc, LimitKind, List, MAX_ARCS, MAX_CLASSES, MAX_FACES, MAX_RATIO, MapFault, Or, Rules,
+};
 
 /// The line of the ratio, and the classes.
 #[tactic(auto, unfolding(tgap_model::specs::Listing::rules_at))]
-pub fn read_rules(alloc: Global, lines: &mut Pieces) -> Result<Rules, Or<MapFault>>
-    ensures { Gives result (rows lines.new) (rules_at (rows lines.old)) }
+pub fn read_rules(alloc: Global, lines: &mut Lines) -> Result<Rules, Or<MapFault>>
+    ensures { Gives result lines.new (rules_at lines.old) }
 {
-    let ratio = listed(read_count(lines, b"ratio"))?;
-    let count = listed(read_count(lines, b"classes"))?;
+    let ratio = at_line(lines.number(), read_count(lines, b"ratio", 0, MAX_RATIO))?;
+    let count = count_line(lines, LimitKind::Classes, MAX_CLASSES, b"classes", 1)?;
     let (weights, compat) = classes_at(alloc, lines, count)?;
     Ok(Rules {
         ratio,
@@ -25,31 +27,35 @@ pub fn read_rules(alloc: Global, lines: &mut Pieces) -> Result<Rules, Or<MapFaul
     })
 }
 
-/// The number of the faces, and the class of each.
+/// The number of the faces, and the class of each, where there are so many classes.
 #[tactic(auto, unfolding(tgap_model::specs::Listing::all_faces_at))]
-pub fn read_faces(alloc: Global, lines: &mut Pieces) -> Result<List<u32>, Or<MapFault>>
-    ensures { Gives result (rows lines.new) (all_faces_at (rows lines.old)) }
+pub fn read_faces(alloc: Global, lines: &mut Lines, classes: u32) -> Result<List<u32>, Or<MapFault>>
+    ensures { Gives result lines.new (all_faces_at classes lines.old) }
 {
-    let count = listed(read_count(lines, b"faces"))?;
-    faces_at(alloc, lines, count)
+    let count = count_line(lines, LimitKind::Faces, MAX_FACES, b"faces", 0)?;
+    faces_at(alloc, lines, classes, count)
 }
 
-/// The number of the arcs, and each arc.
+/// The number of the arcs, and each arc, of a map with so many faces.
 #[tactic(auto, unfolding(tgap_model::specs::Listing::all_arcs_at))]
-pub fn read_arcs(alloc: Global, lines: &mut Pieces) -> Result<List<BaseArc>, Or<MapFault>>
-    ensures { Gives result (rows lines.new) (all_arcs_at (rows lines.old)) }
+pub fn read_arcs(
+    alloc: Global,
+    lines: &mut Lines,
+    faces: u32,
+) -> Result<List<BaseArc>, Or<MapFault>>
+    ensures { Gives result lines.new (all_arcs_at faces lines.old) }
 {
-    let count = listed(read_count(lines, b"arcs"))?;
-    arcs_at(alloc, lines, count)
+    let count = count_line(lines, LimitKind::Arcs, MAX_ARCS, b"arcs", 0)?;
+    arcs_at(alloc, lines, faces, count)
 }
 
 /// The weights of the next `n` classes, from class 0 on, and their compatibilities, row after row.
 fn classes_at(
     alloc: Global,
-    lines: &mut Pieces,
+    lines: &mut Lines,
     n: u32,
 ) -> Result<(List<u32>, List<u32>), Or<MapFault>>
-    ensures { Gives result (rows lines.new) (classes_at n 0 n (rows lines.old)) }
+    ensures { Gives result lines.new (classes_at n 0 n lines.old) }
 {
     let mut weights = List::new(alloc);
     let mut compat = List::new(alloc);
@@ -60,25 +66,37 @@ fn classes_at(
     Ok((weights, compat))
 }
 
-/// The classes of the next `n` faces, from face 1 on.
-fn faces_at(alloc: Global, lines: &mut Pieces, n: u32) -> Result<List<u32>, Or<MapFault>>
-    ensures { Gives result (rows lines.new) (faces_at 1 n (rows lines.old)) }
+/// The classes of the next `n` faces, from face 1 on, where there are so many classes.
+fn faces_at(
+    alloc: Global,
+    lines: &mut Lines,
+    classes: u32,
+    n: u32,
+) -> Result<List<u32>, Or<MapFault>>
+    ensures { Gives result lines.new (faces_at classes 1 n lines.old) }
 {
-    let mut classes = List::new(alloc);
+    let mut all = List::new(alloc);
     for before in 0..n {
-        let class = listed(read_face(lines, before + 1))?;
-        classes.push(class)?;
+        let class = at_line(lines.number(), read_face(lines, classes, before + 1))?;
+        all.push(class)?;
     }
-    Ok(classes)
+    Ok(all)
 }
 
-/// The next `n` arcs.
-fn arcs_at(alloc: Global, lines: &mut Pieces, n: u32) -> Result<List<BaseArc>, Or<MapFault>>
-    ensures { Gives result (rows lines.new) (arcs_at n (rows lines.old)) }
+/// The next `n` arcs of a map with so many faces.
+fn arcs_at(
+    alloc: Global,
+    lines: &mut Lines,
+    faces: u32,
+    n: u32,
+) -> Result<List<BaseArc>, Or<MapFault>>
+    ensures { Gives result lines.new (arcs_at faces 0 n lines.old) }
 {
     let mut arcs = List::new(alloc);
+    let mut points = 0;
     for _ in 0..n {
-        let arc = read_arc(alloc, lines)?;
+        let arc = read_arc(alloc, lines, faces, points)?;
+        points += arc.points.len();
         arcs.push(arc)?;
     }
     Ok(arcs)

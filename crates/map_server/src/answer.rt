@@ -16,16 +16,14 @@ const SINK_FAULT: u8 = 6;
 /// What the program answers.
 #[derive(Debug, Drop)]
 pub enum Answer {
-    /// The borders text.
-    Borders(Text),
+    /// The command was done; the text is what was asked for.
+    Done(Text),
     /// The words are no command.
     Usage,
     /// The map could not be loaded.
     LoadFault,
-    /// The map is the listing of no base map.
-    BadLine,
-    /// The map is longer than the limit.
-    InputLong,
+    /// The map is refused; the text tells the fault.
+    Refused(Text),
     /// The step is above the number of steps; the text tells that number.
     StepTooHigh(Text),
     /// An allocation was refused.
@@ -38,10 +36,10 @@ impl Answer {
         ensures { result ≡ (answer_of self.now).status }
     {
         match self {
-            Answer::Borders(_) => 0,
+            Answer::Done(_) => 0,
             Answer::Usage => 2,
             Answer::LoadFault => 3,
-            Answer::BadLine | Answer::InputLong => 4,
+            Answer::Refused(_) => 4,
             Answer::StepTooHigh(_) => 5,
             Answer::OutOfMemory => 7,
         }
@@ -52,11 +50,11 @@ impl Answer {
         ensures { result.now ≡ (answer_of self.now).text }
     {
         match self {
-            Answer::Borders(text) | Answer::StepTooHigh(text) => text.as_slice(),
+            Answer::Done(text) | Answer::Refused(text) | Answer::StepTooHigh(text) => {
+                text.as_slice()
+            }
             Answer::Usage => USAGE.as_bytes(),
             Answer::LoadFault => b"load fault map\n",
-            Answer::BadLine => b"refused 18 bad-line 0\n",
-            Answer::InputLong => b"refused 20 input-long 16777216\n",
             Answer::OutOfMemory => b"memory\n",
         }
     }

@@ -16,8 +16,6 @@ use std::alloc::Global;
 use std::process::ExitCode;
 use std::rt::Env;
 use std::{env, io};
-pub use text::borders_text;
-pub use tgap_model::BorderRow;
 use tgap_model::Memory;
 
 fn main(rt: HostRuntime) -> ExitCode {

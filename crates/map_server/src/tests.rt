@@ -1,5 +1,6 @@
 //! The program over files and sinks in memory: worked maps, bad input and faults of the outside.
 use crate::run;
+use area_listing::{read_listing, write_listing};
 use plain_io::{
     FileTexts, Files, HostFiles, HostSink, LoadFail, MemoryFile, MemoryFiles, MemorySink, Sink,
     SureFiles, SureSink, Which,
@@ -28,8 +29,6 @@ const LONELY_FACE: &str =
 
 const USAGE: &str =
     "usage: borders MAP STEP | check MAP [OBJECT RULES] | slice MAP STEP [OBJECT RULES] | packet MAP FROM TO [OBJECT RULES] | replay SLICE PACKET | grid N | serve MAP PORT WORKERS VERSIONS [OBJECT RULES]\n";
-
-const BAD_LINE: &str = "refused 18 bad-line 0\n";
 
 /// Files of which there is one, with that name and these bytes. The listed loads fail.
 fn one_file(
@@ -130,7 +129,23 @@ fn worked_maps(rt: HostRuntime) -> Result<(), Fail> {
         (TWO_SQUARES, "borders map 01", 2, USAGE),
         (TWO_SQUARES, "borders map -1", 2, USAGE),
         (TWO_SQUARES, "borders map 4294967296", 2, USAGE),
-        (TWO_SQUARES, "check map", 2, USAGE),
+        (TWO_SQUARES, "check map", 0, "ok faces 2 arcs 3 points 10\n"),
+        (
+            FOUR_SQUARES,
+            "check map",
+            0,
+            "ok faces 4 arcs 8 points 20\n",
+        ),
+        (
+            HOLE_WITH_FACE,
+            "check map",
+            0,
+            "ok faces 2 arcs 2 points 10\n",
+        ),
+        (TWO_SQUARES, "check none", 3, "load fault map\n"),
+        (TWO_SQUARES, "check", 2, USAGE),
+        (TWO_SQUARES, "check map 1", 2, USAGE),
+        (TWO_SQUARES, "Check map", 2, USAGE),
     ] {
         let mut files = one_file(alloc, "map", map.as_bytes(), List::new(alloc))?;
         let mut out = MemorySink::new(alloc, 1000, List::new(alloc))?;
@@ -160,33 +175,43 @@ fn with_line(alloc: Global, number: usize, line: &[u8]) -> Result<Vec<u8>, Memor
 #[test]
 fn bad_listings(rt: HostRuntime) -> Result<(), Fail> {
     let alloc = rt.alloc();
-    let cases: [(usize, &[u8]); 24] = [
-        (1, b"tgap 2"),
-        (1, b"tgap 1\r"),
-        (1, b"\xff\xfe"),
-        (2, b"transform 1 1 0"),
-        (2, b"transform 1 1 0 2147483648"),
-        (3, b"ratio 016"),
-        (3, b"ratio 65536"),
-        (3, b"ratio  16"),
-        (4, b"classes 257"),
-        (4, b"classes 99999999999999999999999999"),
-        (5, b"class 0 0 1"),
-        (5, b"class 0 1 1001"),
-        (5, b"class 0 1 1 1"),
-        (8, b"face 2 1"),
-        (8, b"face 3 0"),
-        (10, b"arc 1 1 4 10 10 0 10 0 0 10 0"),
-        (10, b"arc 1 3 4 10 10 0 10 0 0 10 0"),
-        (10, b"arc 1 0 4 10 10 0 10 0 10 10 0"),
-        (10, b"arc 1 0 4 10 10 0 10 0 0 +10 0"),
-        (10, b"arc 1 0 4 10 10 0 10 0 0 268435457 0"),
-        (11, b"arc 1 0 4 10 0 20 0 20 10 10 10 "),
-        (12, b"arc 1 0 1 10 0"),
-        (13, b"end\nend"),
-        (13, b""),
+    let cases: [(usize, &[u8], &str); 30] = [
+        (1, b"tgap 2", "18 bad-line 1"),
+        (1, b"tgap 1\r", "18 bad-line 1"),
+        (1, b"\xff\xfe", "18 bad-line 1"),
+        (2, b"transform 1 1 0", "18 bad-line 2"),
+        (2, b"transform 1 1 0 2147483648", "18 bad-line 2"),
+        (3, b"ratio 016", "18 bad-line 3"),
+        (3, b"ratio 65536", "18 bad-line 3"),
+        (3, b"ratio  16", "18 bad-line 3"),
+        (4, b"classes 0", "18 bad-line 4"),
+        (4, b"classes 257", "9 limit classes 257"),
+        (4, b"classes 99999999999999999999999999", "18 bad-line 4"),
+        (5, b"class 0 0 1", "18 bad-line 5"),
+        (5, b"class 0 1 1001", "18 bad-line 5"),
+        (5, b"class 0 1 1 1", "18 bad-line 5"),
+        (6, b"faces 32769", "9 limit faces 32769"),
+        (6, b"faces 4294967296", "18 bad-line 6"),
+        (8, b"face 2 1", "18 bad-line 8"),
+        (8, b"face 3 0", "18 bad-line 8"),
+        (9, b"arcs 65537", "9 limit arcs 65537"),
+        (10, b"arc 1 1 4 10 10 0 10 0 0 10 0", "18 bad-line 10"),
+        (10, b"arc 1 3 4 10 10 0 10 0 0 10 0", "18 bad-line 10"),
+        (10, b"arc 1 0 4 10 10 0 10 0 10 10 0", "18 bad-line 10"),
+        (10, b"arc 1 0 4 10 10 0 10 0 0 +10 0", "18 bad-line 10"),
+        (
+            10,
+            b"arc 1 0 4 10 10 0 10 0 0 268435457 0",
+            "18 bad-line 10",
+        ),
+        (10, b"arc 1 0 131073", "9 limit points 131073"),
+        (11, b"arc 2 0 131069 and more", "9 limit points 131073"),
+        (11, b"arc 2 0 4 10 0 20 0 20 10 10 10 ", "18 bad-line 11"),
+        (12, b"arc 1 0 1 10 0", "18 bad-line 12"),
+        (13, b"end\nend", "18 bad-line 14"),
+        (13, b"", "18 bad-line 13"),
     ];
-    for (number, line) in cases {
+    for (number, line, fault) in cases {
         let bytes = with_line(alloc, number, line)?;
         let mut files = one_file(alloc, "map", bytes.as_slice(), List::new(alloc))?;
         let mut out = MemorySink::new(alloc, 100, List::new(alloc))?;
@@ -194,9 +219,10 @@ fn bad_listings(rt: HostRuntime) -> Result<(), Fail> {
         assert_eq!(rt;
             run(&rt, alloc, words.as_slice(), &mut files, &mut out),
             4,
-            "line {number}"
+            "{fault}"
         );
-        assert_eq!(rt; out.bytes(), BAD_LINE.as_bytes(), "line {number}");
+        let text = format!(in alloc; "refused {fault}\n")?;
+        assert_eq!(rt; out.bytes(), text.as_bytes(), "{fault}");
     }
     Ok(())
 }
@@ -208,16 +234,176 @@ fn cut_long_and_lonely_files(rt: HostRuntime) -> Result<(), Fail> {
     let long = vec![in alloc; b' '; 16_777_217]?;
     let cut = TWO_SQUARES.len() - 4;
     for (bytes, text) in [
-        (&TWO_SQUARES.as_bytes()[..cut], BAD_LINE),
-        (&TWO_SQUARES.as_bytes()[..cut + 3], BAD_LINE),
-        (b"".as_slice(), BAD_LINE),
-        (LONELY_FACE.as_bytes(), BAD_LINE),
+        (&TWO_SQUARES.as_bytes()[..cut], "refused 18 bad-line 13\n"),
+        (
+            &TWO_SQUARES.as_bytes()[..cut + 3],
+            "refused 18 bad-line 13\n",
+        ),
+        (b"".as_slice(), "refused 18 bad-line 1\n"),
+        (LONELY_FACE.as_bytes(), "refused 18 bad-line 9\n"),
         (long.as_slice(), "refused 20 input-long 16777216\n"),
     ] {
         let mut files = one_file(alloc, "map", bytes, List::new(alloc))?;
         let mut out = MemorySink::new(alloc, 100, List::new(alloc))?;
         assert_eq!(rt; run(&rt, alloc, words.as_slice(), &mut files, &mut out), 4);
         assert_eq!(rt; out.bytes(), text.as_bytes());
+    }
+    Ok(())
+}
+
+/// The listing of a map of one class with so many faces and these arcs.
+fn listing_of(alloc: Global, faces: u32, arcs: &[&str]) -> Result<Vec<u8>, Memory> {
+    let mut bytes = Vec::new(alloc);
+    let head = "tgap 1\ntransform 1 1 0 0\nratio 16\nclasses 1\nclass 0 1 1\n";
+    bytes.extend_from_slice(head.as_bytes())?;
+    bytes.extend_from_slice(format!(in alloc; "faces {faces}\n")?.as_bytes())?;
+    for face in 0..faces {
+        bytes.extend_from_slice(format!(in alloc; "face {} 0\n", face + 1)?.as_bytes())?;
+    }
+    bytes.extend_from_slice(format!(in alloc; "arcs {}\n", arcs.len())?.as_bytes())?;
+    for arc in arcs {
+        bytes.extend_from_slice(format!(in alloc; "arc {arc}\n")?.as_bytes())?;
+    }
+    bytes.extend_from_slice(b"end\n")?;
+    Ok(bytes)
+}
+
+#[test]
+fn checked_maps(rt: HostRuntime) -> Result<(), Fail> {
+    let alloc = rt.alloc();
+    let cases: [(u32, &[&str], u8, &str); 12] = [
+        (0, &[], 0, "ok faces 0 arcs 0 points 0"),
+        (
+            2,
+            &["1 0 2 0 0 5 5", "2 0 2 0 5 5 0"],
+            4,
+            "refused 15 meets 0 1 125 125 50",
+        ),
+        (
+            2,
+            &["1 0 2 0 0 10 0", "2 0 2 5 0 5 5"],
+            4,
+            "refused 15 meets 0 1 250 0 50",
+        ),
+        (
+            2,
+            &["1 0 2 0 0 10 0", "2 0 2 14 0 4 0"],
+            4,
+            "refused 15 meets 0 1 14 0 2",
+        ),
+        (
+            2,
+            &["1 0 3 0 0 5 5 10 10", "2 0 2 5 5 5 9"],
+            4,
+            "refused 15 meets 0 2 100 100 20",
+        ),
+        (
+            2,
+            &["1 0 3 0 0 5 5 10 10", "2 0 3 0 10 5 5 10 0"],
+            4,
+            "refused 15 meets 0 2 250 250 50",
+        ),
+        (1, &["1 0 3 0 0 5 5 0 0"], 4, "refused 15 meets 0 1 5 5 2"),
+        (
+            2,
+            &[
+                "1 0 4 10 10 0 10 0 0 10 0",
+                "2 0 4 10 0 20 0 20 10 10 10",
+                "2 1 2 10 0 10 10",
+            ],
+            4,
+            "refused 16 node 10 0 0 1 2 1",
+        ),
+        (1, &["1 0 2 0 0 5 5"], 4, "refused 16 node 0 0 0 0 1 0"),
+        (
+            2,
+            &[
+                "1 0 5 10 10 0 10 0 0 10 0 10 10",
+                "2 0 5 10 10 20 10 20 20 10 20 10 10",
+            ],
+            0,
+            "ok faces 2 arcs 2 points 10",
+        ),
+        (
+            1,
+            &["1 0 4 -268435456 -268435456 268435456 -268435456 0 268435456 -268435456 -268435456"],
+            0,
+            "ok faces 1 arcs 1 points 4",
+        ),
+        (
+            1,
+            &["1 0 4 -268435456 -268435456 268435457 -268435456 0 268435456 -268435456 -268435456"],
+            4,
+            "refused 18 bad-line 9",
+        ),
+    ];
+    let words = words_of(alloc, "check map")?;
+    for (faces, arcs, status, text) in cases {
+        let bytes = listing_of(alloc, faces, arcs)?;
+        let mut files = one_file(alloc, "map", bytes.as_slice(), List::new(alloc))?;
+        let mut out = MemorySink::new(alloc, 100, List::new(alloc))?;
+        assert_eq!(rt;
+            run(&rt, alloc, words.as_slice(), &mut files, &mut out),
+            status,
+            "{text}"
+        );
+        let line = format!(in alloc; "{text}\n")?;
+        assert_eq!(rt; out.bytes(), line.as_bytes(), "{text}");
+    }
+    Ok(())
+}
+
+#[test]
+fn each_cut_of_a_listing_has_its_line(rt: HostRuntime) -> Result<(), Fail> {
+    let alloc = rt.alloc();
+    let words = words_of(alloc, "check map")?;
+    let mut line = 1;
+    for (end, byte) in TWO_SQUARES.as_bytes().iter().enumerate() {
+        let front = &TWO_SQUARES.as_bytes()[..end];
+        let mut files = one_file(alloc, "map", front, List::new(alloc))?;
+        let mut out = MemorySink::new(alloc, 100, List::new(alloc))?;
+        assert_eq!(rt; run(&rt, alloc, words.as_slice(), &mut files, &mut out), 4);
+        let text = format!(in alloc; "refused 18 bad-line {line}\n")?;
+        assert_eq!(rt; out.bytes(), text.as_bytes());
+        if *byte == b'\n' {
+            line += 1;
+        }
+    }
+    Ok(())
+}
+
+#[test]
+fn too_many_points(rt: HostRuntime) -> Result<(), Fail> {
+    let alloc = rt.alloc();
+    let mut arc = String::new(alloc);
+    arc.push_str("1 0 131073")?;
+    for x in 0..131_071 {
+        arc.push_str(format!(in alloc; " {x} 0")?.as_str())?;
+    }
+    arc.push_str(" 0 1 0 0")?;
+    let bytes = listing_of(alloc, 1, &[arc.as_str()])?;
+    let mut files = one_file(alloc, "map", bytes.as_slice(), List::new(alloc))?;
+    let mut out = MemorySink::new(alloc, 100, List::new(alloc))?;
+    let words = words_of(alloc, "check map")?;
+    assert_eq!(rt; run(&rt, alloc, words.as_slice(), &mut files, &mut out), 4);
+    assert_eq!(rt; out.bytes(), b"refused 9 limit points 131073\n".as_slice());
+    Ok(())
+}
+
+#[test]
+fn listings_are_written_again(rt: HostRuntime) -> Result<(), Fail> {
+    let alloc = rt.alloc();
+    for map in [
+        TWO_SQUARES,
+        FOUR_SQUARES,
+        THREE_SQUARES,
+        HOLE_WITH_FACE,
+        "tgap 1\ntransform -1 2147483647 -2147483648 0\nratio 65535\nclasses 1\nclass 0 65535 1000\nfaces 0\narcs 0\nend\n",
+    ] {
+        let Ok(base) = read_listing(alloc, map.as_bytes()) else {
+            return Err("the listing was not read".into());
+        };
+        assert_eq!(rt; write_listing(alloc, &base)?.as_slice(), map.as_bytes());
     }
     Ok(())
 }

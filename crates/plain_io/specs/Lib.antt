@@ -4,3 +4,5 @@ pub mod Puts
 pub mod Held
 pub mod Rest
 pub mod Pieces
+pub mod Taking
+pub mod Fields

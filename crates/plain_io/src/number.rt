@@ -1,6 +1,6 @@
 //! Numbers in canonical decimal.
 
-ghost use Rattle.std.specs.Prelude.{◌≡◌, ◌≢◌, ℤ, ◌≤ℤ◌, ◌++◌, ◌↔◌, FitsSigned, Some, IfSome, IfNone, IsTrue, is_ok, if◌then◌else◌};
+ghost use Rattle.std.specs.Prelude.{◌≡◌, ◌≢◌, ℤ, ◌≤ℤ◌, ◌++◌, ◌∷◌, ◌↔◌, FitsSigned, Some, IfSome, IfNone, IsTrue, OnOk, decimal, is_ok, if◌then◌else◌};
 ghost use Rattle.std.specs.Int.{w64};
 ghost use Rattle.std.specs.Fmt.{signed_decimal};
 ghost use Rattle.tgap_model.specs.Texts.{number_of};
@@ -60,4 +60,19 @@ pub fn put_number(_alloc: Global, out: &mut Text, n: i128) -> Result<(), Memory>
 {
     let mut buffer = Buffer::new();
     out.push_slice(buffer.format(n).as_bytes())
+}
+
+/// Appends a space and a number.
+pub fn put_field(alloc: Global, out: &mut Text, n: i128) -> Result<(), Memory>
+    ensures { OnOk result (out.new ≡ out.old ++ 32 ∷ signed_decimal n) }
+{
+    out.push_slice(b" ")?;
+    put_number(alloc, out, n)
+}
+
+/// Appends a space and a count.
+pub fn put_count(alloc: Global, out: &mut Text, n: u32) -> Result<(), Memory>
+    ensures { OnOk result (out.new ≡ out.old ++ 32 ∷ decimal n) }
+{
+    put_field(alloc, out, i128::from(n))
 }

@@ -1,6 +1,6 @@
 //! Lines and words.
 
-ghost use Rattle.std.specs.Prelude.{◌≡◌, ◌≢◌, ℕ, ◌<◌, ◌≤◌, ◌==◌, List, [], ◌∷◌, length, slice_index, IfSome, IfNone, MatchOption};
+ghost use Rattle.std.specs.Prelude.{◌≡◌, ◌≢◌, ℕ, ◌<◌, ◌≤◌, ◌==◌, ◌↔◌, List, [], ◌∷◌, length, slice_index, IsTrue, IfSome, IfNone, MatchOption};
 ghost use Rattle.std.specs.List.{slice_split};
 ghost use Rattle.plain_io.specs.Rest.{split_rest};
 
@@ -70,6 +70,23 @@ impl<'a> Pieces<'a> {
         let (piece, rest) = first_piece(self.rest?, self.separator);
         self.rest = rest;
         Some(piece)
+    }
+
+    /// Whether none is left.
+    pub fn is_done(&self) -> bool
+        ensures { IsTrue result ↔ (self.now ≡ []) }
+    {
+        self.rest.is_none()
+    }
+
+    /// Whether one is left, and that is empty.
+    pub fn is_one_empty(&self) -> bool
+        ensures { IsTrue result ↔ (self.now ≡ [] ∷ []) }
+    {
+        match self.rest {
+            Some(rest) => rest.is_empty(),
+            None => false,
+        }
     }
 }
 

@@ -9,7 +9,7 @@ use Rattle.tgap_model.specs.Base.{BaseMap, is_transform, is_rules, is_arc, is_ba
 use Rattle.tgap_model.specs.History.{next_step, history_of}
 use Rattle.tgap_model.specs.Border.{border}
 use Rattle.tgap_model.specs.Texts.{number_of, borders_text}
-use Rattle.tgap_model.specs.Listing.{listing_text, listing, read_listing, rules_at, all_faces_at, all_arcs_at, end_at, read_transform, read_count, counts_at, read_class, read_face, points_at, read_arc, classes_at, faces_at, arcs_at}
+use Rattle.tgap_model.specs.Listing.{listing_text}
 
 -- an arc from the numbers of its line
 abbrev pub points_of : List ℕ → List Point
@@ -64,15 +64,6 @@ two_squares_text = refl
 two_squares_listing : listing_text two_squares ≡ codes "tgap 1\ntransform 1 1 0 0\nratio 16\nclasses 1\nclass 0 1 1\nfaces 2\nface 1 0\nface 2 0\narcs 3\narc 1 0 4 10 10 0 10 0 0 10 0\narc 2 0 4 10 0 20 0 20 10 10 10\narc 1 2 2 10 0 10 10\nend\n"
 unfolding digits
 two_squares_listing = refl
-
-two_squares_read : listing (codes "tgap 1\ntransform 1 1 0 0\nratio 16\nclasses 1\nclass 0 1 1\nfaces 2\nface 1 0\nface 2 0\narcs 3\narc 1 0 4 10 10 0 10 0 0 10 0\narc 2 0 4 10 0 20 0 20 10 10 10\narc 1 2 2 10 0 10 10\nend\n") ≡ Some two_squares
-unfolding listing read_listing rules_at all_faces_at all_arcs_at end_at read_transform read_count counts_at read_class read_face points_at read_arc classes_at faces_at arcs_at number_of digits is_base is_transform is_rules is_arc
-two_squares_read = refl
-
--- the same without its last line
-two_squares_cut : listing (codes "tgap 1\ntransform 1 1 0 0\nratio 16\nclasses 1\nclass 0 1 1\nfaces 2\nface 1 0\nface 2 0\narcs 3\narc 1 0 4 10 10 0 10 0 0 10 0\narc 2 0 4 10 0 20 0 20 10 10 10\narc 1 2 2 10 0 10 10\n") ≡ None
-unfolding listing read_listing rules_at all_faces_at all_arcs_at end_at read_transform read_count counts_at read_class read_face points_at read_arc classes_at faces_at arcs_at number_of digits
-two_squares_cut = refl
 
 -- ---- four squares round one node
 

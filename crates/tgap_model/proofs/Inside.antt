@@ -77,30 +77,22 @@ odd_none t u (x ∷ xs) h =
 -- ---- the front of a list
 
 -- those that pass are the front of the list
-abbrev fronts : {A : Type 0} → (A → Bool) → List A → Bool
+abbrev pub fronts : {A : Type 0} → (A → Bool) → List A → Bool
 fronts t [] = true
 fronts t (x ∷ xs) = cond (t x) (fronts t xs) (list_all (λ y. not (t y)) xs)
 
-fronts_none : {A : Type 0} (t : A → Bool) (xs : List A) → list_all (λ y. not (t y)) xs ≡ true → fronts t xs ≡ true
-fronts_none t [] h = refl
-fronts_none t (x ∷ xs) h = by (t x) (and_parts _ _ h).0
-  where
-    by : (b : Bool) → not b ≡ true → cond b (fronts t xs) (list_all (λ y. not (t y)) xs) ≡ true
-    by true e = absurd (true≢false (sym e))
-    by false e = (and_parts _ _ h).1
-
 -- An order that agrees with the test: what stands before a passing element passes, and so does what no passing element stands
 -- before.
-record Follows {A : Type 0} (P : A → Type 0) (t : A → Bool) (before : A → A → Bool) : Type 0 where
-  up : (x y : A) → P x → P y → before x y ≡ true → t y ≡ true → t x ≡ true
-  down : (x y : A) → P x → P y → before x y ≡ false → t x ≡ true → t y ≡ true
+pub record Follows {A : Type 0} (P : A → Type 0) (t : A → Bool) (before : A → A → Bool) : Type 0 where
+  pub up : (x y : A) → P x → P y → before x y ≡ true → t y ≡ true → t x ≡ true
+  pub down : (x y : A) → P x → P y → before x y ≡ false → t x ≡ true → t y ≡ true
 
 -- members one by one
-abbrev Each : {A : Type 0} → (A → Type 0) → List A → Type 0
+abbrev pub Each : {A : Type 0} → (A → Type 0) → List A → Type 0
 Each P [] = Unit {0}
 Each P (x ∷ xs) = P x × Each P xs
 
-each_insert : {A : Type 0} (P : A → Type 0) (before : A → A → Bool) (x : A) (ys : List A) → P x → Each P ys → Each P (insert_by before x ys)
+pub each_insert : {A : Type 0} (P : A → Type 0) (before : A → A → Bool) (x : A) (ys : List A) → P x → Each P ys → Each P (insert_by before x ys)
 each_insert P before x [] p h = (p, tt)
 each_insert P before x (y ∷ ys) p h = by (before x y) (each_insert P before x ys p h.1)
   where
@@ -108,11 +100,11 @@ each_insert P before x (y ∷ ys) p h = by (before x y) (each_insert P before x 
     by true k = (p, h)
     by false k = (h.0, k)
 
-each_sort : {A : Type 0} (P : A → Type 0) (before : A → A → Bool) (xs : List A) → Each P xs → Each P (sort_by before xs)
+pub each_sort : {A : Type 0} (P : A → Type 0) (before : A → A → Bool) (xs : List A) → Each P xs → Each P (sort_by before xs)
 each_sort P before [] h = tt
 each_sort P before (x ∷ xs) h = each_insert P before x (sort_by before xs) h.0 (each_sort P before xs h.1)
 
-each_filter : {A : Type 0} (P : A → Type 0) (q : A → Bool) → ((x : A) → q x ≡ true → P x) → (xs : List A) → Each P (filter q xs)
+pub each_filter : {A : Type 0} (P : A → Type 0) (q : A → Bool) → ((x : A) → q x ≡ true → P x) → (xs : List A) → Each P (filter q xs)
 each_filter P q f [] = tt
 each_filter P q f (x ∷ xs) = by (q x) (f x) (each_filter P q f xs)
   where
@@ -154,7 +146,7 @@ module _ {A : Type 0} (P : A → Type 0) (t : A → Bool) (before : A → A → 
           subst (λ (z : Bool). cond z (fronts t (insert_by before x ys)) (list_all (λ w. not (t w)) (insert_by before x ys)) ≡ true) (sym v)
           (none_inserted x ys u (subst (λ (z : Bool). cond z (fronts t ys) (list_all (λ w. not (t w)) ys) ≡ true) v k))
 
-  front_sort : (xs : List A) → Each P xs → fronts t (sort_by before xs) ≡ true
+  pub front_sort : (xs : List A) → Each P xs → fronts t (sort_by before xs) ≡ true
   front_sort [] h = refl
   front_sort (x ∷ xs) h = front_insert x (sort_by before xs) h.0 (each_sort P before xs h.1) (front_sort xs h.1)
 
@@ -166,7 +158,7 @@ between l u v c e =
     lt_from_mul_left l.c c (lt_lt_trans ((Decides-int_lt (l.c *ℤ u) l.a).0 parts.0) ((Decides-int_lt l.a (l.c *ℤ v)).0 parts.1))
 
 -- a segment that is crossed goes on to the right
-run_positive : (l : Line) (s : Seg) → pos 0 <ℤ l.c → crosses l s ≡ true → pos 0 <ℤ run (rightward s)
+pub run_positive : (l : Line) (s : Seg) → pos 0 <ℤ l.c → crosses l s ≡ true → pos 0 <ℤ run (rightward s)
 run_positive l s c h = by (goes_right s) refl
   where
     leftward : goes_right s ≡ false → (passes l s.a.x s.b.x ≡ true) ⊎ (passes l s.b.x s.a.x ≡ true) → s.b.x <ℤ s.a.x
@@ -193,7 +185,7 @@ below_no_lower y m n {r} {q} pr pq h k =
     (fraction_lt_le y m n (omega (arith, ints)) pr pq (subst (λ (z : ℤ). (y *ℤ r) <ℤ z) (sym (over_one m)) k) h)
 
 -- the order of heights agrees with being above a point of the line
-heights_follow : (p : Fraction) → pos 0 <ℤ p.d
+pub heights_follow : (p : Fraction) → pos 0 <ℤ p.d
     → Follows (λ (s : LabelledSegment). crosses (line_through p) s.segment ≡ true) (λ s. is_above s.segment p) (λ s t. is_higher (line_through p) s.segment t.segment)
 unfolding is_above is_higher
 heights_follow p d = record {
@@ -210,7 +202,7 @@ heights_follow p d = record {
 -- ---- labels and parity
 
 -- the label reached below the elements of the front that pass
-abbrev reached : (LabelledSegment → Bool) → ℕ → List LabelledSegment → ℕ
+abbrev pub reached : (LabelledSegment → Bool) → ℕ → List LabelledSegment → ℕ
 reached t u [] = u
 reached t u (s ∷ ss) = cond (t s) (reached t (sides s).lower ss) u
 
@@ -272,12 +264,19 @@ parity_reached t f u (s ∷ ss) k h =
 
 -- ---- the law
 
--- a point is inside a face other than 0 exactly where that face is reached from above
-inside_reached : (segments : List LabelledSegment) (p : Fraction) (f : ℕ) → pos 0 <ℤ p.d → f ≢ 0
-    → agree_from 0 (map sides (stack (line_through p) segments)) ≡ true → is_inside segments f p ≡ true
-    → f ≡ reached (λ s. is_above s.segment p) 0 (stack (line_through p) segments)
+-- the front of the stack on the line through a point: the segments that pass above it
+pub above_front : (segments : List LabelledSegment) (p : Fraction) → pos 0 <ℤ p.d → fronts (λ s. is_above s.segment p) (stack (line_through p) segments) ≡ true
+above_front segments p d =
+    front_sort (λ s. crosses (line_through p) s.segment ≡ true) (λ s. is_above s.segment p) (λ s t. is_higher (line_through p) s.segment t.segment) (heights_follow p d)
+    (filter (λ s. crosses (line_through p) s.segment) segments)
+    (each_filter (λ s. crosses (line_through p) s.segment ≡ true) (λ s. crosses (line_through p) s.segment) (λ s e. e) segments)
+
+-- whether a point is inside a face is told by the label reached above it
+pub inside_parity : (segments : List LabelledSegment) (p : Fraction) (f : ℕ) → pos 0 <ℤ p.d
+    → agree_from 0 (map sides (stack (line_through p) segments)) ≡ true
+    → is_inside segments f p ≡ either_alone (0 == f) (reached (λ s. is_above s.segment p) 0 (stack (line_through p) segments) == f)
 unfolding is_inside
-inside_reached segments p f d n h k = sym (eqb-true _ _ (found ((0 == f)) refl))
+inside_parity segments p f d h = in_stack ∙ parity_reached above f 0 (stack l segments) (above_front segments p d) h
   where
     l : Line
     l = line_through p
@@ -306,22 +305,23 @@ inside_reached segments p f d n h k = sym (eqb-true _ _ (found ((0 == f)) refl))
         ∙ ap (either_alone (crossed s && (above s && borders_f s))) (each ss)
         ∙ sym (odd_cons (λ s. crossed s && (above s && borders_f s)) s ss)
 
-    in_stack : odd (λ s. above s && borders_f s) (stack l segments) ≡ true
+    in_stack : is_inside segments f p ≡ odd (λ s. above s && borders_f s) (stack l segments)
     in_stack =
-        odd_sort (λ s. above s && borders_f s) higher (filter crossed segments)
-        ∙ sym (odd_filter crossed (λ s. above s && borders_f s) segments) ∙ sym (each segments) ∙ k
+        each segments ∙ odd_filter crossed (λ s. above s && borders_f s) segments
+        ∙ sym (odd_sort (λ s. above s && borders_f s) higher (filter crossed segments))
 
-    front : fronts above (stack l segments) ≡ true
-    front =
-        front_sort (λ s. crosses l s.segment ≡ true) above higher (heights_follow p d) (filter crossed segments)
-        (each_filter (λ s. crosses l s.segment ≡ true) crossed (λ s e. e) segments)
+-- a point is inside a face other than 0 only where that face is reached from above
+inside_reached : (segments : List LabelledSegment) (p : Fraction) (f : ℕ) → pos 0 <ℤ p.d → f ≢ 0
+    → agree_from 0 (map sides (stack (line_through p) segments)) ≡ true → is_inside segments f p ≡ true
+    → f ≡ reached (λ s. is_above s.segment p) 0 (stack (line_through p) segments)
+inside_reached segments p f d n h k = sym (eqb-true label f (found (0 == f) refl))
+  where
+    label : ℕ
+    label = reached (λ s. is_above s.segment p) 0 (stack (line_through p) segments)
 
-    parity : either_alone (0 == f) (reached above 0 (stack l segments) == f) ≡ true
-    parity = sym (parity_reached above f 0 (stack l segments) front h) ∙ in_stack
-
-    found : (b : Bool) → (0 == f) ≡ b → (reached above 0 (stack l segments) == f) ≡ true
+    found : (b : Bool) → (0 == f) ≡ b → (label == f) ≡ true
     found true e = absurd (n (sym (eqb-true 0 f e)))
-    found false e = subst (λ (b : Bool). either_alone b (reached above 0 (stack l segments) == f) ≡ true) e parity
+    found false e = subst (λ (b : Bool). either_alone b (label == f) ≡ true) e (sym (inside_parity segments p f d h) ∙ k)
 
 pub inside_one_face : InsideOneFace
 inside_one_face segments agree p between f g nf ng hf hg =

@@ -1,4 +1,5 @@
 pub mod Examples
+pub mod ListingExamples
 pub mod PartitionExamples
 pub mod SliceExamples
 pub mod RecordExamples
@@ -18,3 +19,4 @@ pub mod ChainLinks
 pub mod ChainsUnique
 pub mod SlicesUnique
 pub mod InnerVertices
+pub mod Nearest

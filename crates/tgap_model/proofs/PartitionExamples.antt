@@ -7,7 +7,7 @@ use Rattle.tgap_model.specs.declared.geometry.Shared.{Shared}
 use Rattle.tgap_model.specs.declared.fault.MapFault.TheVariants.{Meets, NodeDisagrees, StackDisagrees}
 use Rattle.tgap_model.specs.Base.{BaseMap}
 use Rattle.tgap_model.specs.Segment.{any_common, common_point, turns_before, is_higher, is_above, line_after}
-use Rattle.tgap_model.specs.Partition.{base_segments, map_fault}
+use Rattle.tgap_model.specs.Partition.{base_segments, arc_fault, map_fault}
 use Rattle.tgap_model.specs.Inside.{is_inside}
 use Rattle.tgap_model.proofs.Examples.{two_squares, four_squares, hole_with_face, arc, plain_map}
 
@@ -105,26 +105,26 @@ abbrev pub empty_map : BaseMap
 empty_map = plain_map 16 [] []
 
 empty_map_sound : map_fault empty_map ≡ None
-unfolding map_fault common_point any_common turns_before is_higher
+unfolding map_fault arc_fault common_point any_common turns_before is_higher
 empty_map_sound = refl
 
 two_squares_sound : map_fault two_squares ≡ None
-unfolding map_fault common_point any_common turns_before is_higher
+unfolding map_fault arc_fault common_point any_common turns_before is_higher
 two_squares_sound = refl
 
 four_squares_sound : map_fault four_squares ≡ None
-unfolding map_fault common_point any_common turns_before is_higher
+unfolding map_fault arc_fault common_point any_common turns_before is_higher
 four_squares_sound = refl
 
 hole_sound : map_fault hole_with_face ≡ None
-unfolding map_fault common_point any_common turns_before is_higher
+unfolding map_fault arc_fault common_point any_common turns_before is_higher
 hole_sound = refl
 
 abbrev pub face_round_a_gap : BaseMap
 face_round_a_gap = plain_map 0 (0 ∷ []) (arc 1 0 (0 ∷ 0 ∷ 30 ∷ 0 ∷ 30 ∷ 30 ∷ 0 ∷ 30 ∷ 0 ∷ 0 ∷ []) ∷ arc 0 1 (10 ∷ 10 ∷ 20 ∷ 10 ∷ 20 ∷ 20 ∷ 10 ∷ 20 ∷ 10 ∷ 10 ∷ []) ∷ [])
 
 gap_sound : map_fault face_round_a_gap ≡ None
-unfolding map_fault common_point any_common turns_before is_higher
+unfolding map_fault arc_fault common_point any_common turns_before is_higher
 gap_sound = refl
 
 -- ---- maps with a fault
@@ -133,28 +133,28 @@ abbrev pub crossing : BaseMap
 crossing = plain_map 16 (0 ∷ 0 ∷ []) (arc 1 0 (0 ∷ 0 ∷ 5 ∷ 5 ∷ []) ∷ arc 2 0 (0 ∷ 5 ∷ 5 ∷ 0 ∷ []) ∷ [])
 
 crossing_fault : map_fault crossing ≡ Some (Meets 0 1 (fraction 125 125 50))
-unfolding map_fault common_point any_common turns_before is_higher
+unfolding map_fault arc_fault common_point any_common turns_before is_higher
 crossing_fault = refl
 
 abbrev pub touching : BaseMap
 touching = plain_map 16 (0 ∷ 0 ∷ []) (arc 1 0 (0 ∷ 0 ∷ 10 ∷ 0 ∷ []) ∷ arc 2 0 (5 ∷ 0 ∷ 5 ∷ 5 ∷ []) ∷ [])
 
 touching_fault : map_fault touching ≡ Some (Meets 0 1 (fraction 250 0 50))
-unfolding map_fault common_point any_common turns_before is_higher
+unfolding map_fault arc_fault common_point any_common turns_before is_higher
 touching_fault = refl
 
 abbrev pub exchanged_sides : BaseMap
 exchanged_sides = plain_map 16 (0 ∷ 0 ∷ []) (arc 1 0 (10 ∷ 10 ∷ 0 ∷ 10 ∷ 0 ∷ 0 ∷ 10 ∷ 0 ∷ []) ∷ arc 2 0 (10 ∷ 0 ∷ 20 ∷ 0 ∷ 20 ∷ 10 ∷ 10 ∷ 10 ∷ []) ∷ arc 2 1 (10 ∷ 0 ∷ 10 ∷ 10 ∷ []) ∷ [])
 
 exchanged_sides_fault : map_fault exchanged_sides ≡ Some (NodeDisagrees (point 10 0) 0 1 2 1)
-unfolding map_fault common_point any_common turns_before is_higher
+unfolding map_fault arc_fault common_point any_common turns_before is_higher
 exchanged_sides_fault = refl
 
 abbrev pub nested : BaseMap
 nested = plain_map 0 (0 ∷ 0 ∷ []) (arc 1 0 (0 ∷ 0 ∷ 30 ∷ 0 ∷ 30 ∷ 30 ∷ 0 ∷ 30 ∷ 0 ∷ 0 ∷ []) ∷ arc 2 0 (10 ∷ 10 ∷ 20 ∷ 10 ∷ 20 ∷ 20 ∷ 10 ∷ 20 ∷ 10 ∷ 10 ∷ []) ∷ [])
 
 nested_fault : map_fault nested ≡ Some (StackDisagrees (pos 10) 1 1 0)
-unfolding map_fault common_point any_common turns_before is_higher
+unfolding map_fault arc_fault common_point any_common turns_before is_higher
 nested_fault = refl
 
 abbrev pub passing_through_a_node : BaseMap
@@ -162,14 +162,14 @@ passing_through_a_node = plain_map 16 (0 ∷ 0 ∷ []) (arc 1 0 (0 ∷ 0 ∷ 5 �
 
 -- an inner vertex of the first arc is an end of the second
 passing_fault : map_fault passing_through_a_node ≡ Some (Meets 0 2 (fraction 100 100 20))
-unfolding map_fault common_point any_common turns_before is_higher
+unfolding map_fault arc_fault common_point any_common turns_before is_higher
 passing_fault = refl
 
 abbrev pub there_and_back : BaseMap
 there_and_back = plain_map 16 (0 ∷ []) (arc 1 0 (0 ∷ 0 ∷ 5 ∷ 5 ∷ 0 ∷ 0 ∷ []) ∷ [])
 
 there_and_back_fault : map_fault there_and_back ≡ Some (Meets 0 1 (fraction 5 5 2))
-unfolding map_fault common_point any_common turns_before is_higher
+unfolding map_fault arc_fault common_point any_common turns_before is_higher
 there_and_back_fault = refl
 
 -- ---- points inside

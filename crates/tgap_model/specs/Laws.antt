@@ -1,5 +1,5 @@
 -- Laws of the definitions, which show that the words mean what they should. Each is the contract of a function of `laws.rt`.
-use Rattle.std.specs.Prelude.{◌≡◌, ◌≢◌, ◌≤◌, ℕ, ◌-◌, Bool, true, false, ◌&&◌, not, nat_le, ◌==◌, List, [], ◌∷◌, ◌++◌, map, length, All, ◌<◌, AllPairs, get_or}
+use Rattle.std.specs.Prelude.{◌≡◌, ◌≢◌, ◌≤◌, ℕ, ◌-◌, Bool, true, false, ◌&&◌, not, nat_le, ◌==◌, List, [], ◌∷◌, ◌++◌, map, length, All, ◌<◌, AllPairs, get_or, ◌⊎◌, Contains}
 use Rattle.tgap_model.specs.declared.geometry.Point.{Point}
 use Rattle.tgap_model.specs.declared.segment.LabelledSegment.{LabelledSegment}
 use Rattle.tgap_model.specs.declared.geometry.Fraction.{Fraction}
@@ -9,9 +9,9 @@ use Rattle.tgap_model.specs.declared.slice.Slice.{Slice}
 use Rattle.tgap_model.specs.declared.slice.Removal.{Removal}
 use Rattle.tgap_model.specs.Base.{same_point}
 use Rattle.tgap_model.specs.History.{AreNumbered}
-use Rattle.tgap_model.specs.Segment.{Line, IsBetweenColumns, line_through}
+use Rattle.tgap_model.specs.Segment.{Line, IsBetweenColumns, line_through, is_higher}
 use Rattle.tgap_model.specs.Partition.{AreApart, follows, Sides, sides, stack, agree_from}
-use Rattle.tgap_model.specs.Inside.{is_inside}
+use Rattle.tgap_model.specs.Inside.{crosses_ray, is_inside}
 use Rattle.tgap_model.specs.Merged.{MergedMap, step_number, is_border}
 use Rattle.tgap_model.specs.Chains.{Chain, arc_number, are_chains}
 use Rattle.tgap_model.specs.Clear.{is_clear}
@@ -61,6 +61,16 @@ InsideOneFace =
     → ((l : Line) → IsBetweenColumns l → agree_from 0 (map sides (stack l segments)) ≡ true)
     → (p : Fraction) → IsBetweenColumns (line_through p) → (f g : ℕ) → f ≢ 0 → g ≢ 0
     → is_inside segments f p ≡ true → is_inside segments g p ≡ true → f ≡ g
+
+-- Where the faces agree down each line, a point between whole abscissas is inside the face below the nearest segment above it,
+-- where there is such a segment and that face is not 0. Nearest is one that every other one of them is higher than.
+abbrev pub InsideBelowNearest : Type 0
+InsideBelowNearest =
+    (segments : List LabelledSegment)
+    → ((l : Line) → IsBetweenColumns l → agree_from 0 (map sides (stack l segments)) ≡ true)
+    → (p : Fraction) → IsBetweenColumns (line_through p) → (s : LabelledSegment) → Contains segments s → crosses_ray p s ≡ true
+    → All (λ t. crosses_ray p t ≡ true → (t ≡ s) ⊎ (is_higher (line_through p) t.segment s.segment ≡ true)) segments
+    → (sides s).lower ≢ 0 → is_inside segments (sides s).lower p ≡ true
 
 -- ---- chains and slices
 

@@ -15,6 +15,9 @@ pub mod Removals
 pub mod Slice
 pub mod Records
 pub mod Texts
+pub mod Words
+pub mod Lines
+pub mod ListingLines
 pub mod Listing
 pub mod Laws
 pub mod SliceTexts

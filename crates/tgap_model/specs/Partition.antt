@@ -1,6 +1,6 @@
 -- The planar partition: what a list of labelled segments has to keep, and the first fault of a base map.
 -- It is the textbook notion of a subdivision of the plane.
-use Rattle.std.specs.Prelude.{◌≡◌, ℕ, ◌+◌, Bool, true, false, ◌&&◌, ◌||◌, ℤ, int_lt, ◌==◌, List, [], ◌∷◌, ◌++◌, map, flat_map, filter, All, AllPairs, Option, Some, None, if◌then◌else◌}
+use Rattle.std.specs.Prelude.{◌≡◌, ℕ, ◌+◌, Bool, true, false, ◌&&◌, ◌||◌, not, ℤ, int_lt, ◌==◌, List, [], ◌∷◌, ◌++◌, map, flat_map, filter, All, AllPairs, Option, Some, None, if◌then◌else◌}
 use Rattle.lemmas.specs.Sorting.{sort_by}
 use Rattle.tgap_model.specs.declared.geometry.Point.{Point}
 use Rattle.tgap_model.specs.declared.geometry.Fraction.{Fraction}
@@ -11,7 +11,7 @@ use Rattle.tgap_model.specs.declared.slice.Edge.{Edge}
 use Rattle.tgap_model.specs.declared.fault.MapFault.{MapFault}
 use Rattle.tgap_model.specs.declared.fault.MapFault.TheVariants.{Meets, NodeDisagrees, StackDisagrees}
 use Rattle.tgap_model.specs.Ascending.{distinct_by}
-use Rattle.tgap_model.specs.Base.{BaseMap, same_point}
+use Rattle.tgap_model.specs.Base.{BaseMap, in_limits, same_point}
 use Rattle.tgap_model.specs.Segment.{Line, IsBetweenColumns, HaveInCommon, point_before, common_point, turns_before, line_after, crosses, goes_right, is_higher}
 
 -- ---- labelled segments; of a slice the edges stand for the arcs, by their keys
@@ -43,6 +43,10 @@ arc_segments i (a ∷ arcs) = path_segments i a.left a.right 0 a.points ++ arc_s
 -- the segments of a base map, in the order of their numbers
 abbrev pub base_segments : BaseMap → List LabelledSegment
 base_segments m = arc_segments 0 m.arcs
+
+-- the segment lies between two different points within the limits
+abbrev pub is_proper : LabelledSegment → Bool
+is_proper s = in_limits s.segment.a && in_limits s.segment.b && not (same_point s.segment.a s.segment.b)
 
 -- the segments of a slice
 abbrev pub edge_segments : List Edge → List LabelledSegment
@@ -164,20 +168,21 @@ all_but_last [] = []
 all_but_last (x ∷ []) = []
 all_but_last (x ∷ y ∷ ys) = x ∷ all_but_last (y ∷ ys)
 
--- ---- all four
+-- ---- the properties together
 
--- A list of labelled segments is a planar partition.
-pub record IsPartition (segments : List LabelledSegment) : Type 0 where
-  -- two segments have no point in common but a permitted one
+-- The first three: two segments have no point in common but a permitted one, the two faces of a segment differ, and round each
+-- node the faces agree.
+pub record AgreesAtNodes (segments : List LabelledSegment) : Type 0 where
   pub apart : AllPairs AreApart segments
-  -- the two faces of a segment differ
   pub two_faces : All (λ s. (s.left == s.right) ≡ false) segments
-  -- round each node the faces agree
   pub nodes : (v : Point) → node_fault segments v ≡ None
-  -- down each line between whole abscissas the faces agree
+
+-- A list of labelled segments is a planar partition: all this, and down each line between whole abscissas the faces agree.
+pub record IsPartition (segments : List LabelledSegment) : Type 0 where
+  pub arcs : AgreesAtNodes segments
   pub stacks : (l : Line) → IsBetweenColumns l → agree_from 0 (map sides (stack l segments)) ≡ true
 
--- the first meeting, node or stack at fault
+-- the first meeting, node and stack at fault of a base map
 abbrev pub meeting_fault : BaseMap → Option MapFault
 meeting_fault m = meeting_from 0 (base_segments m)
 
@@ -187,10 +192,15 @@ ring_fault_of m = first_fault (node_fault (base_segments m)) (nodes (base_segmen
 abbrev pub stack_fault_of : BaseMap → Option MapFault
 stack_fault_of m = first_fault (stack_fault (base_segments m)) (all_but_last (abscissas (base_segments m)))
 
+-- the first fault, or else the second
+abbrev pub or_else : Option MapFault → Option MapFault → Option MapFault
+or_else None second = second
+or_else (Some fault) second = Some fault
+
+-- the first fault of the arcs of a base map: a meeting before a node
+unfoldable pub arc_fault : BaseMap → Option MapFault
+arc_fault m = or_else (meeting_fault m) (ring_fault_of m)
+
 -- The first fault of a base map: a meeting before a node, a node before a stack.
 unfoldable pub map_fault : BaseMap → Option MapFault
-map_fault m =
-    elim (meeting_fault m) [
-      | Some fault ↦ Some fault
-      | None ↦ elim (ring_fault_of m) [ Some fault ↦ Some fault | None ↦ stack_fault_of m ]
-    ]
+map_fault m = or_else (arc_fault m) (stack_fault_of m)

@@ -11,7 +11,8 @@ use Rattle.tgap_model.specs.declared.record.Mend.{Mend}
 use Rattle.tgap_model.specs.declared.record.StepRecord.{StepRecord}
 use Rattle.tgap_model.specs.declared.record.Packet.{Packet}
 use Rattle.tgap_model.specs.Texts.{lines}
-use Rattle.tgap_model.specs.Listing.{Row, point_words, count_words}
+use Rattle.tgap_model.specs.Words.{Row}
+use Rattle.tgap_model.specs.Listing.{point_words, count_words}
 
 abbrev pub edge_words : Edge → Row
 edge_words e = codes "edge" ∷ decimal e.key ∷ decimal e.left ∷ decimal e.right ∷ decimal (length e.points) ∷ flat_map point_words e.points

@@ -4,6 +4,10 @@ use Rattle.std.specs.Fmt.{signed_decimal}
 use Rattle.std.specs.Str.Parse.{digits_value}
 use Rattle.std.specs.List.{join_with_byte, slice_split}
 use Rattle.tgap_model.specs.declared.border.BorderRow.{BorderRow}
+use Rattle.tgap_model.specs.declared.fault.LimitKind.{LimitKind}
+use Rattle.tgap_model.specs.declared.fault.LimitKind.TheVariants.{Classes, Faces, Arcs, Points}
+use Rattle.tgap_model.specs.declared.fault.MapFault.{MapFault}
+use Rattle.tgap_model.specs.declared.fault.MapFault.TheVariants.{NotJson, Shape, NoObject, ManyObjects, NotWhole, OutOfRange, ArcShort, ArcIndex, Limit, RingOpen, RingFlat, SideTaken, SameSides, Meets, NodeDisagrees, StackDisagrees, BadLine, BadRules, InputLong}
 use Rattle.tgap_model.specs.Base.{within}
 
 -- the number that a word would spell: decimal digits, with a minus before them or not
@@ -37,3 +41,44 @@ border_words r = codes "border" ∷ decimal r.arc ∷ decimal r.left ∷ decimal
 
 abbrev pub borders_text : ℕ → List BorderRow → List ℕ
 borders_text k rows = line (codes "borders" ∷ decimal k ∷ []) ++ lines (map border_words rows) ++ line (codes "end" ∷ [])
+
+-- ---- why a map is refused
+
+abbrev pub limit_word : LimitKind → List ℕ
+limit_word Classes = codes "classes"
+limit_word Faces = codes "faces"
+limit_word Arcs = codes "arcs"
+limit_word Points = codes "points"
+
+-- the fault of this number and name, with what shows it
+abbrev pub refused_words : List ℕ → List ℕ → List (List ℕ) → List (List ℕ)
+refused_words number name values = codes "refused" ∷ number ∷ name ∷ values
+
+abbrev pub fault_words : MapFault → List (List ℕ)
+fault_words NotJson = refused_words (codes "1") (codes "not-json") []
+fault_words (Shape place at) = refused_words (codes "2") (codes "shape") (decimal place ∷ decimal at ∷ [])
+fault_words NoObject = refused_words (codes "3") (codes "no-object") []
+fault_words (ManyObjects count) = refused_words (codes "4") (codes "many-objects") (decimal count ∷ [])
+fault_words (NotWhole arc position) = refused_words (codes "5") (codes "not-whole") (decimal arc ∷ decimal position ∷ [])
+fault_words (OutOfRange arc position) = refused_words (codes "6") (codes "out-of-range") (decimal arc ∷ decimal position ∷ [])
+fault_words (ArcShort arc) = refused_words (codes "7") (codes "arc-short") (decimal arc ∷ [])
+fault_words (ArcIndex ring place index) = refused_words (codes "8") (codes "arc-index") (decimal ring ∷ decimal place ∷ signed_decimal index ∷ [])
+fault_words (Limit which count) = refused_words (codes "9") (codes "limit") (limit_word which ∷ decimal count ∷ [])
+fault_words (RingOpen ring place) = refused_words (codes "11") (codes "ring-open") (decimal ring ∷ decimal place ∷ [])
+fault_words (RingFlat ring) = refused_words (codes "12") (codes "ring-flat") (decimal ring ∷ [])
+fault_words (SideTaken arc side first second) =
+    refused_words (codes "13") (codes "side-taken") (decimal arc ∷ decimal side ∷ decimal first ∷ decimal second ∷ [])
+fault_words (SameSides arc face) = refused_words (codes "14") (codes "same-sides") (decimal arc ∷ decimal face ∷ [])
+fault_words (Meets i j at) =
+    refused_words (codes "15") (codes "meets") (decimal i ∷ decimal j ∷ signed_decimal at.nx ∷ signed_decimal at.ny ∷ signed_decimal at.d ∷ [])
+fault_words (NodeDisagrees node spoke next left right) =
+    refused_words (codes "16") (codes "node") (signed_decimal node.x ∷ signed_decimal node.y ∷ decimal spoke ∷ decimal next ∷ decimal left ∷ decimal right ∷ [])
+fault_words (StackDisagrees at place upper lower) =
+    refused_words (codes "17") (codes "stack") (signed_decimal at ∷ decimal place ∷ decimal upper ∷ decimal lower ∷ [])
+fault_words (BadLine n) = refused_words (codes "18") (codes "bad-line") (decimal n ∷ [])
+fault_words (BadRules place) = refused_words (codes "19") (codes "bad-rules") (decimal place ∷ [])
+fault_words (InputLong max) = refused_words (codes "20") (codes "input-long") (decimal max ∷ [])
+
+-- the line of a fault
+abbrev pub fault_text : MapFault → List ℕ
+fault_text fault = line (fault_words fault)

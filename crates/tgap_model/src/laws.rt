@@ -1,6 +1,6 @@
 //! Laws of the definitions. The functions do nothing: the contract of each is a law, which is proved with the crate.
 
-ghost use Rattle.tgap_model.specs.Laws.{LabelsChange, NeighboursCancel, InsideOneFace, ClearIsSymmetric, EndedEdgesVanish, ChainsAreUnique, SlicesAreUnique, InnerVerticesStandOnce};
+ghost use Rattle.tgap_model.specs.Laws.{LabelsChange, NeighboursCancel, InsideOneFace, InsideBelowNearest, ClearIsSymmetric, EndedEdgesVanish, ChainsAreUnique, SlicesAreUnique, InnerVerticesStandOnce};
 
 /// Labels down a vertical line that agree still agree where they are changed to others, 0 staying 0, and borders between
 /// faces that have become one are left out; and what is reached is the other label of what was reached.
@@ -41,4 +41,10 @@ pub fn slices_are_unique()
 /// Where segments have no point in common but permitted ones, an inner vertex stands once.
 pub fn inner_vertices_stand_once()
     ensures { InnerVerticesStandOnce }
+{}
+
+/// Where the faces agree down each vertical line, a point is inside the face below the nearest segment above it, where there is
+/// one and that face is not the outside.
+pub fn inside_below_nearest()
+    ensures { InsideBelowNearest }
 {}

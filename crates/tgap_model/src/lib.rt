@@ -6,6 +6,7 @@
 mod base;
 mod border;
 mod bordered;
+mod checked;
 mod failure;
 mod fault;
 mod geometry;
@@ -21,6 +22,7 @@ mod validity;
 
 pub use base::{Base, BaseArc, Rules, Transform};
 pub use border::BorderRow;
+pub use checked::Checked;
 pub use failure::{Memory, Or};
 pub use fault::{LimitKind, MapFault};
 pub use geometry::{Fraction, Point, Seg, Shared, Window};
@@ -38,3 +40,4 @@ pub use record::{Mend, Packet, Piece, Put, StepRecord};
 pub use segment::{LabelledSegment, base_segments};
 pub use slice::{Edge, FaceRow, Removal, Slice};
 pub use text::Text;
+pub use validity::are_without_repeat;

@@ -1,11 +1,13 @@
 //! The segments of a base map, with what stands at their sides.
 
-ghost use Rattle.std.specs.Prelude.{◌≡◌, ◌<◌, ◌++◌, ◌^◌, length, IfOk, if◌then◌else◌, is_ok};
-ghost use Rattle.tgap_model.specs.Partition.{path_segments, arc_segments, base_segments};
+ghost use Rattle.std.specs.Prelude.{◌≡◌, ◌<◌, ◌≤◌, IsTrue, ◌++◌, ◌^◌, length, IfOk, if◌then◌else◌, is_ok};
+ghost use Rattle.std.specs.List.{list_all};
+ghost use Rattle.tgap_model.specs.Partition.{is_proper, path_segments, arc_segments, base_segments};
 
 use crate::base::{Base, BaseArc};
 use crate::failure::Memory;
 use crate::geometry::{Point, Seg};
+use crate::limits::MAX_POINTS;
 use crate::list::List;
 use std::alloc::Global;
 
@@ -50,7 +52,9 @@ fn push_path(segments: &mut Vec<LabelledSegment>, number: u32, arc: &BaseArc) ->
 
 /// The segments of a base map, in the order of their numbers.
 pub fn base_segments(alloc: Global, base: &Base) -> Result<List<LabelledSegment>, Memory>
-    ensures { IfOk result (λ segments. segments ≡ base_segments base.now) }
+    ensures listed { IfOk result (λ segments. segments ≡ base_segments base.now) }
+    ensures proper { IfOk result (λ segments. IsTrue (list_all is_proper segments)) }
+    ensures few { IfOk result (λ segments. length segments ≤ MAX_POINTS) }
 {
     let arcs = base.arcs().as_slice();
     let mut segments = Vec::new(alloc);

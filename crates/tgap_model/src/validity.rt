@@ -79,7 +79,7 @@ fn is_same(a: &Point, b: &Point) -> bool
 }
 
 /// Whether no two points in a row are one.
-fn are_without_repeat(points: &[Point]) -> bool
+pub fn are_without_repeat(points: &[Point]) -> bool
     ensures { result ≡ no_repeat points.now }
 {
     for i in 1..points.len() {

@@ -1,17 +1,24 @@
 use Rattle.std.proofs.Common.{◌∙◌, sym}
 use Rattle.std.proofs.lemmas.Result.{err_from_is_err_and}
-use Rattle.tgap_model.specs.Listing.{read_row, read_arc}
-use Rattle.area_listing.specs.Taking.{rows}
+use Rattle.tgap_model.specs.Listing.{arc_at}
 use Rattle.area_listing.proofs.Loops.{refused, arcs_go_on, arcs_stop, arcs_done}
+use Rattle.area_listing.proofs.Sections.{arc_at_is}
 use Rattle.area_listing.proofs.section.arcs_at.Goals as goal
 
 pub returns-in_err-arc : goal.returns-in_err-arc
 returns-in_err-arc c =
     let p = err_from_is_err_and c.from_residual.result c.from_residual.ensures.1 in
-    rw (p.1, p.2) (refused c.in_err-arc.field-0.0 (read_row read_arc (rows c.loop.lines)) _ (λ e. sym c.loop.invariant ∙ arcs_stop c.loop.arcs c.args.n c.loop.counter (rows c.loop.lines) c.loop-test.true e) c.in_err-arc.ensures)
-
-pub loop-preserved : goal.loop-preserved
-loop-preserved c = rw c.in_ok-push.ensures (arcs_go_on c.loop.arcs c.args.n c.loop.counter (rows c.loop.lines) c.in_ok-arc.arc (rows c.read_arc.new.lines) c.loop-test.true c.in_ok-arc.ensures ∙ c.loop.invariant)
+    let l = c.loop in
+    rw (p.1, p.2) (refused c.in_err-arc.field-0.0 (arc_at c.args.faces l.points l.lines) _ (λ f e. sym l.invariant.read ∙ arcs_stop c.args.faces l.points l.arcs c.args.n l.counter l.lines f c.loop-test.true e) c.in_err-arc.ensures)
 
 pub returns : goal.returns
-returns c = sym c.loop.invariant ∙ arcs_done c.loop.arcs c.args.n c.loop.counter (rows c.loop.lines) c.loop-test.false
+returns c = sym c.loop.invariant.read ∙ arcs_done c.args.faces c.loop.points c.loop.arcs c.args.n c.loop.counter c.loop.lines c.loop-test.false
+
+pub loop-preserved : goal.loop-preserved
+loop-preserved c =
+    let l = c.loop in
+    let arc = c.in_ok-arc.arc in
+    let one = c.in_ok-arc.ensures in
+    let more = arcs_go_on c.args.faces l.points l.arcs c.args.n l.counter l.lines arc c.read_arc.new.lines c.loop-test.true one in
+    let fits = (arc_at_is c.args.faces l.points l.lines (arc, c.read_arc.new.lines) one).few in
+    record { read = rw (c.in_ok-push.ensures, c.len-points.ensures) (more ∙ l.invariant.read); few = rw c.len-points.ensures fits }

@@ -1,7 +1,11 @@
-use Rattle.std.proofs.Common.{◌≡◌, ◌-◌}
+use Rattle.std.proofs.Common.{◌≡◌, ◌-◌, ◌≤◌}
+use Rattle.tgap_model.specs.declared.limits.TheConstants.{MAX_POINTS}
 use Rattle.tgap_model.specs.Listing.{arcs_at}
-use Rattle.area_listing.specs.Taking.{rows, with_front}
+use Rattle.area_listing.specs.Fronts.{in_front}
 use Rattle.area_listing.proofs.section.arcs_at.Given as goal
 
 abbrev pub invariant-loop : goal.invariant-loop
-invariant-loop l = with_front l.arcs (arcs_at (l.n - l.counter) (rows l.lines)) ≡ arcs_at l.n (rows l.fn.lines)
+invariant-loop l = record {
+  read : in_front l.arcs (arcs_at l.faces l.points (l.n - l.counter) l.lines) ≡ arcs_at l.faces 0 l.n l.fn.lines;
+  few : l.points ≤ MAX_POINTS;
+}

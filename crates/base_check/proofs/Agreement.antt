@@ -1,0 +1,58 @@
+-- A base map agrees at its nodes exactly where its arcs have no fault.
+use Rattle.std.proofs.Common.{◌≡◌, ℕ, ◌+◌, ◌==◌, true, false, List, [], ◌∷◌, All, Option, Some, None, refl, ap, ◌∙◌}
+use Rattle.std.specs.List.{list_all}
+use Rattle.std.proofs.lemmas.Bool.{and_parts}
+use Rattle.std.proofs.lemmas.List.Elements.{All-nil, All-cons, All-append}
+use Rattle.tgap_model.specs.declared.geometry.Point.{Point}
+use Rattle.tgap_model.specs.declared.base.BaseArc.{BaseArc}
+use Rattle.tgap_model.specs.declared.segment.LabelledSegment.{LabelledSegment}
+use Rattle.tgap_model.specs.declared.fault.MapFault.{MapFault}
+use Rattle.tgap_model.specs.Base.{BaseMap, is_arc, is_base}
+use Rattle.tgap_model.specs.Partition.{AgreesAtNodes, path_segments, arc_segments, base_segments, node_fault, nodes, first_fault, or_else, meeting_fault, ring_fault_of, arc_fault}
+use Rattle.tgap_model.proofs.BaseFacts.{arc_facts, base_facts}
+use Rattle.planar_apart.specs.declared.meeting.Meeting.{Meeting}
+use Rattle.planar_apart.specs.Meetings.{meets, IsMeeting}
+use Rattle.planar_apart.proofs.Pairs.{no_segment}
+use Rattle.base_check.specs.declared.ring.NodeGap.{NodeGap}
+use Rattle.base_check.specs.Spokes.{disagrees}
+
+-- ---- the two faces of a segment
+
+abbrev HasTwoFaces : LabelledSegment → Type 0
+HasTwoFaces s = (s.left == s.right) ≡ false
+
+path_faces : (arc left right place : ℕ) (points : List Point) → (left == right) ≡ false → All HasTwoFaces (path_segments arc left right place points)
+path_faces arc left right place [] e = All-nil HasTwoFaces
+path_faces arc left right place (p ∷ []) e = All-nil HasTwoFaces
+path_faces arc left right place (p ∷ q ∷ points) e = All-cons HasTwoFaces _ _ e (path_faces arc left right (place + 1) (q ∷ points) e)
+
+arc_faces : (n i : ℕ) (arcs : List BaseArc) → list_all (is_arc n) arcs ≡ true → All HasTwoFaces (arc_segments i arcs)
+arc_faces n i [] h = All-nil HasTwoFaces
+arc_faces n i (a ∷ arcs) h =
+    let both = and_parts (is_arc n a) (list_all (is_arc n) arcs) h in
+    All-append HasTwoFaces (path_segments i a.left a.right 0 a.points) (arc_segments (i + 1) arcs) (path_faces i a.left a.right 0 a.points (arc_facts n a both.0).differ) (arc_faces n (i + 1) arcs both.1)
+
+pub two_faces : (m : BaseMap) → is_base m ≡ true → All HasTwoFaces (base_segments m)
+two_faces m h = arc_faces _ 0 m.arcs (base_facts m h).arcs
+
+-- ---- the first fault
+
+pub meeting_is_fault : (m : BaseMap) (found : Meeting) → meeting_fault m ≡ Some (meets found) → arc_fault m ≡ Some (meets found)
+unfolding arc_fault
+meeting_is_fault m found e = ap (λ (o : Option MapFault). or_else o (ring_fault_of m)) e
+
+pub node_is_fault : (m : BaseMap) (o : Option MapFault) → meeting_fault m ≡ None → ring_fault_of m ≡ o → arc_fault m ≡ o
+unfolding arc_fault
+node_is_fault m o e f = ap (λ (p : Option MapFault). or_else p (ring_fault_of m)) e ∙ f
+
+-- ---- maps that agree have none
+
+pub no_meeting : (m : BaseMap) (found : Meeting) → AgreesAtNodes (base_segments m) → IsMeeting (base_segments m) found → ⊥
+no_meeting m found agrees h = agrees.apart found.i found.j no_segment h.order h.inside found.at (h.common no_segment)
+
+none_of : {A : Type 0} (find : A → Option MapFault) (xs : List A) → ((x : A) → find x ≡ None) → first_fault find xs ≡ None
+none_of find [] h = refl
+none_of find (x ∷ xs) h = ap (λ (o : Option MapFault). elim o [ None ↦ first_fault find xs | Some fault ↦ Some fault ]) (h x) ∙ none_of find xs h
+
+pub no_node_gap : (m : BaseMap) (gap : NodeGap) → AgreesAtNodes (base_segments m) → Some (disagrees gap) ≡ ring_fault_of m → ⊥
+no_node_gap m gap agrees e = let none = e ∙ none_of (node_fault (base_segments m)) (nodes (base_segments m)) agrees.nodes in absurd cc

@@ -1,0 +1,7 @@
+pub mod Order
+pub mod Spokes
+pub mod Rings
+pub mod Nodes
+pub mod Apart
+pub mod Faults
+pub mod Agreement

@@ -1,0 +1,9 @@
+pub mod Sizes
+pub mod Products
+pub mod Intervals
+pub mod Places
+pub mod Lines
+pub mod Crossing
+pub mod Overlap
+pub mod CommonPoint
+pub mod Directions

@@ -1,0 +1,77 @@
+//! Exact predicates of plane geometry over grid points: no overflow, no floating point, no memory. It stands on
+//! `tgap_model`, whose `Segment` defines each of them.
+#![tactic(auto)]
+
+ghost use Rattle.std.specs.Prelude.{◌≡◌, ◌≢◌, pos, true, IsTrue, IfSome, None};
+ghost use Rattle.tgap_model.specs.Base.{in_limits};
+ghost use Rattle.tgap_model.specs.Point.{side, area2};
+ghost use Rattle.tgap_model.specs.Segment.{HaveInCommon, common_point, turns_before};
+
+mod common;
+mod determinant;
+mod direction;
+
+use common::{any_common, is_permitted};
+use determinant::orientation;
+use direction::is_in_first_half;
+pub use tgap_model::Shared;
+use tgap_model::{Fraction, Point, Seg};
+
+/// The side of `c` against the line from `a` to `b`: 1 at its left, -1 at its right, 0 on it.
+pub fn side(a: Point, b: Point, c: Point) -> i8
+    requires a { IsTrue (in_limits a) }
+    requires b { IsTrue (in_limits b) }
+    requires c { IsTrue (in_limits c) }
+    ensures { result ≡ side a b c }
+{
+    orientation(a, b, c).signum() as i8
+}
+
+/// Twice the area of the triangle of three points, in square grid units.
+pub fn area2(a: Point, b: Point, c: Point) -> i128
+    requires a { IsTrue (in_limits a) }
+    requires b { IsTrue (in_limits b) }
+    requires c { IsTrue (in_limits c) }
+    ensures { result ≡ pos (area2 a b c) }
+{
+    orientation(a, b, c).abs()
+}
+
+/// A point that both segments hold and that is no end at which they may meet, or None exactly where there is none.
+///
+/// Of segments that are not parallel it is the point of their lines; its denominator is the absolute cross product of their
+/// directions, and the fraction is not reduced. Of segments on one line it is the middle of the common part, over 2.
+/// The first segment has two different ends; the second may be a single point. A flag of `shared` permits the end of the
+/// first segment that it names.
+pub fn common_point(s: Seg, t: Seg, shared: Shared) -> Option<Fraction>
+    requires ends { (IsTrue (in_limits s.a) × IsTrue (in_limits s.b)) × (IsTrue (in_limits t.a) × IsTrue (in_limits t.b)) }
+    requires apart { s.a ≢ s.b }
+    ensures value { result ≡ common_point s t shared }
+    // It is on both segments, and no permitted end.
+    ensures found { IfSome result (HaveInCommon s t shared) }
+    // There is none only where every point of both is a permitted end.
+    ensures none { result ≡ None → (p : Fraction) → ¬ (HaveInCommon s t shared p) }
+{
+    let p = any_common(s, t)?;
+    if is_permitted(shared, s, t, p) {
+        None
+    } else {
+        Some(p)
+    }
+}
+
+/// Whether the direction from `o` to `p` comes before that to `q`, counter-clockwise from the direction of positive x.
+pub fn turn_before(o: Point, p: Point, q: Point) -> bool
+    requires o { IsTrue (in_limits o) }
+    requires p { IsTrue (in_limits p) × (o ≢ p) }
+    requires q { IsTrue (in_limits q) × (o ≢ q) }
+    ensures { result ≡ turns_before o p q }
+{
+    let first = is_in_first_half(o, p);
+    let second = is_in_first_half(o, q);
+    if first == second {
+        orientation(o, p, q) > 0
+    } else {
+        first
+    }
+}

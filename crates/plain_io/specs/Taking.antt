@@ -1,0 +1,45 @@
+-- What the steps of reading answer, beside the definitions of what is read.
+use Rattle.std.specs.Prelude.{◌≡◌, ℕ, ◌==◌, List, map, Option, Some, None, Result, Ok, Err, ⊤}
+use Rattle.std.specs.List.{slice_split}
+use Rattle.tgap_model.specs.declared.failure.Or.{Or}
+use Rattle.tgap_model.specs.declared.failure.Or.TheVariants.{Fault, Memory}
+use Rattle.tgap_model.specs.Words.{Row}
+
+-- the rows of words of these lines
+abbrev pub rows : List (List ℕ) → List Row
+rows lines = map (slice_split (λ b. b == 32)) lines
+
+-- what a step took and what it left, or that there is nothing of its form
+abbrev pub Takes : {A S : Type 0} → Option A → S → Option (A × S) → Type 0
+Takes (Some x) rest read = read ≡ Some (x, rest)
+Takes None rest read = read ≡ None
+
+-- the same for a step that only leaves
+abbrev pub Skips : {A S : Type 0} → Option A → S → Option S → Type 0
+Skips (Some x) rest read = read ≡ Some rest
+Skips None rest read = read ≡ None
+
+-- the fault that is read; want of memory says nothing
+abbrev pub Refuses : {X F : Type 0} → Or F → Result X F → Type 0
+Refuses (Fault fault) read = read ≡ Err fault
+Refuses Memory read = ⊤
+
+-- what is read in the end, want of memory apart
+abbrev pub GivesWhole : {X F : Type 0} → Result X (Or F) → Result X F → Type 0
+GivesWhole (Ok x) read = read ≡ Ok x
+GivesWhole (Err e) read = Refuses e read
+
+-- what a step in memory took and what it left
+abbrev pub Gives : {A S F : Type 0} → Result A (Or F) → S → Result (A × S) F → Type 0
+Gives (Ok x) rest read = read ≡ Ok (x, rest)
+Gives (Err e) rest read = Refuses e read
+
+-- what a step in memory put after what was there, what it gave and what it left
+abbrev pub GivesWith : {A B S F : Type 0} → Result B (Or F) → A → S → Result ((A × B) × S) F → Type 0
+GivesWith (Ok x) all rest read = read ≡ Ok ((all, x), rest)
+GivesWith (Err e) all rest read = Refuses e read
+
+-- the same for a step that gives nothing
+abbrev pub GivesOnto : {A B S F : Type 0} → Result B (Or F) → A → S → Result (A × S) F → Type 0
+GivesOnto (Ok x) all rest read = read ≡ Ok (all, rest)
+GivesOnto (Err e) all rest read = Refuses e read

@@ -1,0 +1,36 @@
+//! Whether the segments of a base map have no point in common but permitted ones. It stands on `grid_geo`, which finds the
+//! common point of two segments, and on `tgap_model`, whose `Partition` defines the least pair that meets.
+#![tactic(auto)]
+
+ghost use Rattle.std.specs.Prelude.{◌≡◌, IfOk, Ok, Some, None, option_map, AllPairs};
+ghost use Rattle.tgap_model.specs.Partition.{AreApart, base_segments, meeting_fault};
+ghost use Rattle.planar_apart.specs.Meetings.{meets, IsMeeting};
+
+mod meeting;
+mod pair;
+
+pub use meeting::Meeting;
+use meeting::first_pair;
+use std::alloc::Global;
+use std::thread::Threads;
+use tgap_model::{Base, Memory, base_segments};
+
+/// The least pair of segments that meet where they may not, with a point that both hold, or None exactly where there is none.
+///
+/// Every pair of segments is looked at, so the cost is the square of their number; a pair whose bounding boxes are apart
+/// costs a few comparisons.
+pub fn first_meeting<R: Threads + Sync>(
+    _rt: &R,
+    alloc: Global,
+    base: &Base,
+) -> Result<Option<Meeting>, Memory>
+    // It is the least pair by the definition.
+    ensures exact { IfOk result (λ found. option_map meets found ≡ meeting_fault base.now) }
+    // The two have the point in common, and it is no end at which they may meet.
+    ensures found { (m : Meeting) → result ≡ Ok (Some m) → IsMeeting (base_segments base.now) m }
+    // There is none only where all pairs are apart.
+    ensures apart { result ≡ Ok None → AllPairs AreApart (base_segments base.now) }
+{
+    let segments = base_segments(alloc, base)?;
+    Ok(first_pair(segments.as_slice()))
+}
