@@ -1,4 +1,4 @@
--- A base map agrees at its nodes exactly where its arcs have no fault.
+-- A base map is a planar partition exactly where it has no fault.
 use Rattle.std.proofs.Common.{◌≡◌, ℕ, ◌+◌, ◌==◌, true, false, List, [], ◌∷◌, All, Option, Some, None, refl, ap, ◌∙◌}
 use Rattle.std.specs.List.{list_all}
 use Rattle.std.proofs.lemmas.Bool.{and_parts}
@@ -8,7 +8,7 @@ use Rattle.tgap_model.specs.declared.base.BaseArc.{BaseArc}
 use Rattle.tgap_model.specs.declared.segment.LabelledSegment.{LabelledSegment}
 use Rattle.tgap_model.specs.declared.fault.MapFault.{MapFault}
 use Rattle.tgap_model.specs.Base.{BaseMap, is_arc, is_base}
-use Rattle.tgap_model.specs.Partition.{AgreesAtNodes, path_segments, arc_segments, base_segments, node_fault, nodes, first_fault, or_else, meeting_fault, ring_fault_of, arc_fault}
+use Rattle.tgap_model.specs.Partition.{AgreesAtNodes, path_segments, arc_segments, base_segments, node_fault, nodes, first_fault, or_else, meeting_fault, ring_fault_of, stack_fault_of, arc_fault, map_fault}
 use Rattle.tgap_model.proofs.BaseFacts.{arc_facts, base_facts}
 use Rattle.planar_apart.specs.declared.meeting.Meeting.{Meeting}
 use Rattle.planar_apart.specs.Meetings.{meets, IsMeeting}
@@ -56,3 +56,13 @@ none_of find (x ∷ xs) h = ap (λ (o : Option MapFault). elim o [ None ↦ firs
 
 pub no_node_gap : (m : BaseMap) (gap : NodeGap) → AgreesAtNodes (base_segments m) → Some (disagrees gap) ≡ ring_fault_of m → ⊥
 no_node_gap m gap agrees e = let none = e ∙ none_of (node_fault (base_segments m)) (nodes (base_segments m)) agrees.nodes in absurd cc
+
+-- ---- stacks after arcs
+
+pub map_fault-sound : (m : BaseMap) (o : Option MapFault) → arc_fault m ≡ None → stack_fault_of m ≡ o → map_fault m ≡ o
+unfolding map_fault
+map_fault-sound m o e f = ap (λ (p : Option MapFault). or_else p (stack_fault_of m)) e ∙ f
+
+pub map_fault-arcs : (m : BaseMap) (fault : MapFault) → arc_fault m ≡ Some fault → map_fault m ≡ Some fault
+unfolding map_fault
+map_fault-arcs m fault e = ap (λ (p : Option MapFault). or_else p (stack_fault_of m)) e

@@ -1,11 +1,12 @@
-//! Whether a base map is sound: first whether its segments meet where they may not, by `planar_apart`, and then whether the faces
-//! agree round each node. It stands on `tgap_model`, whose `Partition` defines both.
+//! Whether a base map is a planar partition: first whether its segments meet where they may not, by `planar_apart`, then whether
+//! the faces agree round each node, and last whether they agree down each vertical line, by `planar_stack`. It stands on
+//! `tgap_model`, whose `Partition` defines all three.
 #![tactic(auto)]
 
 ghost use Rattle.std.specs.Prelude.{◌≡◌, IfOk, Ok, Err, Some, None, option_map, AllPairs};
 ghost use Rattle.tgap_model.specs.declared.geometry.Point.{Point as Place};
 ghost use Rattle.tgap_model.specs.declared.failure.Or.TheVariants.{Fault};
-ghost use Rattle.tgap_model.specs.Partition.{AreApart, AgreesAtNodes, base_segments, node_fault, ring_fault_of, arc_fault};
+ghost use Rattle.tgap_model.specs.Partition.{AreApart, AgreesAtNodes, base_segments, node_fault, ring_fault_of, arc_fault, map_fault, IsPartition};
 ghost use Rattle.base_check.specs.Spokes.{disagrees};
 
 mod direction;
@@ -13,6 +14,7 @@ mod ring;
 mod spoke;
 
 use planar_apart::{Meeting, first_meeting};
+use planar_stack::first_disagreement;
 pub use ring::NodeGap;
 use ring::first_gap;
 use spoke::sorted_spokes;
@@ -34,21 +36,37 @@ pub fn first_node_gap(alloc: Global, base: &Base) -> Result<Option<NodeGap>, Mem
     Ok(first_gap(spokes.as_slice()))
 }
 
-/// The base map as a checked one, or its first fault: a meeting of segments before a node at which faces disagree.
-/// What is refused is dropped.
-pub fn check<R: Threads + Sync>(rt: &R, alloc: Global, base: Base) -> Result<Checked, Or<MapFault>>
-    // It is the same base map, and it has no fault.
-    ensures sound { IfOk result (λ checked. (checked ≡ base) × (arc_fault base ≡ None)) }
-    // The fault is the first one.
-    ensures fault { (f : MapFault) → result ≡ Err (Fault f) → arc_fault base ≡ Some f }
-    // There is no fault exactly where the map agrees.
-    ensures agrees { AgreesAtNodes (base_segments base) → (f : MapFault) → ¬ (result ≡ Err (Fault f)) }
+/// Whether no two segments meet where they may not and the faces agree round each node, or else the first fault: a meeting
+/// before a node.
+fn check_arcs<R: Threads + Sync>(rt: &R, alloc: Global, base: &Base) -> Result<(), Or<MapFault>>
+    ensures apart { IfOk result (λ _. AllPairs AreApart (base_segments base.now)) }
+    ensures nodes { IfOk result (λ _. (v : Place) → node_fault (base_segments base.now) v ≡ None) }
+    ensures sound { IfOk result (λ _. arc_fault base.now ≡ None) }
+    ensures fault { (f : MapFault) → result ≡ Err (Fault f) → arc_fault base.now ≡ Some f }
+    ensures agrees { AgreesAtNodes (base_segments base.now) → (f : MapFault) → ¬ (result ≡ Err (Fault f)) }
 {
-    if let Some(Meeting { i, j, at }) = first_meeting(rt, alloc, &base)? {
+    if let Some(Meeting { i, j, at }) = first_meeting(rt, alloc, base)? {
         return Err(Or::Fault(MapFault::Meets { i, j, at }));
     }
-    if let Some(gap) = first_node_gap(alloc, &base)? {
+    if let Some(gap) = first_node_gap(alloc, base)? {
         return Err(Or::Fault(gap.fault()));
+    }
+    Ok(())
+}
+
+/// The base map as a checked one, or its first fault: a meeting of segments, then a node at which faces disagree, then a vertical
+/// line on which they do. What is refused is dropped.
+pub fn check<R: Threads + Sync>(rt: &R, alloc: Global, base: Base) -> Result<Checked, Or<MapFault>>
+    // It is the same base map, and it has no fault.
+    ensures sound { IfOk result (λ checked. (checked ≡ base) × (map_fault base ≡ None)) }
+    // The fault is the first one.
+    ensures fault { (f : MapFault) → result ≡ Err (Fault f) → map_fault base ≡ Some f }
+    // There is no fault where the map is a planar partition.
+    ensures partition { IsPartition (base_segments base) → (f : MapFault) → ¬ (result ≡ Err (Fault f)) }
+{
+    check_arcs(rt, alloc, &base)?;
+    if let Some(disagreement) = first_disagreement(rt, alloc, &base)? {
+        return Err(Or::Fault(disagreement.fault()));
     }
     Ok(Checked::of(base))
 }

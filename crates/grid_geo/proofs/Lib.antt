@@ -7,3 +7,4 @@ pub mod Crossing
 pub mod Overlap
 pub mod CommonPoint
 pub mod Directions
+pub mod Heights

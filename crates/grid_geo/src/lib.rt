@@ -10,10 +10,12 @@ ghost use Rattle.tgap_model.specs.Segment.{HaveInCommon, common_point, turns_bef
 mod common;
 mod determinant;
 mod direction;
+mod height;
 
 use common::{any_common, is_permitted};
 use determinant::orientation;
 use direction::is_in_first_half;
+pub use height::cmp_on_line;
 pub use tgap_model::Shared;
 use tgap_model::{Fraction, Point, Seg};
 

@@ -10,7 +10,7 @@ use Rattle.tgap_model.specs.History.{history_of}
 use Rattle.tgap_model.specs.Listing.{listing}
 use Rattle.tgap_model.specs.Texts.{fault_text}
 use Rattle.tgap_model.specs.Command.{Answer, Command, Question, Borders, Check, Answers, AnswersCommand, IsDone, IsRefused, IsTooHigh, FailsFor, answer_from, map_answer, borders_answer, check_answer, command, usage, load_fault, refused, input_long, out_of_memory}
-use Rattle.tgap_model.specs.Partition.{arc_fault}
+use Rattle.tgap_model.specs.Partition.{map_fault}
 use Rattle.map_server.specs.Delivery.{Delivers}
 
 -- ---- the answer from bytes, by cases
@@ -43,14 +43,14 @@ borders_cases m k =
       | inr enough ↦ inl (record { status = rw (le-ltb _ _ enough) refl; done = (enough, rw (le-ltb _ _ enough) refl) })
     ]
 
-check_cases : (m : BaseMap) (o : Option MapFault) → arc_fault m ≡ o → Done Check m (check_answer m) ⊎ (TooHigh Check m (check_answer m) ⊎ Fails Check m (check_answer m))
+check_cases : (m : BaseMap) (o : Option MapFault) → map_fault m ≡ o → Done Check m (check_answer m) ⊎ (TooHigh Check m (check_answer m) ⊎ Fails Check m (check_answer m))
 unfolding check_answer
 check_cases m None e = inl (record { status = rw (e, check_answer) refl; done = (e, rw (e, check_answer) refl) })
 check_cases m (Some fault) e = inr (inr (record { fault = fault; fails = e; answer = rw (e, check_answer) refl }))
 
 map_cases : (q : Question) (m : BaseMap) → Done q m (map_answer q m) ⊎ (TooHigh q m (map_answer q m) ⊎ Fails q m (map_answer q m))
 map_cases (Borders k) m = borders_cases m k
-map_cases Check m = check_cases m (arc_fault m) refl
+map_cases Check m = check_cases m (map_fault m) refl
 
 -- what the bytes of a map file give
 abbrev pub FromMap : List ℕ → Question → Answer → Type 0

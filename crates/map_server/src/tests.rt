@@ -271,7 +271,7 @@ fn listing_of(alloc: Global, faces: u32, arcs: &[&str]) -> Result<Vec<u8>, Memor
 #[test]
 fn checked_maps(rt: HostRuntime) -> Result<(), Fail> {
     let alloc = rt.alloc();
-    let cases: [(u32, &[&str], u8, &str); 12] = [
+    let cases: [(u32, &[&str], u8, &str); 15] = [
         (0, &[], 0, "ok faces 0 arcs 0 points 0"),
         (
             2,
@@ -325,6 +325,30 @@ fn checked_maps(rt: HostRuntime) -> Result<(), Fail> {
             "ok faces 2 arcs 2 points 10",
         ),
         (
+            2,
+            &[
+                "1 0 5 0 0 30 0 30 30 0 30 0 0",
+                "2 0 5 10 10 20 10 20 20 10 20 10 10",
+            ],
+            4,
+            "refused 17 stack 10 1 1 0",
+        ),
+        (
+            1,
+            &["0 1 4 0 0 10 0 0 10 0 0"],
+            4,
+            "refused 17 stack 0 0 0 1",
+        ),
+        (
+            1,
+            &[
+                "1 0 5 0 0 30 0 30 30 0 30 0 0",
+                "0 1 5 10 10 20 10 20 20 10 20 10 10",
+            ],
+            0,
+            "ok faces 1 arcs 2 points 10",
+        ),
+        (
             1,
             &["1 0 4 -268435456 -268435456 268435456 -268435456 0 268435456 -268435456 -268435456"],
             0,
@@ -357,17 +381,14 @@ fn checked_maps(rt: HostRuntime) -> Result<(), Fail> {
 fn each_cut_of_a_listing_has_its_line(rt: HostRuntime) -> Result<(), Fail> {
     let alloc = rt.alloc();
     let words = words_of(alloc, "check map")?;
-    let mut line = 1;
-    for (end, byte) in TWO_SQUARES.as_bytes().iter().enumerate() {
+    for end in 0..TWO_SQUARES.len() {
         let front = &TWO_SQUARES.as_bytes()[..end];
+        let line = front.split(|b| *b == b'\n').count();
         let mut files = one_file(alloc, "map", front, List::new(alloc))?;
         let mut out = MemorySink::new(alloc, 100, List::new(alloc))?;
         assert_eq!(rt; run(&rt, alloc, words.as_slice(), &mut files, &mut out), 4);
         let text = format!(in alloc; "refused 18 bad-line {line}\n")?;
         assert_eq!(rt; out.bytes(), text.as_bytes());
-        if *byte == b'\n' {
-            line += 1;
-        }
     }
     Ok(())
 }

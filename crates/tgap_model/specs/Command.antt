@@ -4,7 +4,7 @@ use Rattle.tgap_model.specs.declared.limits.TheConstants.{MAX_MAP_BYTES}
 use Rattle.tgap_model.specs.declared.fault.MapFault.{MapFault}
 use Rattle.tgap_model.specs.declared.fault.MapFault.TheVariants.{InputLong}
 use Rattle.tgap_model.specs.Base.{BaseMap, count_points}
-use Rattle.tgap_model.specs.Partition.{arc_fault}
+use Rattle.tgap_model.specs.Partition.{map_fault}
 use Rattle.tgap_model.specs.Border.{border}
 use Rattle.tgap_model.specs.History.{history_of}
 use Rattle.tgap_model.specs.Listing.{listing}
@@ -83,7 +83,7 @@ ok_text m =
 
 -- the first fault of a base map, or that it has none
 unfoldable pub check_answer : BaseMap → Answer
-check_answer m = elim (arc_fault m) [ Some fault ↦ refused fault | None ↦ record { status = 0; text = ok_text m } ]
+check_answer m = elim (map_fault m) [ Some fault ↦ refused fault | None ↦ record { status = 0; text = ok_text m } ]
 
 -- the answer to a question about a base map
 abbrev pub map_answer : Question → BaseMap → Answer
@@ -101,7 +101,7 @@ file_answer bytes q = if nat_lt MAX_MAP_BYTES (length bytes) then input_long els
 -- what a base map of a file is refused for: `borders` refuses none, and `check` refuses one with a fault for its first fault
 abbrev pub FailsFor : Question → BaseMap → MapFault → Type 0
 FailsFor (Borders k) m fault = ⊥
-FailsFor Check m fault = arc_fault m ≡ Some fault
+FailsFor Check m fault = map_fault m ≡ Some fault
 
 -- a map file that is refused for this fault: it is too long, it is the first fault of the listing, or that of the base map
 abbrev pub IsRefused : Question → List ℕ → MapFault → Type 0
@@ -112,7 +112,7 @@ IsRefused q bytes fault =
 -- the text is what was asked of a base map: its borders, where it has so many steps; or that it has no fault
 abbrev pub IsDone : Question → BaseMap → List ℕ → Type 0
 IsDone (Borders k) m text = (k ≤ length (history_of m)) × (text ≡ borders_text k (border m k))
-IsDone Check m text = (arc_fault m ≡ None) × (text ≡ ok_text m)
+IsDone Check m text = (map_fault m ≡ None) × (text ≡ ok_text m)
 
 -- more steps are asked for than the base map has
 abbrev pub IsTooHigh : Question → BaseMap → Type 0

@@ -1,13 +1,12 @@
 //! A base map that was checked.
 
 ghost use Rattle.std.specs.Prelude.{◌≡◌};
-ghost use Rattle.tgap_model.specs.Partition.{AgreesAtNodes, base_segments};
+ghost use Rattle.tgap_model.specs.Partition.{IsPartition, base_segments};
 
 use crate::base::Base;
 use std::marker::Model;
 
-/// A base map whose segments have no point in common but permitted ones, and whose faces agree round each node. It is made by
-/// whoever has shown that.
+/// A base map that is a planar partition. It is made by whoever has shown that.
 #[derive(Debug, Drop)]
 pub struct Checked {
     base: Base,
@@ -15,19 +14,19 @@ pub struct Checked {
 
 impl Model for Checked {
     ghost use Rattle.tgap_model.specs.Base.{BaseMap};
-    ghost use Rattle.tgap_model.specs.Partition.{AgreesAtNodes, base_segments};
+    ghost use Rattle.tgap_model.specs.Partition.{IsPartition, base_segments};
 
     ghost Value = { BaseMap };
 
     ghost view = { λ c. c.base };
 
-    ghost invariant = { λ c. AgreesAtNodes (base_segments c.base) };
+    ghost invariant = { λ c. IsPartition (base_segments c.base) };
 }
 
 impl Checked {
     /// The base map as a checked one. It takes no memory.
     pub fn of(base: Base) -> Checked
-        requires agrees { AgreesAtNodes (base_segments base) }
+        requires partition { IsPartition (base_segments base) }
         ensures { result ≡ base }
     {
         Checked { base }
@@ -36,7 +35,7 @@ impl Checked {
     /// The base map.
     pub fn base(&self) -> &Base
         ensures value { result.now ≡ self.now }
-        ensures agrees { AgreesAtNodes (base_segments self.now) }
+        ensures partition { IsPartition (base_segments self.now) }
     {
         &self.base
     }

@@ -1,44 +1,36 @@
-use Rattle.std.proofs.Common.{◌≡◌, Ok, Some, None, option_map, sym, ap, ◌∙◌}
-use Rattle.tgap_model.specs.Partition.{meeting_fault, ring_fault_of}
-use Rattle.planar_apart.specs.Meetings.{meets}
-use Rattle.base_check.specs.Spokes.{disagrees}
-use Rattle.base_check.proofs.Agreement.{two_faces, meeting_is_fault, node_is_fault, no_meeting, no_node_gap}
+use Rattle.std.proofs.Common.{◌≡◌, Ok, Err, Some, None, option_map, sym, ap, ◌∙◌}
+use Rattle.tgap_model.specs.declared.failure.Or.TheVariants.{Fault}
+use Rattle.tgap_model.specs.Partition.{stack_fault_of}
+use Rattle.planar_stack.specs.Sweep.{disagrees}
+use Rattle.base_check.proofs.Agreement.{two_faces, map_fault-sound, map_fault-arcs}
 use Rattle.base_check.proofs.check.Goals as goal
+
+pub returns-in_err-check_arcs-clause-fault : goal.returns-in_err-check_arcs-clause-fault
+returns-in_err-check_arcs-clause-fault g c = λ f e.
+    let same : Fault f ≡ c.in_err-check_arcs.field-0.0 = rw e at c.from_residual.ensures.1 in
+    map_fault-arcs c.args.base f (c.check_arcs.ensures.fault f (c.in_err-check_arcs.was ∙ ap Err (sym same)))
 
 pub returns-in-Some-clause-fault : goal.returns-in-Some-clause-fault
 returns-in-Some-clause-fault g c = λ f e.
-    let same : meets c.in-Some.field-0 ≡ f = cc in
-    meeting_is_fault c.args.base c.in-Some.field-0 (sym c.in_ok-i.ensures.exact ∙ ap (option_map meets) c.in-Some.is) ∙ ap Some same
-
-pub returns-in-Some-clause-agrees : goal.returns-in-Some-clause-agrees
-returns-in-Some-clause-agrees g c = λ agrees f e. no_meeting c.args.base c.in-Some.field-0 agrees (c.in_ok-i.ensures.found c.in-Some.field-0 (ap Ok c.in-Some.is))
-
-pub returns-in-Some-2-clause-fault : goal.returns-in-Some-2-clause-fault
-returns-in-Some-2-clause-fault g c = λ f e.
     let same : c.fault.result ≡ f = cc in
-    let none : c.in_ok-i.field-0 ≡ None = c.in_default.is in
-    let meeting : meeting_fault c.args.base ≡ None = sym c.in_ok-i.ensures.exact ∙ ap (option_map meets) none in
-    let gap : ring_fault_of c.args.base ≡ Some (disagrees c.in-Some-2.gap) = sym c.in_ok-gap.ensures.exact ∙ ap (option_map disagrees) c.in-Some-2.is in
-    node_is_fault c.args.base (Some (disagrees c.in-Some-2.gap)) meeting gap ∙ ap Some (sym c.fault.ensures ∙ same)
-
-pub returns-in-Some-2-clause-agrees : goal.returns-in-Some-2-clause-agrees
-returns-in-Some-2-clause-agrees g c = λ agrees f e. no_node_gap c.args.base c.in-Some-2.gap agrees (sym (ap (option_map disagrees) c.in-Some-2.is) ∙ c.in_ok-gap.ensures.exact)
+    let stack : stack_fault_of c.args.base ≡ Some (disagrees c.in-Some.disagreement) = sym c.in_ok-disagreement.ensures.exact ∙ ap (option_map disagrees) c.in-Some.is in
+    map_fault-sound c.args.base (Some (disagrees c.in-Some.disagreement)) c.in_ok-check_arcs.ensures.sound stack ∙ ap Some (sym c.fault.ensures ∙ same)
 
 pub of-requires : goal.of-requires
 of-requires g c =
-    let none : c.in_ok-i.field-0 ≡ None = c.in_default.is in
-    let no_gap : c.in_ok-gap.field-0 ≡ None = c.in_default-2.is in
+    let none : c.in_ok-disagreement.field-0 ≡ None = c.in_default.is in
     record {
-      agrees = record {
-        apart = c.in_ok-i.ensures.apart (ap Ok none);
-        two_faces = two_faces c.args.base (rw c.base.view_is at c.base.invariant);
-        nodes = c.in_ok-gap.ensures.agree (ap Ok no_gap);
+      partition = record {
+        arcs = record {
+          apart = c.in_ok-check_arcs.ensures.apart;
+          two_faces = two_faces c.args.base (rw c.base.view_is at c.base.invariant);
+          nodes = c.in_ok-check_arcs.ensures.nodes;
+        };
+        stacks = c.in_ok-disagreement.ensures.agree (ap Ok none);
       };
     }
 
 pub returns-clause-sound : goal.returns-clause-sound
 returns-clause-sound g c =
-    let none : c.in_ok-i.field-0 ≡ None = c.in_default.is in
-    let no_gap : c.in_ok-gap.field-0 ≡ None = c.in_default-2.is in
-    let meeting : meeting_fault c.args.base ≡ None = sym c.in_ok-i.ensures.exact ∙ ap (option_map meets) none in
-    (c.of.ensures, node_is_fault c.args.base None meeting (sym c.in_ok-gap.ensures.exact ∙ ap (option_map disagrees) no_gap))
+    let none : c.in_ok-disagreement.field-0 ≡ None = c.in_default.is in
+    (c.of.ensures, map_fault-sound c.args.base None c.in_ok-check_arcs.ensures.sound (sym c.in_ok-disagreement.ensures.exact ∙ ap (option_map disagrees) none))

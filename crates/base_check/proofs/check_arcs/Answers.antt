@@ -1,0 +1,38 @@
+use Rattle.std.proofs.Common.{◌≡◌, Ok, Some, None, option_map, sym, ap, ◌∙◌}
+use Rattle.tgap_model.specs.Partition.{meeting_fault, ring_fault_of}
+use Rattle.planar_apart.specs.Meetings.{meets}
+use Rattle.base_check.specs.Spokes.{disagrees}
+use Rattle.base_check.proofs.Agreement.{meeting_is_fault, node_is_fault, no_meeting, no_node_gap}
+use Rattle.base_check.proofs.check_arcs.Goals as goal
+
+pub returns-in-Some-clause-fault : goal.returns-in-Some-clause-fault
+returns-in-Some-clause-fault g c = λ f e.
+    let same : meets c.in-Some.field-0 ≡ f = cc in
+    meeting_is_fault c.args.base.now c.in-Some.field-0 (sym c.in_ok-i.ensures.exact ∙ ap (option_map meets) c.in-Some.is) ∙ ap Some same
+
+pub returns-in-Some-clause-agrees : goal.returns-in-Some-clause-agrees
+returns-in-Some-clause-agrees g c = λ agrees f e. no_meeting c.args.base.now c.in-Some.field-0 agrees (c.in_ok-i.ensures.found c.in-Some.field-0 (ap Ok c.in-Some.is))
+
+pub returns-in-Some-2-clause-fault : goal.returns-in-Some-2-clause-fault
+returns-in-Some-2-clause-fault g c = λ f e.
+    let same : c.fault.result ≡ f = cc in
+    let none : c.in_ok-i.field-0 ≡ None = c.in_default.is in
+    let meeting : meeting_fault c.args.base.now ≡ None = sym c.in_ok-i.ensures.exact ∙ ap (option_map meets) none in
+    let gap : ring_fault_of c.args.base.now ≡ Some (disagrees c.in-Some-2.gap) = sym c.in_ok-gap.ensures.exact ∙ ap (option_map disagrees) c.in-Some-2.is in
+    node_is_fault c.args.base.now (Some (disagrees c.in-Some-2.gap)) meeting gap ∙ ap Some (sym c.fault.ensures ∙ same)
+
+pub returns-in-Some-2-clause-agrees : goal.returns-in-Some-2-clause-agrees
+returns-in-Some-2-clause-agrees g c = λ agrees f e. no_node_gap c.args.base.now c.in-Some-2.gap agrees (sym (ap (option_map disagrees) c.in-Some-2.is) ∙ c.in_ok-gap.ensures.exact)
+
+pub returns-clause-apart : goal.returns-clause-apart
+returns-clause-apart g c = let none : c.in_ok-i.field-0 ≡ None = c.in_default.is in c.in_ok-i.ensures.apart (ap Ok none)
+
+pub returns-clause-nodes : goal.returns-clause-nodes
+returns-clause-nodes g c = let no_gap : c.in_ok-gap.field-0 ≡ None = c.in_default-2.is in c.in_ok-gap.ensures.agree (ap Ok no_gap)
+
+pub returns-clause-sound : goal.returns-clause-sound
+returns-clause-sound g c =
+    let none : c.in_ok-i.field-0 ≡ None = c.in_default.is in
+    let no_gap : c.in_ok-gap.field-0 ≡ None = c.in_default-2.is in
+    let meeting : meeting_fault c.args.base.now ≡ None = sym c.in_ok-i.ensures.exact ∙ ap (option_map meets) none in
+    node_is_fault c.args.base.now None meeting (sym c.in_ok-gap.ensures.exact ∙ ap (option_map disagrees) no_gap)

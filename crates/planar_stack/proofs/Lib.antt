@@ -1,0 +1,8 @@
+pub mod Ascending
+pub mod Crossings
+pub mod Heights
+pub mod Slabs
+pub mod Places
+pub mod Lists
+pub mod Active
+pub mod Swept
