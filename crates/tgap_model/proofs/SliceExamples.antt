@@ -1,5 +1,6 @@
 -- Worked maps at every step, computed from the definitions: degrees, chains, vertex removals, slices and windows.
-use Rattle.std.proofs.Common.{◌≡◌, ℕ, true, false, pos, List, [], ◌∷◌, ◌++◌, refl}
+use Rattle.std.proofs.Common.{◌≡◌, ℕ, true, false, pos, List, [], ◌∷◌, ◌++◌, refl, All, arith}
+use Rattle.std.proofs.lemmas.List.Elements.{All-nil, All-cons}
 use Rattle.tgap_model.specs.declared.geometry.Point.{Point}
 use Rattle.tgap_model.specs.declared.base.BaseArc.{BaseArc}
 use Rattle.tgap_model.specs.declared.slice.Edge.{Edge}
@@ -10,7 +11,7 @@ use Rattle.tgap_model.specs.Merged.{MergedMap, merged}
 use Rattle.tgap_model.specs.Chains.{Link, degree, chains_at, are_chains}
 use Rattle.tgap_model.specs.Clear.{is_clear}
 use Rattle.tgap_model.specs.Removals.{is_removable, sweep, removals_to}
-use Rattle.tgap_model.specs.Slice.{slice, window_of}
+use Rattle.tgap_model.specs.Slice.{IsSlice, IsEdgeOf, left_of, right_of, slice, window_of}
 use Rattle.tgap_model.specs.History.{next_step, history_of}
 use Rattle.tgap_model.proofs.Examples.{two_squares, four_squares, hole_with_face, points_of, step, arc, plain_map}
 
@@ -224,3 +225,32 @@ triangles_removals = refl
 triangles_slice : slice two_triangles 1 ≡ record { step = 1; faces = face 3 ∷ []; edges = edge 0 3 0 (6 ∷ 6 ∷ 0 ∷ 0 ∷ 12 ∷ 0 ∷ 6 ∷ 6 ∷ []) ∷ [] }
 unfolding slice removals_to sweep is_removable is_clear chains_at history_of next_step
 triangles_slice = refl
+
+abbrev two_squares_merged : MergedMap
+two_squares_merged = record { base = two_squares; steps = step 1 2 3 ∷ [] }
+
+-- ---- the relation: the slice of the two squares after the step is one, and an edge with another face is not the chain's
+
+both : (P : Link → Type 0) → P (ahead 0) → P (ahead 1) → All P (ahead 0 ∷ ahead 1 ∷ [])
+both P p q = All-cons P (ahead 0) (ahead 1 ∷ []) p (All-cons P (ahead 1) [] q (All-nil P))
+
+two_squares_is_slice : IsSlice two_squares_merged 1 (removal 10 0 1 ∷ []) (record { step = 1; faces = face 3 ∷ []; edges = edge 0 3 0 (10 ∷ 10 ∷ 0 ∷ 10 ∷ 0 ∷ 0 ∷ 20 ∷ 0 ∷ 20 ∷ 10 ∷ 10 ∷ 10 ∷ []) ∷ [] })
+unfolding are_chains
+two_squares_is_slice = record {
+  step = refl;
+  faces = refl;
+  chains = (ahead 0 ∷ ahead 1 ∷ []) ∷ [];
+  are_chains = refl;
+  edges = (
+    record {
+      key = refl;
+      points = refl;
+      left = both (λ d. left_of two_squares_merged 1 d ≡ 3) refl refl;
+      right = both (λ d. right_of two_squares_merged 1 d ≡ 0) refl refl;
+    },
+    tt,
+  );
+}
+
+face_before_the_step : IsEdgeOf two_squares_merged 1 (removal 10 0 1 ∷ []) (ahead 0 ∷ ahead 1 ∷ []) (edge 0 2 0 (10 ∷ 10 ∷ 0 ∷ 10 ∷ 0 ∷ 0 ∷ 20 ∷ 0 ∷ 20 ∷ 10 ∷ 10 ∷ 10 ∷ [])) → ⊥
+face_before_the_step h = let left : 3 ≡ 2 = h.left 0 (ahead 0) (omega arith) in absurd (omega (arith, left))
