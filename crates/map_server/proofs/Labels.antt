@@ -8,7 +8,7 @@ use Rattle.std.proofs.lemmas.List.Elements.{All-weaker}
 use Rattle.tgap_model.specs.declared.base.BaseArc.{BaseArc}
 use Rattle.tgap_model.specs.Border.{border_by}
 use Rattle.tgap_model.proofs.BaseFacts.{ArcFacts}
-use Rattle.tgap_model.proofs.MergeSteps.{numbered_at, relabel_loser, relabel_winner, relabel_other}
+use Rattle.map_laws.proofs.MergeSteps.{numbered_at, relabel_loser, relabel_winner, relabel_other}
 use Rattle.tgap_model.specs.History.{label_after, AreNumbered}
 
 -- going back over one step gives its two faces the label of the face that they became

@@ -19,6 +19,5 @@ pub mod Words
 pub mod Lines
 pub mod ListingLines
 pub mod Listing
-pub mod Laws
 pub mod SliceTexts
 pub mod Command

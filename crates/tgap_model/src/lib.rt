@@ -10,7 +10,6 @@ mod checked;
 mod failure;
 mod fault;
 mod geometry;
-mod laws;
 mod limits;
 mod list;
 mod merge;
@@ -26,10 +25,6 @@ pub use checked::Checked;
 pub use failure::{Memory, Or};
 pub use fault::{LimitKind, MapFault};
 pub use geometry::{Fraction, Point, Seg, Shared, Window};
-pub use laws::{
-    chains_are_unique, clear_is_symmetric, ended_edges_vanish, inner_vertices_stand_once,
-    inside_one_face, labels_change, neighbours_cancel, slices_are_unique,
-};
 pub use limits::{
     MAX_ARCS, MAX_CLASSES, MAX_COMPATIBILITY, MAX_COORDINATE, MAX_FACES, MAX_MAP_BYTES, MAX_POINTS,
     MAX_RATIO, MAX_WEIGHT,

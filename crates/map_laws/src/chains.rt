@@ -1,0 +1,18 @@
+//! Laws of chains, slices and records.
+
+ghost use Rattle.map_laws.specs.ChainLaws.{ChainsAreUnique, SlicesAreUnique, EndedEdgesVanish};
+
+/// At most one list is the chains of a map after some steps of its history.
+pub fn chains_are_unique()
+    ensures { ChainsAreUnique }
+{}
+
+/// At most one slice has the faces and the edges of a map after some steps, less the vertices that were removed.
+pub fn slices_are_unique()
+    ensures { SlicesAreUnique }
+{}
+
+/// The edges that a record brings back are made of exactly the arcs that are borders before its step and not after it.
+pub fn ended_edges_vanish()
+    ensures { EndedEdgesVanish }
+{}
