@@ -9,7 +9,7 @@ use Rattle.lemmas.specs.Sorting.{is_before_first, is_sorted_by}
 use Rattle.lemmas.proofs.Sorting.{sorted_next, sorted_tail, sorted_head, sorted_cons, append-is_sorted, sorted_same}
 use Rattle.tgap_model.specs.declared.geometry.Point.{Point}
 use Rattle.tgap_model.specs.declared.segment.LabelledSegment.{LabelledSegment}
-use Rattle.tgap_model.specs.Ascending.{insert_once, distinct_by}
+use Rattle.lemmas.specs.Ascending.{insert_once, distinct_by}
 use Rattle.tgap_model.specs.Base.{same_point}
 use Rattle.tgap_model.specs.Segment.{point_before}
 use Rattle.tgap_model.specs.Partition.{end_points, nodes}

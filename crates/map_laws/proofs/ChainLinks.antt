@@ -10,7 +10,8 @@ use Rattle.tgap_model.specs.Merged.{MergedMap, is_border}
 use Rattle.tgap_model.specs.Chains.{arc_number, border_numbers, degree, joins_before, Link, Chain, link_start, link_end, chain_end, least, key, is_joined, is_closed, is_maximal, is_anchored, is_directed, has_links, covers_border, is_chain, are_chains}
 use Rattle.map_laws.proofs.ChainMembers.{Among, AreDistinct, all_among, any_among, filter_among, joined_among, count_passes, count_grows, among_counts, one_passes, part_counts}
 use Rattle.map_laws.proofs.ChainWalks.{IsRow, last_of, last_among}
-use Rattle.map_laws.proofs.ChainEnds.{same_point-true, same_point-from, turn_apart, IsBorderLink, IsWayOn}
+use Rattle.tgap_model.proofs.Points.{same_point-true, same_point-from}
+use Rattle.map_laws.proofs.ChainEnds.{turn_apart, IsBorderLink, IsWayOn}
 
 -- ---- the key of a chain
 

@@ -4,7 +4,7 @@ use Rattle.std.proofs.lemmas.List.Elements.{Contains-append_right, Contains-get_
 use Rattle.std.specs.Cmp.Derive.{both_true}
 use Rattle.lemmas.specs.Sorting.{is_before_first, is_sorted_by}
 use Rattle.lemmas.proofs.Sorting.{sorted_tail, sorted_next}
-use Rattle.tgap_model.specs.Ascending.{insert_once, distinct_by}
+use Rattle.lemmas.specs.Ascending.{insert_once, distinct_by}
 
 -- a member of a list with a head
 pub in_head : {A : Type 0} (x : A) (xs : List A) → Contains (x ∷ xs) x

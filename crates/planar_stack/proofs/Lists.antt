@@ -15,7 +15,7 @@ use Rattle.lemmas.proofs.Orders.{int_lt_order}
 use Rattle.lemmas.specs.Sorting.{is_sorted_by}
 use Rattle.lemmas.proofs.Sorting.{sorted_same}
 use Rattle.tgap_model.specs.declared.segment.LabelledSegment.{LabelledSegment}
-use Rattle.tgap_model.specs.Ascending.{distinct_by}
+use Rattle.lemmas.specs.Ascending.{distinct_by}
 use Rattle.std.specs.List.{list_all}
 use Rattle.std.proofs.lemmas.List.Elements.{All-weaker}
 use Rattle.tgap_model.specs.Base.{same_point}

@@ -2,3 +2,4 @@ pub mod Marks
 pub mod Parts
 pub mod BaseFacts
 pub mod Segments
+pub mod Points
