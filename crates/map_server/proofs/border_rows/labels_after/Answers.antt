@@ -1,7 +1,7 @@
 use Rattle.std.proofs.Common.{arith}
 use Rattle.std.proofs.lemmas.List.{length-set}
 use Rattle.map_server.proofs.Labels.{step_before, labels_before}
-use Rattle.map_server.proofs.borders.labels_after.Goals as goal
+use Rattle.map_server.proofs.border_rows.labels_after.Goals as goal
 
 pub index-label-requires : goal.index-label-requires
 index-label-requires c =

@@ -1,6 +1,6 @@
 use Rattle.std.proofs.Common.{◌≡◌, ◌++◌, slice_index, drop}
 use Rattle.tgap_model.specs.Border.{border_by}
-use Rattle.map_server.proofs.borders.rows_of.Given as goal
+use Rattle.map_server.proofs.border_rows.rows_of.Given as goal
 
 -- the rows so far and those of the arcs that are left are those of all
 abbrev pub invariant-loop-i : goal.invariant-loop-i

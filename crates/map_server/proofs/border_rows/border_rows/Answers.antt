@@ -6,7 +6,7 @@ use Rattle.tgap_model.specs.History.{label_after}
 use Rattle.tgap_model.specs.Border.{border_by}
 use Rattle.tgap_model.proofs.BaseFacts.{ArcFacts, base_facts, each_arc}
 use Rattle.map_server.proofs.Labels.{same_border, sides_below}
-use Rattle.map_server.proofs.borders.border_rows.Goals as goal
+use Rattle.map_server.proofs.border_rows.border_rows.Goals as goal
 
 pub labels_after-requires-clause-small : goal.labels_after-requires-clause-small
 labels_after-requires-clause-small c =

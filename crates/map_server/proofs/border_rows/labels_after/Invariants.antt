@@ -1,6 +1,6 @@
 use Rattle.std.proofs.Common.{◌≡◌, ◌<◌, ◌+◌, ℕ, length, slice_index, drop}
 use Rattle.tgap_model.specs.History.{label_after}
-use Rattle.map_server.proofs.borders.labels_after.Given as goal
+use Rattle.map_server.proofs.border_rows.labels_after.Given as goal
 
 -- each label is the one after the steps from this one on
 abbrev pub invariant-loop-i : goal.invariant-loop-i
