@@ -9,10 +9,14 @@ pub mod MergeSteps
 pub mod Vanishing
 pub mod Clear
 pub mod ChainMembers
+pub mod Lists
 pub mod ChainWalks
 pub mod ChainEnds
 pub mod ChainLinks
 pub mod ChainsUnique
+pub mod JoinPaths
+pub mod JoinEnds
+pub mod JoinSteps
 pub mod SlicesUnique
 pub mod InnerVertices
 pub mod Nearest
