@@ -17,6 +17,8 @@ pub mod ChainsUnique
 pub mod JoinPaths
 pub mod JoinEnds
 pub mod JoinSteps
+pub mod JoinOrder
+pub mod JoinAll
 pub mod SlicesUnique
 pub mod InnerVertices
 pub mod Nearest

@@ -87,6 +87,15 @@ module _ {A : Type 0} where
       omega (arith, sum_by-cons f y ys)
   sum_member f (y ∷ ys) x (inr m) = omega (arith, sum_by-cons f y ys, sum_member f ys x m)
 
+  -- where a sum is something, some member counts
+  pub sum_some : (f : A → ℕ) (xs : List A) → 1 ≤ sum_by f xs → (x : A) × Among x xs × (1 ≤ f x)
+  sum_some f [] l = absurd (omega arith)
+  sum_some f (x ∷ xs) l = by (cases_lt 0 (f x)) (λ m. sum_some f xs m)
+    where
+      by : (0 < f x) ⊎ (f x ≤ 0) → (1 ≤ sum_by f xs → (y : A) × Among y xs × (1 ≤ f y)) → (y : A) × Among y (x ∷ xs) × (1 ≤ f y)
+      by (inl m) rest = (x, inl refl, m)
+      by (inr m) rest = let n = rest (omega (arith, sum_by-cons f x xs)) in (n.0, inr n.1, n.2)
+
   -- where two functions agree on the members, so do their sums
   pub sum_agree : (f g : A → ℕ) (xs : List A) → ((x : A) → Among x xs → f x ≡ g x) → sum_by f xs ≡ sum_by g xs
   sum_agree f g xs h = sum_by-agree f g xs (all_members (λ x. f x ≡ g x) xs h)
