@@ -50,6 +50,14 @@ turned_among (d ∷ c) e m =
       | inr n ↦ elim n [ inl s ↦ (d, inl refl, s) | inr o ↦ absurd o ]
     ]
 
+-- and each link, turned, is one of the chain turned round
+pub among_turned : (c : Chain) (d : Link) → Among d c → Among (turn d) (turned_round c)
+among_turned [] d m = m
+among_turned (e ∷ c) d (inl s) =
+    subst (Among (turn d)) (sym (turned_cons e c)) (among_right (turned_round c) (turn e ∷ []) (turn d) (inl (ap turn s)))
+among_turned (e ∷ c) d (inr m) =
+    subst (Among (turn d)) (sym (turned_cons e c)) (among_left (turned_round c) (turn e ∷ []) (turn d) (among_turned c d m))
+
 module _ (arcs : List BaseArc) where
   -- ---- where chains start and end
 

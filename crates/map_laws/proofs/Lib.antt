@@ -19,6 +19,7 @@ pub mod JoinEnds
 pub mod JoinSteps
 pub mod JoinOrder
 pub mod JoinAll
+pub mod JoinTests
 pub mod SlicesUnique
 pub mod InnerVertices
 pub mod Nearest

@@ -2,7 +2,7 @@
 use Rattle.std.proofs.Common.{◌≡◌, ◌⊎◌, inl, inr, ℕ, zero, suc, ◌+◌, ◌<◌, ◌≤◌, ◌==◌, ◌&&◌, ◌||◌, Bool, true, false, cond, List, [], ◌∷◌, ◌++◌, map, filter, length, get_or, All, sum_by, refl, sym, ap, ◌∙◌, subst, arith}
 use Rattle.std.specs.Prelude.{⊤, count_by, flat_map, if◌then◌else◌}
 use Rattle.std.specs.List.{list_all, list_any, range_with_len}
-use Rattle.std.proofs.lemmas.Bool.{and_parts, and_from, and_right, or_cases, or_from, or_left, or_right, true≢false, eq-eqb, ne_eqb, cases_eq, cases_lt}
+use Rattle.std.proofs.lemmas.Bool.{and_parts, and_cases, and_from, and_right, or_cases, or_from, or_left, or_right, true≢false, eq-eqb, ne_eqb, cases_eq, cases_lt}
 use Rattle.std.proofs.lemmas.List.{get_or_default}
 use Rattle.std.proofs.lemmas.List.FromFn.{fill_by_all}
 use Rattle.std.proofs.lemmas.List.Sums.{sum_by-cons, sum_by-append}
@@ -36,6 +36,14 @@ module _ {A : Type 0} where
   any_from p [] x m e = absurd m
   any_from p (y ∷ ys) x (inl s) e = or_left (p y) (list_any p ys) (ap p s ∙ e)
   any_from p (y ∷ ys) x (inr m) e = or_right (p y) (list_any p ys) (any_from p ys x m e)
+
+  -- where not all pass a test, some member fails it
+  pub some_fails : (p : A → Bool) (xs : List A) → list_all p xs ≡ false → (x : A) × Among x xs × (p x ≡ false)
+  some_fails p [] h = absurd cc
+  some_fails p (x ∷ xs) h = elim (and_cases (p x) (list_all p xs) h) [
+    | inl e ↦ (x, inl refl, e)
+    | inr e ↦ (let n = some_fails p xs e in (n.0, inr n.1, n.2))
+  ]
 
   -- a member that is kept was one before
   pub kept_among : (p : A → Bool) (xs : List A) (x : A) → Among x (filter p xs) → Among x xs
