@@ -1,12 +1,12 @@
 -- The ends of paths at a point that is no junction: as many as the ends of their arcs there.
-use Rattle.std.proofs.Common.{◌≡◌, ℕ, ◌+◌, ◌≤◌, ◌||◌, Bool, true, false, cond, List, [], ◌∷◌, filter, sum_by, refl, sym, ap, ◌∙◌, subst, arith}
+use Rattle.std.proofs.Common.{◌≡◌, ℕ, ◌+◌, ◌≤◌, ◌||◌, Bool, true, false, cond, List, [], ◌∷◌, sum_by, refl, ap, ◌∙◌, subst, arith}
 use Rattle.std.proofs.lemmas.Bool.{false_from_ne_true}
 use Rattle.std.proofs.lemmas.List.Sums.{sum_by-cons}
 use Rattle.tgap_model.specs.declared.geometry.Point.{Point}
 use Rattle.tgap_model.specs.declared.base.BaseArc.{BaseArc}
 use Rattle.tgap_model.specs.Base.{same_point}
 use Rattle.tgap_model.specs.Merged.{MergedMap, is_border}
-use Rattle.tgap_model.specs.Chains.{first_point, last_point, arc_number, border_numbers, ends_at, degree, Link, Chain, link_start, link_end, chain_start, chain_end, has_links, touches}
+use Rattle.tgap_model.specs.Chains.{first_point, last_point, arc_number, border_numbers, ends_at, degree, Link, Chain, link_start, link_end, chain_start, chain_end, touches}
 use Rattle.map_laws.proofs.Lists.{sum_passing}
 use Rattle.map_laws.proofs.ChainWalks.{IsRow}
 use Rattle.map_laws.proofs.ChainEnds.{same_point-true}

@@ -1,5 +1,5 @@
 -- The order of joining, and the nodes of degree two in that order.
-use Rattle.std.proofs.Common.{◌≡◌, ◌≢◌, ◌⊎◌, inl, inr, ℕ, ◌+◌, ◌≤◌, ◌==◌, ◌||◌, Bool, true, false, cond, nat_lt, int_lt, List, [], ◌∷◌, filter, refl, sym, ap, ◌∙◌, subst, arith}
+use Rattle.std.proofs.Common.{◌≡◌, inl, inr, ℕ, ◌+◌, ◌≤◌, ◌==◌, ◌||◌, Bool, true, false, cond, nat_lt, int_lt, List, [], ◌∷◌, filter, refl, sym, ◌∙◌, subst, arith}
 use Rattle.std.specs.Prelude.{⊤, flat_map}
 use Rattle.std.specs.Ordering.{int_eq}
 use Rattle.std.proofs.lemmas.Bool.{eq-eqb, eqb-true, true≢false}

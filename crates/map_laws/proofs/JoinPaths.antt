@@ -1,10 +1,10 @@
 -- Paths: chains of which each link ends where the next one starts, at a junction. Put together and turned round they stay paths.
-use Rattle.std.proofs.Common.{◌≡◌, ◌⊎◌, inl, inr, ℕ, ◌+◌, Bool, true, false, cond, List, [], ◌∷◌, ◌++◌, map, reverse, sum_by, refl, sym, ap, ◌∙◌, subst, arith}
+use Rattle.std.proofs.Common.{◌≡◌, ◌⊎◌, inl, inr, ℕ, true, List, [], ◌∷◌, ◌++◌, map, sum_by, refl, sym, ap, ◌∙◌, subst, arith}
 use Rattle.std.proofs.lemmas.List.{reverse-append}
 use Rattle.std.proofs.lemmas.List.Sums.{sum_by-cons, sum_by-append}
 use Rattle.tgap_model.specs.declared.geometry.Point.{Point}
 use Rattle.tgap_model.specs.declared.base.BaseArc.{BaseArc}
-use Rattle.tgap_model.specs.Chains.{ends_at, arc_number, Link, Chain, link_start, link_end, chain_start, chain_end, has_links, turned_round}
+use Rattle.tgap_model.specs.Chains.{Link, Chain, link_start, link_end, chain_start, chain_end, has_links, turned_round}
 use Rattle.map_laws.proofs.ChainMembers.{Among, among_left, among_right, append_among}
 use Rattle.map_laws.proofs.ChainWalks.{IsRow}
 use Rattle.map_laws.proofs.ChainEnds.{turn, turn_start, turn_end}

@@ -1,5 +1,5 @@
 -- One node of degree two after the other is joined: what a list of paths keeps then.
-use Rattle.std.proofs.Common.{◌≡◌, ◌⊎◌, inl, inr, ℕ, ◌+◌, ◌≤◌, ◌||◌, Bool, true, false, not, cond, List, [], ◌∷◌, ◌++◌, filter, sum_by, refl, sym, ap, ◌∙◌, subst, arith}
+use Rattle.std.proofs.Common.{◌≡◌, ◌⊎◌, inl, inr, ℕ, ◌+◌, Bool, true, false, not, cond, List, [], ◌∷◌, ◌++◌, filter, sum_by, refl, sym, ap, ◌∙◌, subst, arith}
 use Rattle.std.proofs.lemmas.Bool.{or_cases, or_left, or_right, not-true, both_ways, true≢false}
 use Rattle.std.proofs.lemmas.List.Sums.{sum_by-cons, sum_by-append}
 use Rattle.std.proofs.lemmas.List.Filters.{sum_by-filter_both}
@@ -12,7 +12,7 @@ use Rattle.map_laws.proofs.ChainMembers.{Among, filter_among}
 use Rattle.map_laws.proofs.Lists.{kept_among, among_kept, sum_nothing, sum_agree}
 use Rattle.map_laws.proofs.ChainEnds.{same_point-true, same_point-from}
 use Rattle.map_laws.proofs.JoinPaths.{turned_sum, append_start, append_end, turned_start, turned_end, turned_links, IsPath, path_named, path_append, path_turned}
-use Rattle.map_laws.proofs.JoinEnds.{same_point-apart, chain_ends, touching_ends, other_ends, both_ends, path_ends, border_ends}
+use Rattle.map_laws.proofs.JoinEnds.{chain_ends, touching_ends, other_ends, both_ends, path_ends, border_ends}
 
 -- what counts for the arcs of a chain
 abbrev pub arc_sum : (ℕ → ℕ) → Chain → ℕ
@@ -93,13 +93,6 @@ joined_with arcs chains p touching =
 
 module _ (h : MergedMap) (k : ℕ) (J : Point → Type 0) (cs : List Chain) (a : AreJoined h k J cs) (p : Point) (two : degree h k p ≡ 2) (fresh : J p → ⊥)
     (last : (q j : Point) → degree h k q ≡ 2 → (J q → ⊥) → (q ≡ p → ⊥) → J j ⊎ (j ≡ p) → joins_before h k q j ≡ false) where
-  arcs : List BaseArc
-  arcs = h.base.arcs
-
-  -- the chains that do not touch the node
-  others : List Chain
-  others = filter (λ e. not (touches h.base.arcs p e)) cs
-
   -- with the node among the junctions
   abbrev Through : Point → Type 0
   Through q = J q ⊎ (q ≡ p)

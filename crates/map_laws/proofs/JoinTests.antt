@@ -1,10 +1,8 @@
 -- What joined paths pass: the tests of one chain, in the direction of its least arc.
-use Rattle.std.proofs.Common.{◌≡◌, ◌⊎◌, inl, inr, ℕ, ◌+◌, ◌≤◌, ◌==◌, ◌&&◌, ◌||◌, Bool, true, false, not, cond, List, [], ◌∷◌, sum_by, refl, sym, ap, ◌∙◌, subst, arith}
+use Rattle.std.proofs.Common.{◌≡◌, ◌⊎◌, inl, inr, ℕ, ◌≤◌, ◌==◌, ◌&&◌, ◌||◌, Bool, true, false, not, cond, [], ◌∷◌, refl, sym, ap, ◌∙◌, subst, arith}
 use Rattle.std.specs.Prelude.{count_by}
-use Rattle.std.specs.List.{list_all}
-use Rattle.std.proofs.lemmas.Bool.{and_from, or_from, or_parts, or_left, or_right, not-false, not_from_false, not_from_true, eq-eqb, eqb-true}
+use Rattle.std.proofs.lemmas.Bool.{and_from, or_parts, or_left, or_right, not-false, not_from_false, not_from_true, eq-eqb, eqb-true}
 use Rattle.tgap_model.specs.declared.geometry.Point.{Point}
-use Rattle.tgap_model.specs.declared.base.BaseArc.{BaseArc}
 use Rattle.tgap_model.specs.Base.{same_point}
 use Rattle.tgap_model.specs.Merged.{MergedMap}
 use Rattle.tgap_model.specs.Chains.{degree, joins_before, Link, Chain, link_start, link_end, chain_start, chain_end, key, is_joined, is_closed, is_maximal, is_anchored, is_directed, has_links, is_chain, turned_round, directed}

@@ -20,6 +20,7 @@ pub mod JoinSteps
 pub mod JoinOrder
 pub mod JoinAll
 pub mod JoinTests
+pub mod ChainsExist
 pub mod SlicesUnique
 pub mod InnerVertices
 pub mod Nearest

@@ -1,14 +1,13 @@
 -- Members of lists that are filtered, mapped, joined, sorted or made distinct; sums over their members; orders by two keys.
-use Rattle.std.proofs.Common.{◌≡◌, ◌⊎◌, inl, inr, ℕ, zero, suc, ◌+◌, ◌<◌, ◌≤◌, ◌==◌, ◌&&◌, ◌||◌, Bool, true, false, cond, List, [], ◌∷◌, ◌++◌, map, filter, length, get_or, All, sum_by, refl, sym, ap, ◌∙◌, subst, arith}
+use Rattle.std.proofs.Common.{◌≡◌, ◌⊎◌, inl, inr, ℕ, zero, suc, ◌+◌, ◌<◌, ◌≤◌, ◌==◌, ◌&&◌, ◌||◌, Bool, true, false, cond, List, [], ◌∷◌, map, filter, length, get_or, All, sum_by, refl, sym, ap, ◌∙◌, subst, arith}
 use Rattle.std.specs.Prelude.{⊤, count_by, flat_map, if◌then◌else◌}
 use Rattle.std.specs.List.{list_all, list_any, range_with_len}
 use Rattle.std.proofs.lemmas.Bool.{and_parts, and_cases, and_from, and_right, or_cases, or_from, or_left, or_right, true≢false, eq-eqb, ne_eqb, cases_eq, cases_lt}
-use Rattle.std.proofs.lemmas.List.{get_or_default}
 use Rattle.std.proofs.lemmas.List.FromFn.{fill_by_all}
 use Rattle.std.proofs.lemmas.List.Sums.{sum_by-cons, sum_by-append}
 use Rattle.lemmas.specs.Sorting.{insert_by, sort_by, is_before_first, is_sorted_by, IsStrictOrderOn}
 use Rattle.lemmas.proofs.Counts.{sum_by-map, sum_by-agree, sum_by-filter}
-use Rattle.lemmas.proofs.Sorting.{insert_by-is_sorted, sort_by-permutation}
+use Rattle.lemmas.proofs.Sorting.{insert_by-is_sorted}
 use Rattle.tgap_model.specs.Ascending.{insert_once, distinct_by}
 use Rattle.map_laws.proofs.ChainMembers.{Among, any_among, among_left, among_right, count_passes, count_fails, among_counts, counted_among}
 

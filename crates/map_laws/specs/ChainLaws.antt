@@ -6,7 +6,7 @@ use Rattle.tgap_model.specs.declared.slice.Slice.{Slice}
 use Rattle.tgap_model.specs.declared.slice.Removal.{Removal}
 use Rattle.tgap_model.specs.History.{AreNumbered}
 use Rattle.tgap_model.specs.Merged.{MergedMap, step_number, is_border}
-use Rattle.tgap_model.specs.Chains.{Chain, arc_number, are_chains}
+use Rattle.tgap_model.specs.Chains.{Chain, arc_number, are_chains, chains_at}
 use Rattle.tgap_model.specs.Slice.{IsSlice, IsEdgeOf}
 use Rattle.tgap_model.specs.Records.{is_edge_between}
 
@@ -16,6 +16,10 @@ use Rattle.tgap_model.specs.Records.{is_edge_between}
 abbrev pub ChainsAreUnique : Type 0
 ChainsAreUnique =
     (h : MergedMap) (k : ℕ) (cs ds : List Chain) → are_chains h k cs ≡ true → are_chains h k ds ≡ true → cs ≡ ds
+
+-- there is one: the border arcs, joined at the nodes of degree two
+abbrev pub ChainsExist : Type 0
+ChainsExist = (h : MergedMap) (k : ℕ) → are_chains h k (chains_at h k) ≡ true
 
 -- at most one slice has the faces and edges of a map after k steps, less the listed vertices
 abbrev pub SlicesAreUnique : Type 0
