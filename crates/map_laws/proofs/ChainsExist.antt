@@ -17,7 +17,7 @@ use Rattle.map_laws.proofs.JoinPaths.{IsPath}
 use Rattle.map_laws.proofs.JoinSteps.{arc_sum, AreJoined}
 use Rattle.map_laws.proofs.JoinOrder.{joints_two, joints_all, joints_ascend}
 use Rattle.map_laws.proofs.JoinAll.{AreNext, join_all}
-use Rattle.map_laws.proofs.JoinTests.{key_of, IsMaximalPath, chain_from, directed_sum, directed_links}
+use Rattle.map_laws.proofs.JoinTests.{key_of, IsMaximalPath, directed_maximal, chain_from, directed_sum, directed_links}
 
 -- ---- keys
 
@@ -69,11 +69,11 @@ module _ (h : MergedMap) (k : ℕ) (cs : List Chain) (a : AreJoined h k (λ q. d
   sums : (f : ℕ → ℕ) → sum_by (arc_sum f) (map directed cs) ≡ sum_by f (border_numbers h k)
   sums f = sum_by-map (arc_sum f) directed cs ∙ sum_agree (λ c. arc_sum f (directed c)) (arc_sum f) cs (λ c m. directed_sum f c) ∙ a.covers f
 
+  pub joined_sums : (f : ℕ → ℕ) → sum_by (arc_sum f) (sort_by (λ c d. nat_lt (key c) (key d)) (map directed cs)) ≡ sum_by f (border_numbers h k)
+  joined_sums f = sum_by-sort_by (λ c d. nat_lt (key c) (key d)) (arc_sum f) (map directed cs) ∙ sums f
+
   flat_sums : (f : ℕ → ℕ) → sum_by (λ (d : Link). f d.arc) (flat_map (λ c. c) in_order) ≡ sum_by f (border_numbers h k)
-  flat_sums f =
-      sum_flat (λ (d : Link). f d.arc) in_order
-      ∙ sum_by-sort_by (λ c d. nat_lt (key c) (key d)) (arc_sum f) (map directed cs)
-      ∙ sums f
+  flat_sums f = sum_flat (λ (d : Link). f d.arc) in_order ∙ joined_sums f
 
   -- no arc stands twice
   border_once : (i : ℕ) → sum_by (is_number i) (border_numbers h k) ≤ 1
@@ -81,6 +81,11 @@ module _ (h : MergedMap) (k : ℕ) (cs : List Chain) (a : AreJoined h k (λ q. d
 
   maximal : (c : Chain) → Among c cs → IsMaximalPath h k c
   maximal c m = record { path = a.paths c m; shut = a.shut c m; anchored = a.anchored c m }
+
+  pub joined_maximal : (c : Chain) → Among c (sort_by (λ c d. nat_lt (key c) (key d)) (map directed cs)) → IsMaximalPath h k c
+  joined_maximal c m =
+      let from = map_among directed cs c (sort_among (λ c d. nat_lt (key c) (key d)) (map directed cs) c m) in
+      subst (IsMaximalPath h k) from.2 (directed_maximal h k from.0 (maximal from.0 from.1))
 
   once : (c : Chain) → Among c cs → count_by (λ d. d.arc == key c) c ≤ 1
   once c m =
@@ -161,12 +166,24 @@ module _ (h : MergedMap) (k : ℕ) where
     ascend = joints_ascend h k;
   }
 
+  -- so all are joined
+  all_joined : AreJoined h k (λ q. degree h k q ≡ 2) (fold (join_at h.base.arcs) (map single (border_numbers h k)) (joints h k))
+  all_joined = join_all h k (joints h k) (λ q. ⊥) (map single (border_numbers h k)) single_joined joints_next
+
+  -- each border arc counts once in the chains
+  pub chains_sums : (f : ℕ → ℕ) → sum_by (arc_sum f) (chains_at h k) ≡ sum_by f (border_numbers h k)
+  unfolding chains_at
+  chains_sums f = joined_sums h k (fold (join_at h.base.arcs) (map single (border_numbers h k)) (joints h k)) all_joined f
+
+  -- each chain is a path that cannot be joined further
+  pub chains_maximal : (c : Chain) → Among c (chains_at h k) → IsMaximalPath h k c
+  unfolding chains_at
+  chains_maximal c m = joined_maximal h k (fold (join_at h.base.arcs) (map single (border_numbers h k)) (joints h k)) all_joined c m
+
 -- the joined border arcs are the chains after k steps
 pub chains_exist : ChainsExist
 unfolding chains_at
-chains_exist h k =
-    joined_chains h k (fold (join_at h.base.arcs) (map (single h k) (border_numbers h k)) (joints h k))
-    (join_all h k (joints h k) (λ q. ⊥) (map (single h k) (border_numbers h k)) (single_joined h k) (joints_next h k))
+chains_exist h k = joined_chains h k (fold (join_at h.base.arcs) (map (single h k) (border_numbers h k)) (joints h k)) (all_joined h k)
 
 -- so a list that passes is the joined border arcs
 pub chains_are : (h : MergedMap) (k : ℕ) (cs : List Chain) → are_chains h k cs ≡ true → cs ≡ chains_at h k

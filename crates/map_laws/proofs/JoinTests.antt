@@ -133,7 +133,8 @@ module _ (h : MergedMap) (k : ℕ) where
             | inr j ↦ j
           ])))
 
-  directed_maximal : (c : Chain) → IsMaximalPath h k c → IsMaximalPath h k (directed c)
+  -- and so it is in the direction of its least arc
+  pub directed_maximal : (c : Chain) → IsMaximalPath h k c → IsMaximalPath h k (directed c)
   directed_maximal c w = by (is_directed c)
     where
       by : (b : Bool) → IsMaximalPath h k (cond b c (turned_round c))

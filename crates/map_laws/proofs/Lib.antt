@@ -2,6 +2,7 @@ pub mod Examples
 pub mod ListingExamples
 pub mod PartitionExamples
 pub mod SliceExamples
+pub mod StepExamples
 pub mod RecordExamples
 pub mod Labels
 pub mod Inside
@@ -21,6 +22,7 @@ pub mod JoinOrder
 pub mod JoinAll
 pub mod JoinTests
 pub mod ChainsExist
+pub mod StepDegrees
 pub mod SlicesUnique
 pub mod InnerVertices
 pub mod Nearest

@@ -1,8 +1,9 @@
 -- Members of lists that are filtered, mapped, joined, sorted or made distinct; sums over their members; orders by two keys.
 use Rattle.std.proofs.Common.{◌≡◌, ◌⊎◌, inl, inr, ℕ, zero, suc, ◌+◌, ◌<◌, ◌≤◌, ◌==◌, ◌&&◌, ◌||◌, Bool, true, false, cond, List, [], ◌∷◌, map, filter, length, get_or, All, sum_by, refl, sym, ap, ◌∙◌, subst, arith}
-use Rattle.std.specs.Prelude.{⊤, count_by, flat_map, if◌then◌else◌}
+use Rattle.std.specs.Prelude.{⊤, count_by, flat_map, find, Option, Some, None, if◌then◌else◌}
 use Rattle.std.specs.List.{list_all, list_any, range_with_len}
 use Rattle.std.proofs.lemmas.Bool.{and_parts, and_cases, and_from, and_right, or_cases, or_from, or_left, or_right, true≢false, eq-eqb, ne_eqb, cases_eq, cases_lt}
+use Rattle.std.proofs.lemmas.List.Elements.{All-head, All-tail}
 use Rattle.std.proofs.lemmas.List.FromFn.{fill_by_all}
 use Rattle.std.proofs.lemmas.List.Sums.{sum_by-cons, sum_by-append}
 use Rattle.lemmas.specs.Sorting.{insert_by, sort_by, is_before_first, is_sorted_by, IsStrictOrderOn}
@@ -24,6 +25,12 @@ module _ {A : Type 0} where
   all_members P [] h k d l = absurd (omega arith)
   all_members P (x ∷ xs) h zero d l = h x (inl refl)
   all_members P (x ∷ xs) h (suc k) d l = all_members P xs (λ y m. h y (inr m)) k d (omega arith)
+
+  -- and what holds at each place holds of each member
+  pub members_all : (P : A → Type 0) (xs : List A) (x : A) → All P xs → Among x xs → P x
+  members_all P [] x h m = absurd m
+  members_all P (y ∷ ys) x h (inl e) = subst P e (All-head P y ys h)
+  members_all P (y ∷ ys) x h (inr m) = members_all P ys x (All-tail P y ys h) m
 
   -- a test that each member passes
   pub all_from : (p : A → Bool) (xs : List A) → ((x : A) → Among x xs → p x ≡ true) → list_all p xs ≡ true
@@ -79,6 +86,14 @@ module _ {A : Type 0} where
   pairs_weaker R S on [] h = tt
   pairs_weaker R S on (x ∷ xs) h = ((λ y m. on x y (h.0 y m)), pairs_weaker R S on xs h.1)
 
+  -- and so they are where they are in it as members
+  pub pairs_of : (R S : A → A → Type 0) (xs : List A) → ((x y : A) → Among x xs → Among y xs → R x y → S x y) → ArePairs R xs → ArePairs S xs
+  pairs_of R S [] on h = tt
+  pairs_of R S (x ∷ xs) on h = (
+    (λ y m. on x y (inl refl) (inr m) (h.0 y m)),
+    pairs_of R S xs (λ y z m n r. on y z (inr m) (inr n) r) h.1,
+  )
+
   -- ---- sums
 
   -- where each member counts nothing the sum is nothing
@@ -106,6 +121,11 @@ module _ {A : Type 0} where
   -- where two functions agree on the members, so do their sums
   pub sum_agree : (f g : A → ℕ) (xs : List A) → ((x : A) → Among x xs → f x ≡ g x) → sum_by f xs ≡ sum_by g xs
   sum_agree f g xs h = sum_by-agree f g xs (all_members (λ x. f x ≡ g x) xs h)
+
+  -- and where one is no more than the other at each member, so is its sum
+  pub sum_less : (f g : A → ℕ) (xs : List A) → ((x : A) → Among x xs → f x ≤ g x) → sum_by f xs ≤ sum_by g xs
+  sum_less f g [] h = omega arith
+  sum_less f g (x ∷ xs) h = omega (arith, sum_by-cons f x xs, sum_by-cons g x xs, h x (inl refl), sum_less f g xs (λ y m. h y (inr m)))
 
   -- a sum over all members of some lists
   pub sum_flat : (f : A → ℕ) (xss : List (List A)) → sum_by f (flat_map (λ c. c) xss) ≡ sum_by (λ c. sum_by f c) xss
@@ -294,6 +314,42 @@ range_count p a n i = by (list_any (λ j. j == i) numbers) refl (cases_lt 0 (cou
         let found = counted_among (λ j. j == i) numbers l in
         absurd (true≢false (sym (any_from (λ j. j == i) numbers found.0 found.1 found.2) ∙ e))
     by false e (inr l) = omega arith
+
+-- the first number that passes is no greater than one that does
+pub find_some : (p : ℕ → Bool) (a n j : ℕ) → a ≤ j → j < a + n → p j ≡ true → (i : ℕ) × (find p (range_with_len a n) ≡ Some i) × (i ≤ j)
+find_some p a zero j l u e = absurd (omega arith)
+find_some p a (suc n) j l u e = by (p a) refl (cases_eq a j) (λ m. find_some p (a + 1) n j m (omega arith) e)
+  where
+    by : (b : Bool) → p a ≡ b → (a ≡ j) ⊎ (a ≡ j → ⊥)
+        → (a + 1 ≤ j → (i : ℕ) × (find p (range_with_len (a + 1) n) ≡ Some i) × (i ≤ j))
+        → (i : ℕ) × (cond b (Some a) (find p (range_with_len (a + 1) n)) ≡ Some i) × (i ≤ j)
+    by true f s rest = (a, refl, l)
+    by false f (inl s) rest = absurd (true≢false (sym (ap p s ∙ e) ∙ f))
+    by false f (inr s) rest = rest (omega arith)
+
+-- it is the first in a longer range too
+pub find_longer : (p : ℕ → Bool) (a n m i : ℕ) → n ≤ m → find p (range_with_len a n) ≡ Some i → find p (range_with_len a m) ≡ Some i
+find_longer p a zero m i l e = absurd cc
+find_longer p a (suc n) zero i l e = absurd (omega arith)
+find_longer p a (suc n) (suc m) i l e = by (p a) e (λ f. find_longer p (a + 1) n m i (omega arith) f)
+  where
+    by : (b : Bool) → cond b (Some a) (find p (range_with_len (a + 1) n)) ≡ Some i
+        → (find p (range_with_len (a + 1) n) ≡ Some i → find p (range_with_len (a + 1) m) ≡ Some i)
+        → cond b (Some a) (find p (range_with_len (a + 1) m)) ≡ Some i
+    by true f rest = f
+    by false f rest = rest f
+
+-- where none before passes, the last one is the first that does
+pub find_last : (p : ℕ → Bool) (a n m : ℕ) → m ≡ suc n → ((j : ℕ) → a ≤ j → j < a + n → p j ≡ false) → p (a + n) ≡ true → find p (range_with_len a m) ≡ Some (a + n)
+find_last p a n zero s none e = absurd (omega arith)
+find_last p a zero (suc m) s none e =
+    let here : a + 0 ≡ a = omega arith in
+    ap (λ (b : Bool). cond b (Some a) (find p (range_with_len (a + 1) m))) (ap p (sym here) ∙ e) ∙ ap (λ (n : ℕ). Some n) (sym here)
+find_last p a (suc n) (suc m) s none e =
+    let next : a + 1 + n ≡ a + suc n = omega arith in
+    ap (λ (b : Bool). cond b (Some a) (find p (range_with_len (a + 1) m))) (none a (omega arith) (omega arith))
+    ∙ find_last p (a + 1) n m (omega arith) (λ j l u. none j (omega arith) (omega arith)) (ap p next ∙ e)
+    ∙ ap (λ (n : ℕ). Some n) next
 
 -- ---- an order by one key, and where it is the same by another test
 
