@@ -30,7 +30,7 @@ and_rest true t e f = e
 and_rest false t e f = absurd cc
 
 -- of two points neither of which stands before the other they are one
-point_order : (p q : Point) → point_before p q ≡ false → point_before q p ≡ false → p ≡ q
+pub point_order : (p q : Point) → point_before p q ≡ false → point_before q p ≡ false → p ≡ q
 point_order p q e f =
     let a = or_parts (int_lt p.x q.x) _ e in
     let b = or_parts (int_lt q.x p.x) _ f in

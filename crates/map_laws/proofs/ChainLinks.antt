@@ -224,7 +224,7 @@ module _ (h : MergedMap) (k : ℕ) (cs : List Chain) (t : are_chains h k cs ≡ 
   chains_counted d m = among_counts (λ (e : Link). e.arc == d.arc) (flat_map (λ c. c) cs) d m (eq-eqb d.arc d.arc refl)
 
   -- and borders a face
-  chains_border : (d : Link) → Among d (flat_map (λ c. c) cs) → IsBorderLink h k d
+  pub chains_border : (d : Link) → Among d (flat_map (λ c. c) cs) → IsBorderLink h k d
   chains_border d m =
       let found = any_among (λ j. j == d.arc) (border_numbers h k) (count_test _ _ (chains_count d.arc (chains_within d m)) (chains_counted d m)) in
       let passes = filter_among (λ i. is_border h k (arc_number h.base.arcs i)) (range_with_len 0 (length h.base.arcs)) found.0 found.1 in

@@ -2,6 +2,7 @@ pub mod Examples
 pub mod ListingExamples
 pub mod PartitionExamples
 pub mod SliceExamples
+pub mod StepExamples
 pub mod RecordExamples
 pub mod Labels
 pub mod Inside
@@ -9,10 +10,19 @@ pub mod MergeSteps
 pub mod Vanishing
 pub mod Clear
 pub mod ChainMembers
+pub mod Lists
 pub mod ChainWalks
 pub mod ChainEnds
 pub mod ChainLinks
 pub mod ChainsUnique
+pub mod JoinPaths
+pub mod JoinEnds
+pub mod JoinSteps
+pub mod JoinOrder
+pub mod JoinAll
+pub mod JoinTests
+pub mod ChainsExist
+pub mod StepDegrees
 pub mod SlicesUnique
 pub mod InnerVertices
 pub mod Nearest
