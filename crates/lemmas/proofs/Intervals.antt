@@ -4,7 +4,7 @@ use Rattle.std.specs.Int.{int_min, int_max}
 use Rattle.std.proofs.lemmas.Int.{ints, clamps}
 use Rattle.std.specs.Cmp.{both_ways}
 use Rattle.lemmas.proofs.Signs.{by_order, Decides-int_lt, mul_lt_left, lt_from_mul_left, mul_not_positive}
-use Rattle.grid_geo.proofs.Products.{not_positive_cases, mul_not_positive_left}
+use Rattle.lemmas.proofs.Products.{not_positive_cases, mul_not_positive_left}
 
 -- the first and the last number of both
 abbrev pub common_low : ℤ → ℤ → ℤ → ℤ → ℤ

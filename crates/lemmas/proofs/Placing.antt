@@ -1,14 +1,12 @@
--- The place of a new member in a sorted list, by binary search.
-use Rattle.std.proofs.Common.{◌≡◌, ◌⊎◌, inl, inr, ℕ, ◌<◌, ◌≤◌, ◌==◌, Bool, true, false, cond, List, [], ◌∷◌, ◌+◌, length, take, drop, get_or, All, refl, sym, ap, ◌∙◌, subst, true≢false, Ordering, Less, Equal, Greater, arith}
+-- The place of a new member in a sorted list, by binary search, and the members after it went there.
+use Rattle.std.proofs.Common.{◌≡◌, ◌⊎◌, inl, inr, ⊎_elim, ℕ, ◌<◌, ◌≤◌, Bool, true, false, List, [], ◌∷◌, ◌+◌, length, take, drop, get_or, All, Contains, refl, sym, ap, ◌∙◌, subst, true≢false, arith}
 use Rattle.std.specs.List.{insert}
-use Rattle.std.specs.Ordering.{ordering_index}
 use Rattle.std.proofs.lemmas.Bool.{cases_order, false_from_ne_true}
 use Rattle.std.proofs.lemmas.List.{get_or_default, take-append-drop, length-drop, length-take-le, get_or-take, get_or-drop}
+use Rattle.std.proofs.lemmas.List.Sorted.{Contains-permutation, IsPermutation-sym}
 use Rattle.lemmas.specs.Sorting.{insert_by, is_before_first, is_sorted_by, IsStrictOrderOn}
-use Rattle.lemmas.proofs.Sorting.{sorted_pairs, insert_by-between}
-use Rattle.tgap_model.specs.declared.geometry.Seg.{Seg}
-use Rattle.tgap_model.specs.Segment.{Line, is_higher}
-use Rattle.grid_geo.specs.Heights.{order_on_line}
+use Rattle.lemmas.proofs.Sorting.{sorted_pairs, insert_by-between, insert_by-permutation}
+use Rattle.lemmas.proofs.Members.{in_tail, in_cases}
 
 module _ {A : Type 0} {P : A → Type 0} {before : A → A → Bool} (o : IsStrictOrderOn P before) (x : A) (ys : List A) (px : P x) (ps : All P ys) (sorted : is_sorted_by before ys ≡ true) where
   -- what stands before a member stands before all that follow
@@ -39,11 +37,11 @@ insert-place {A = A} before x ys i le above below =
     first [] h = refl
     first (z ∷ zs) h = h z (omega arith)
 
--- what the comparison tells of the order
-pub greater_test : (l : Line) (s t : Seg) (found : Ordering) (b : Bool) → found ≡ order_on_line l s t → b ≡ (ordering_index found == 2) → is_higher l s t ≡ b
-greater_test l s t found b e f = by (is_higher l s t) (is_higher l t s) refl (f ∙ ap (λ o. ordering_index o == 2) e)
-  where
-    by : (h k : Bool) → is_higher l s t ≡ h → b ≡ (ordering_index (cond h Greater (cond k Less Equal)) == 2) → is_higher l s t ≡ b
-    by true k h g = h ∙ sym g
-    by false true h g = h ∙ sym g
-    by false false h g = h ∙ sym g
+-- what is inserted is a member, and the others stay
+pub Contains-insert_by : {A : Type 0} (before : A → A → Bool) (x : A) (ys : List A) (z : A) → (x ≡ z) ⊎ Contains ys z → Contains (insert_by before x ys) z
+Contains-insert_by before x ys z h =
+    Contains-permutation (x ∷ ys) (insert_by before x ys) z (insert_by-permutation before x ys) (⊎_elim (λ e. (0, omega arith, e)) (in_tail x ys z) h)
+
+pub Contains-from_insert_by : {A : Type 0} (before : A → A → Bool) (x : A) (ys : List A) (z : A) → Contains (insert_by before x ys) z → (x ≡ z) ⊎ Contains ys z
+Contains-from_insert_by before x ys z c =
+    in_cases x ys z (Contains-permutation (insert_by before x ys) (x ∷ ys) z (IsPermutation-sym (x ∷ ys) (insert_by before x ys) (insert_by-permutation before x ys)) c)
