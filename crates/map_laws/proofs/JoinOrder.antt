@@ -8,14 +8,15 @@ use Rattle.lemmas.specs.Sorting.{IsStrictOrderOn}
 use Rattle.lemmas.proofs.Orders.{nat_lt_order, int_lt_order, order_by_key}
 use Rattle.tgap_model.specs.declared.geometry.Point.{Point}
 use Rattle.tgap_model.specs.declared.base.BaseArc.{BaseArc}
-use Rattle.tgap_model.specs.Ascending.{distinct_by}
+use Rattle.lemmas.specs.Ascending.{distinct_by}
 use Rattle.tgap_model.specs.Base.{same_point}
 use Rattle.tgap_model.specs.Segment.{point_before}
 use Rattle.tgap_model.specs.Merged.{MergedMap, is_border}
 use Rattle.tgap_model.specs.Chains.{first_point, last_point, ends_at, degree, step_of_two, joins_before, joints}
 use Rattle.map_laws.proofs.ChainMembers.{Among, filter_among}
 use Rattle.map_laws.proofs.Lists.{ArePairs, pairs_weaker, pairs_kept, sum_some, among_kept, among_sort, sort_among, sort_pairs, sorted_ascend, distinct_sorted, among_distinct, among_flat, order_then}
-use Rattle.map_laws.proofs.ChainEnds.{point_order, joins_order, same_point-true}
+use Rattle.tgap_model.proofs.Points.{same_point-true}
+use Rattle.map_laws.proofs.ChainEnds.{point_order, joins_order}
 
 -- points stand in the order of x, then y
 pub point_before_order : IsStrictOrderOn (λ (p : Point). ⊤) point_before

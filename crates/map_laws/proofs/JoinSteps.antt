@@ -10,7 +10,7 @@ use Rattle.tgap_model.specs.Merged.{MergedMap}
 use Rattle.tgap_model.specs.Chains.{arc_number, border_numbers, ends_at, degree, joins_before, Link, Chain, chain_start, chain_end, turned_round, touches, toward, join_at}
 use Rattle.map_laws.proofs.ChainMembers.{Among, filter_among}
 use Rattle.map_laws.proofs.Lists.{kept_among, among_kept, sum_nothing, sum_agree}
-use Rattle.map_laws.proofs.ChainEnds.{same_point-true, same_point-from}
+use Rattle.tgap_model.proofs.Points.{same_point-true, same_point-from}
 use Rattle.map_laws.proofs.JoinPaths.{turned_sum, append_start, append_end, turned_start, turned_end, turned_links, IsPath, path_named, path_append, path_turned}
 use Rattle.map_laws.proofs.JoinEnds.{chain_ends, touching_ends, other_ends, both_ends, path_ends, border_ends}
 

@@ -9,7 +9,8 @@ use Rattle.tgap_model.specs.Chains.{degree, joins_before, Link, Chain, link_star
 use Rattle.map_laws.proofs.ChainMembers.{Among, one_passes}
 use Rattle.map_laws.proofs.Lists.{all_from, some_fails}
 use Rattle.map_laws.proofs.ChainWalks.{IsRow}
-use Rattle.map_laws.proofs.ChainEnds.{turn, same_point-true, same_point-from}
+use Rattle.tgap_model.proofs.Points.{same_point-true, same_point-from}
+use Rattle.map_laws.proofs.ChainEnds.{turn}
 use Rattle.map_laws.proofs.ChainLinks.{key_least, key_among}
 use Rattle.map_laws.proofs.JoinPaths.{turned_among, among_turned, turned_links, turned_sum, turned_start, turned_end, Meets, IsPath, path_turned, path_starts}
 use Rattle.map_laws.proofs.JoinSteps.{arc_sum}

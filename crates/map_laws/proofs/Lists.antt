@@ -9,7 +9,7 @@ use Rattle.std.proofs.lemmas.List.Sums.{sum_by-cons, sum_by-append}
 use Rattle.lemmas.specs.Sorting.{insert_by, sort_by, is_before_first, is_sorted_by, IsStrictOrderOn}
 use Rattle.lemmas.proofs.Counts.{sum_by-map, sum_by-agree, sum_by-filter}
 use Rattle.lemmas.proofs.Sorting.{insert_by-is_sorted}
-use Rattle.tgap_model.specs.Ascending.{insert_once, distinct_by}
+use Rattle.lemmas.specs.Ascending.{insert_once, distinct_by}
 use Rattle.map_laws.proofs.ChainMembers.{Among, any_among, among_left, among_right, count_passes, count_fails, among_counts, counted_among}
 
 -- each two members, the first of them earlier in the list, stand in the relation

@@ -6,7 +6,7 @@ use Rattle.tgap_model.specs.declared.base.BaseArc.{BaseArc}
 use Rattle.tgap_model.specs.declared.slice.Edge.{Edge}
 use Rattle.tgap_model.specs.declared.slice.Slice.{Slice}
 use Rattle.tgap_model.specs.declared.slice.Removal.{Removal}
-use Rattle.tgap_model.specs.Ascending.{distinct_by}
+use Rattle.lemmas.specs.Ascending.{distinct_by}
 use Rattle.tgap_model.specs.Segment.{point_before}
 use Rattle.tgap_model.specs.History.{AreNumbered}
 use Rattle.tgap_model.specs.Merged.{MergedMap, step_number, is_border}
