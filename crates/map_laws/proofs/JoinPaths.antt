@@ -134,3 +134,14 @@ module _ (arcs : List BaseArc) where
       by (e ∷ c) r (inl s) = inl (ap (link_start arcs) s)
       by (e ∷ []) r (inr n) = absurd n
       by (e ∷ f ∷ c) r (inr n) = elim (by (f ∷ c) r.1 n) [ inl s ↦ inr (subst J (r.0.0 ∙ s) r.0.1) | inr j ↦ inr j ]
+
+  -- a row through the junctions of two kinds
+  row_both : (J K : Point → Type 0) (c : Chain) → IsRow (Meets J) c → IsRow (Meets K) c → IsRow (Meets (λ q. J q × K q)) c
+  row_both J K [] r s = tt
+  row_both J K (d ∷ []) r s = tt
+  row_both J K (d ∷ e ∷ c) r s = ((r.0.0, (r.0.1, s.0.1)), row_both J K (e ∷ c) r.1 s.1)
+
+  -- a path through both is a path through what they imply together
+  pub path_both : (J K L : Point → Type 0) → ((p : Point) → J p → K p → L p) → (c : Chain) → IsPath J c → IsPath K c → IsPath L c
+  path_both J K L on c p q =
+      path_named (λ r. J r × K r) L (λ r b. on r b.0 b.1) c (record { links = p.links; row = row_both J K c p.row q.row })

@@ -1,6 +1,6 @@
 -- Members of lists that are filtered, mapped, joined, sorted or made distinct; sums over their members; orders by two keys.
 use Rattle.std.proofs.Common.{◌≡◌, ◌⊎◌, inl, inr, ℕ, zero, suc, ◌+◌, ◌<◌, ◌≤◌, ◌==◌, ◌&&◌, ◌||◌, Bool, true, false, cond, List, [], ◌∷◌, map, filter, length, get_or, All, sum_by, refl, sym, ap, ◌∙◌, subst, arith}
-use Rattle.std.specs.Prelude.{⊤, count_by, flat_map, find, Option, Some, None, if◌then◌else◌}
+use Rattle.std.specs.Prelude.{⊤, count_by, flat_map, find, Some, if◌then◌else◌}
 use Rattle.std.specs.List.{list_all, list_any, range_with_len}
 use Rattle.std.proofs.lemmas.Bool.{and_parts, and_cases, and_from, and_right, or_cases, or_from, or_left, or_right, true≢false, eq-eqb, ne_eqb, cases_eq, cases_lt}
 use Rattle.std.proofs.lemmas.List.Elements.{All-head, All-tail}
