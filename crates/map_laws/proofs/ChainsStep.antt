@@ -49,14 +49,16 @@ module _ (h : MergedMap) (k : ℕ) (numbered : AreNumbered (length h.base.classe
   link_vanishes c m d n =
       subst (λ (j : ℕ). (is_border h j (arc_number h.base.arcs d.arc) && not (is_border h (k + 1) (arc_number h.base.arcs d.arc))) ≡ goes c) (sym back)
       (members_all (λ (d : Link). (is_border h (k + 1 - 1) (arc_number h.base.arcs d.arc) && not (is_border h (k + 1) (arc_number h.base.arcs d.arc))) ≡ goes c) c d
-      (ended_edges_vanish h (k + 1) [] c (edge_of h k [] c) numbered (omega arith) (omega arith) based (subst (λ (j : ℕ). IsEdgeOf h j [] c (edge_of h k [] c)) back is_edge)) n)
+      (ended_edges_vanish h (k + 1) [] c (edge_of h k [] c) numbered (omega arith) (omega arith) based
+      (subst (λ (j : ℕ). IsEdgeOf h j [] c (edge_of h k [] c)) back is_edge)) n)
     where
       back : k ≡ k + 1 - 1
       back = omega arith
 
       based : All (λ (d : Link). has_base_faces h (arc_number h.base.arcs d.arc) ≡ true) c
       based = all_members (λ (d : Link). has_base_faces h (arc_number h.base.arcs d.arc) ≡ true) c (λ e o.
-          faces e.arc (record { left = 0; right = 0; points = [] }) (chains_within h k (chains_at h k) (chains_exist h k) e (joined_among (chains_at h k) c e m o)))
+          faces e.arc (record { left = 0; right = 0; points = [] })
+          (chains_within h k (chains_at h k) (chains_exist h k) e (joined_among (chains_at h k) c e m o)))
 
       is_edge : IsEdgeOf h k [] c (edge_of h k [] c)
       is_edge =
@@ -75,7 +77,8 @@ module _ (h : MergedMap) (k : ℕ) (numbered : AreNumbered (length h.base.classe
       border_left (is_border h k (arc_number h.base.arcs d.arc)) (is_border h (k + 1) (arc_number h.base.arcs d.arc)) (link_before c (was c m) d n)
       (link_vanishes c (was c m) d n ∙ not-true _ (filter_among (λ c. not (goes c)) (chains_at h k) c m))
 
-  link_gone : (c : Chain) → Among c (chains_at h k) → goes c ≡ true → (d : Link) → Among d c → is_border h (k + 1) (arc_number h.base.arcs d.arc) ≡ false
+  link_gone : (c : Chain) → Among c (chains_at h k) → goes c ≡ true → (d : Link) → Among d c
+      → is_border h (k + 1) (arc_number h.base.arcs d.arc) ≡ false
   link_gone c m e d n =
       border_gone (is_border h k (arc_number h.base.arcs d.arc)) (is_border h (k + 1) (arc_number h.base.arcs d.arc)) (link_vanishes c m d n ∙ e)
 
@@ -129,7 +132,8 @@ module _ (h : MergedMap) (k : ℕ) (numbered : AreNumbered (length h.base.classe
   Both q = (degree h k q ≡ 2) × (degree h (k + 1) q ≡ 2)
 
   -- the junctions of a chain that is left are such nodes
-  stays : (c : Chain) → Among c (chains_left h k) → (q : Point) → degree h k q ≡ 2 → 2 ≤ sum_by (λ e. ends_at q (arc_number h.base.arcs e.arc)) c → Both q
+  stays : (c : Chain) → Among c (chains_left h k) → (q : Point) → degree h k q ≡ 2
+      → 2 ≤ sum_by (λ e. ends_at q (arc_number h.base.arcs e.arc)) c → Both q
   stays c m q two more =
       let part = sum_member (arc_sum (λ i. ends_at q (arc_number h.base.arcs i))) (chains_left h k) c m in
       (two, omega (arith, part, left_covers (λ i. ends_at q (arc_number h.base.arcs i)), border_ends h (k + 1) q, degree_less h k small q))
@@ -137,11 +141,12 @@ module _ (h : MergedMap) (k : ℕ) (numbered : AreNumbered (length h.base.classe
   left_path : (c : Chain) → Among c (chains_left h k) → IsPath h.base.arcs Both c
   left_path c m = path_junctions h.base.arcs (λ q. degree h k q ≡ 2) Both c (chains_maximal h k c (was c m)).path (stays c m)
 
-  left_anchored : (c : Chain) → Among c (chains_left h k) → chain_start h.base.arcs c ≡ chain_end h.base.arcs c → degree h (k + 1) (chain_start h.base.arcs c) ≡ 2
-      → IsPath h.base.arcs (λ j. joins_before h (k + 1) (chain_start h.base.arcs c) j ≡ false) c
+  left_anchored : (c : Chain) → Among c (chains_left h k) → chain_start h.base.arcs c ≡ chain_end h.base.arcs c
+      → degree h (k + 1) (chain_start h.base.arcs c) ≡ 2 → IsPath h.base.arcs (λ j. joins_before h (k + 1) (chain_start h.base.arcs c) j ≡ false) c
   left_anchored c m closed two = elim (cases_eq (degree h k (chain_start h.base.arcs c)) 2) [
     | inl before ↦
-        path_both h.base.arcs Both (λ j. joins_before h k (chain_start h.base.arcs c) j ≡ false) (λ j. joins_before h (k + 1) (chain_start h.base.arcs c) j ≡ false)
+        path_both h.base.arcs Both (λ j. joins_before h k (chain_start h.base.arcs c) j ≡ false)
+        (λ j. joins_before h (k + 1) (chain_start h.base.arcs c) j ≡ false)
         (λ j b e. order_stays h k small (chain_start h.base.arcs c) j before b.0 ∙ e) c
         (left_path c m) ((chains_maximal h k c (was c m)).anchored closed before)
     | inr other ↦

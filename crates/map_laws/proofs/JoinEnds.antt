@@ -67,7 +67,8 @@ link_ends arcs p d = by d.turned
 
 module _ (arcs : List BaseArc) (J : Point → Type 0) (p : Point) (fresh : J p → ⊥) where
   -- the ends of the arcs of a row, at a point that is no junction
-  row_ends : (d : Link) (c : Chain) → IsRow (Meets arcs J) (d ∷ c) → sum_by (λ e. ends_at p (arc_number arcs e.arc)) (d ∷ c) ≡ chain_ends arcs p (d ∷ c)
+  row_ends : (d : Link) (c : Chain) → IsRow (Meets arcs J) (d ∷ c)
+      → sum_by (λ e. ends_at p (arc_number arcs e.arc)) (d ∷ c) ≡ chain_ends arcs p (d ∷ c)
   row_ends d [] r =
       let g : Link → ℕ = λ (e : Link). ends_at p (arc_number arcs e.arc) in
       omega (arith, sum_by-cons g d [], link_ends arcs p d)

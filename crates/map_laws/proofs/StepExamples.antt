@@ -1,7 +1,17 @@
 -- A worked step: what the chains of four squares become, computed from the words of the law.
-use Rattle.std.proofs.Common.{◌≡◌, ◌+◌, [], ◌∷◌, refl}
-use Rattle.tgap_model.specs.Chains.{chains_at}
-use Rattle.map_laws.specs.ChainLaws.{chains_left, new_joints, chains_after}
+use Rattle.std.proofs.Common.{◌≡◌, ℕ, ◌+◌, ◌==◌, ◌&&◌, Bool, true, [], ◌∷◌, refl, arith}
+use Rattle.std.specs.List.{list_all}
+use Rattle.std.proofs.lemmas.Bool.{and_parts, eqb-true}
+use Rattle.std.proofs.lemmas.List.Sums.{AllPass-from_list_all}
+use Rattle.tgap_model.specs.History.{AreNumbered}
+use Rattle.tgap_model.specs.Merged.{MergedMap}
+use Rattle.tgap_model.specs.Chains.{Link, Chain, chains_at}
+use Rattle.tgap_model.specs.Removals.{edge_of}
+use Rattle.tgap_model.specs.Slice.{left_of, right_of}
+use Rattle.map_laws.specs.ChainLaws.{has_base_faces, IsEven, HasEvenSides, chains_left, new_joints, chains_after}
+use Rattle.map_laws.proofs.ChainMembers.{Among, all_among}
+use Rattle.map_laws.proofs.Lists.{all_members}
+use Rattle.map_laws.proofs.ChainsStep.{chains_step}
 use Rattle.map_laws.proofs.SliceExamples.{ahead, back, point, four_squares_merged}
 
 -- ---- the first step: the arc between faces 1 and 2 goes, and the node at its outer end is joined
@@ -43,16 +53,52 @@ after_2 : chains_after four_squares_merged 2 ≡ (ahead 2 ∷ ahead 3 ∷ ahead 
 unfolding chains_at
 after_2 = refl
 
--- ---- either side of the law is the same list
+-- ---- the premises of the law hold there, and either side of it is the same list
 
-step_0 : chains_at four_squares_merged (0 + 1) ≡ chains_after four_squares_merged 0
-unfolding chains_at
-step_0 = refl
+-- the faces at the sides of each link are those of the chain's edge, as a test
+abbrev is_even : MergedMap → ℕ → Chain → Bool
+is_even h k c = list_all (λ d. (left_of h k d == (edge_of h k [] c).left) && (right_of h k d == (edge_of h k [] c).right)) c
 
-step_1 : chains_at four_squares_merged (1 + 1) ≡ chains_after four_squares_merged 1
+even_from : (h : MergedMap) (k : ℕ) → list_all (is_even h k) (chains_at h k) ≡ true → HasEvenSides h k
+even_from h k t =
+    all_members (IsEven h k) (chains_at h k) (λ c m. one c (all_among (is_even h k) (chains_at h k) c t m))
+  where
+    one : (c : Chain) → is_even h k c ≡ true → IsEven h k c
+    one c e = record {
+      left = all_members (λ (d : Link). left_of h k d ≡ (edge_of h k [] c).left) c (λ d m. eqb-true _ _ (sides d m).0);
+      right = all_members (λ (d : Link). right_of h k d ≡ (edge_of h k [] c).right) c (λ d m. eqb-true _ _ (sides d m).1);
+    }
+      where
+        sides : (d : Link) → Among d c → ((left_of h k d == (edge_of h k [] c).left) ≡ true) × ((right_of h k d == (edge_of h k [] c).right) ≡ true)
+        sides d m =
+            and_parts _ _ (all_among (λ d. (left_of h k d == (edge_of h k [] c).left) && (right_of h k d == (edge_of h k [] c).right)) c d e m)
+
+even_2 : HasEvenSides four_squares_merged 2
 unfolding chains_at
-step_1 = refl
+even_2 = even_from four_squares_merged 2 refl
+
+numbered : AreNumbered 4 four_squares_merged.steps
+numbered = (
+  record { loser = (omega arith, omega arith); winner = (omega arith, omega arith); differ = λ e. absurd (omega (arith, e)); made = refl },
+  (
+    record { loser = (omega arith, omega arith); winner = (omega arith, omega arith); differ = λ e. absurd (omega (arith, e)); made = refl },
+    (record { loser = (omega arith, omega arith); winner = (omega arith, omega arith); differ = λ e. absurd (omega (arith, e)); made = refl }, tt),
+  ),
+)
 
 step_2 : chains_at four_squares_merged (2 + 1) ≡ chains_after four_squares_merged 2
+step_2 =
+    chains_step four_squares_merged 2 numbered (omega arith)
+    (AllPass-from_list_all (has_base_faces four_squares_merged) four_squares_merged.base.arcs refl) even_2
+
+computed_0 : chains_at four_squares_merged (0 + 1) ≡ chains_after four_squares_merged 0
 unfolding chains_at
-step_2 = refl
+computed_0 = refl
+
+computed_1 : chains_at four_squares_merged (1 + 1) ≡ chains_after four_squares_merged 1
+unfolding chains_at
+computed_1 = refl
+
+computed_2 : chains_at four_squares_merged (2 + 1) ≡ chains_after four_squares_merged 2
+unfolding chains_at
+computed_2 = refl
