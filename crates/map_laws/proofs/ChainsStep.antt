@@ -21,7 +21,7 @@ use Rattle.map_laws.proofs.JoinEnds.{path_junctions, border_ends}
 use Rattle.map_laws.proofs.JoinSteps.{arc_sum, AreJoined}
 use Rattle.map_laws.proofs.JoinOrder.{arc_nodes, degree_node, nodes_ascend}
 use Rattle.map_laws.proofs.JoinAll.{AreNext, join_all}
-use Rattle.map_laws.proofs.ChainsExist.{joined_chains, chains_sums, chains_maximal, chains_exist, chains_are}
+use Rattle.map_laws.proofs.ChainsExist.{joined_are_chains, chains_sums, chains_maximal, chains_exist, chains_are}
 use Rattle.map_laws.proofs.StepDegrees.{border_before, degree_less, order_stays, order_new, order_both}
 use Rattle.map_laws.proofs.Vanishing.{ended_edges_vanish}
 
@@ -194,4 +194,4 @@ pub chains_step : ChainsStep
 chains_step h k numbered small faces even =
     let joined = join_all h (k + 1) (new_joints h k) (Both h k numbered small faces even) (chains_left h k)
     (left_joined h k numbered small faces even) (new_next h k numbered small faces even) in
-    sym (chains_are h (k + 1) _ (joined_chains h (k + 1) _ joined))
+    sym (chains_are h (k + 1) _ (joined_are_chains h (k + 1) _ joined))

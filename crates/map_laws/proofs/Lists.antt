@@ -1,4 +1,4 @@
--- Members of lists that are filtered, mapped, joined, sorted or made distinct; sums over their members; orders by two keys.
+-- Members of lists that are filtered, mapped, sorted or made distinct; sums over them; numbers of a range; orders by two keys.
 use Rattle.std.proofs.Common.{◌≡◌, ◌⊎◌, inl, inr, ℕ, zero, suc, ◌+◌, ◌<◌, ◌≤◌, ◌==◌, ◌&&◌, ◌||◌, Bool, true, false, cond, List, [], ◌∷◌, map, filter, length, get_or, All, sum_by, refl, sym, ap, ◌∙◌, subst, arith}
 use Rattle.std.specs.Prelude.{⊤, count_by, flat_map, find, Some, if◌then◌else◌}
 use Rattle.std.specs.List.{list_all, list_any, range_with_len}

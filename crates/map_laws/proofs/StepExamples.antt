@@ -8,10 +8,11 @@ use Rattle.tgap_model.specs.Merged.{MergedMap}
 use Rattle.tgap_model.specs.Chains.{Link, Chain, chains_at}
 use Rattle.tgap_model.specs.Removals.{edge_of}
 use Rattle.tgap_model.specs.Slice.{left_of, right_of}
-use Rattle.map_laws.specs.ChainLaws.{has_base_faces, IsEven, HasEvenSides, chains_left, new_joints, chains_after}
+use Rattle.map_laws.specs.ChainLaws.{has_base_faces, IsEven, HasEvenSides, chains_left, new_joints, joined_chains}
 use Rattle.map_laws.proofs.ChainMembers.{Among, all_among}
 use Rattle.map_laws.proofs.Lists.{all_members}
 use Rattle.map_laws.proofs.ChainsStep.{chains_step}
+use Rattle.map_laws.proofs.Examples.{step, arc, plain_map}
 use Rattle.map_laws.proofs.SliceExamples.{ahead, back, point, four_squares_merged}
 
 -- ---- the first step: the arc between faces 1 and 2 goes, and the node at its outer end is joined
@@ -23,7 +24,7 @@ left_0 = refl
 joints_0 : new_joints four_squares_merged 0 ≡ point 10 0 ∷ []
 joints_0 = refl
 
-after_0 : chains_after four_squares_merged 0 ≡ (ahead 0 ∷ ahead 1 ∷ []) ∷ (ahead 2 ∷ []) ∷ (ahead 3 ∷ []) ∷ (ahead 5 ∷ []) ∷ (ahead 6 ∷ []) ∷ (ahead 7 ∷ []) ∷ []
+after_0 : joined_chains four_squares_merged 0 ≡ (ahead 0 ∷ ahead 1 ∷ []) ∷ (ahead 2 ∷ []) ∷ (ahead 3 ∷ []) ∷ (ahead 5 ∷ []) ∷ (ahead 6 ∷ []) ∷ (ahead 7 ∷ []) ∷ []
 unfolding chains_at
 after_0 = refl
 
@@ -36,7 +37,7 @@ left_1 = refl
 joints_1 : new_joints four_squares_merged 1 ≡ point 10 10 ∷ point 10 20 ∷ []
 joints_1 = refl
 
-after_1 : chains_after four_squares_merged 1 ≡ (ahead 0 ∷ ahead 1 ∷ []) ∷ (ahead 2 ∷ ahead 3 ∷ []) ∷ (ahead 5 ∷ back 7 ∷ []) ∷ []
+after_1 : joined_chains four_squares_merged 1 ≡ (ahead 0 ∷ ahead 1 ∷ []) ∷ (ahead 2 ∷ ahead 3 ∷ []) ∷ (ahead 5 ∷ back 7 ∷ []) ∷ []
 unfolding chains_at
 after_1 = refl
 
@@ -49,7 +50,7 @@ left_2 = refl
 joints_2 : new_joints four_squares_merged 2 ≡ point 0 10 ∷ point 20 10 ∷ []
 joints_2 = refl
 
-after_2 : chains_after four_squares_merged 2 ≡ (ahead 2 ∷ ahead 3 ∷ ahead 0 ∷ ahead 1 ∷ []) ∷ []
+after_2 : joined_chains four_squares_merged 2 ≡ (ahead 2 ∷ ahead 3 ∷ ahead 0 ∷ ahead 1 ∷ []) ∷ []
 unfolding chains_at
 after_2 = refl
 
@@ -86,19 +87,39 @@ numbered = (
   ),
 )
 
-step_2 : chains_at four_squares_merged (2 + 1) ≡ chains_after four_squares_merged 2
+step_2 : chains_at four_squares_merged (2 + 1) ≡ joined_chains four_squares_merged 2
 step_2 =
     chains_step four_squares_merged 2 numbered (omega arith)
     (AllPass-from_list_all (has_base_faces four_squares_merged) four_squares_merged.base.arcs refl) even_2
 
-computed_0 : chains_at four_squares_merged (0 + 1) ≡ chains_after four_squares_merged 0
+computed_0 : chains_at four_squares_merged (0 + 1) ≡ joined_chains four_squares_merged 0
 unfolding chains_at
 computed_0 = refl
 
-computed_1 : chains_at four_squares_merged (1 + 1) ≡ chains_after four_squares_merged 1
+computed_1 : chains_at four_squares_merged (1 + 1) ≡ joined_chains four_squares_merged 1
 unfolding chains_at
 computed_1 = refl
 
-computed_2 : chains_at four_squares_merged (2 + 1) ≡ chains_after four_squares_merged 2
+computed_2 : chains_at four_squares_merged (2 + 1) ≡ joined_chains four_squares_merged 2
 unfolding chains_at
 computed_2 = refl
+
+-- ---- a chain whose faces change along it, as no planar partition has: one arc goes with the step, and the other one stays
+
+abbrev uneven : MergedMap
+uneven = record {
+  base = plain_map 0 (0 ∷ 0 ∷ 0 ∷ 0 ∷ []) (arc 1 2 (0 ∷ 0 ∷ 10 ∷ 0 ∷ []) ∷ arc 3 4 (10 ∷ 0 ∷ 20 ∷ 0 ∷ []) ∷ []);
+  steps = step 1 2 5 ∷ [];
+}
+
+uneven_before : chains_at uneven 0 ≡ (ahead 0 ∷ ahead 1 ∷ []) ∷ []
+unfolding chains_at
+uneven_before = refl
+
+uneven_left : chains_left uneven 0 ≡ []
+unfolding chains_at
+uneven_left = refl
+
+uneven_after : chains_at uneven 1 ≡ (ahead 1 ∷ []) ∷ []
+unfolding chains_at
+uneven_after = refl
