@@ -126,9 +126,9 @@ module _ (h : MergedMap) (k : ℕ) (cs : List Chain) (a : AreJoined h k (λ q. d
       (λ i. omega (arith, sums (is_number i), border_once i)))
 
   -- they are the chains
-  pub joined_chains : are_chains h k (sort_by (λ c d. nat_lt (key c) (key d)) (map directed cs)) ≡ true
+  pub joined_are_chains : are_chains h k (sort_by (λ c d. nat_lt (key c) (key d)) (map directed cs)) ≡ true
   unfolding are_chains
-  joined_chains =
+  joined_are_chains =
       and_from (list_all (is_chain h k) in_order && covers_border h k in_order) (is_sorted_by (λ c d. nat_lt (key c) (key d)) in_order)
       (and_from (list_all (is_chain h k) in_order) (covers_border h k in_order) all_chains (and_from _ _ counted within)) sorted
 
@@ -183,7 +183,7 @@ module _ (h : MergedMap) (k : ℕ) where
 -- the joined border arcs are the chains after k steps
 pub chains_exist : ChainsExist
 unfolding chains_at
-chains_exist h k = joined_chains h k (fold (join_at h.base.arcs) (map (single h k) (border_numbers h k)) (joints h k)) (all_joined h k)
+chains_exist h k = joined_are_chains h k (fold (join_at h.base.arcs) (map (single h k) (border_numbers h k)) (joints h k)) (all_joined h k)
 
 -- so a list that passes is the joined border arcs
 pub chains_are : (h : MergedMap) (k : ℕ) (cs : List Chain) → are_chains h k cs ≡ true → cs ≡ chains_at h k

@@ -42,8 +42,8 @@ module _ (h : MergedMap) (k : ℕ) where
   }
 
   -- a node that is neither a junction nor joined now comes later
-  comes_later : (J : Point → Type 0) (p : Point) (ps : List Point) → AreNext h k J (p ∷ ps) → (q j : Point) → degree h k q ≡ 2 → (J q → ⊥) → (q ≡ p → ⊥)
-      → J j ⊎ (j ≡ p) → joins_before h k q j ≡ false
+  comes_later : (J : Point → Type 0) (p : Point) (ps : List Point) → AreNext h k J (p ∷ ps)
+      → (q j : Point) → degree h k q ≡ 2 → (J q → ⊥) → (q ≡ p → ⊥) → J j ⊎ (j ≡ p) → joins_before h k q j ≡ false
   comes_later J p ps n q j deg new ne t =
       elim (n.all q deg) [
         | inl i ↦ absurd (new i)

@@ -1,6 +1,6 @@
 -- The ends of paths at a point that is no junction: as many as the ends of their arcs there.
-use Rattle.std.proofs.Common.{◌≡◌, ℕ, ◌+◌, ◌≤◌, ◌||◌, Bool, true, false, cond, List, [], ◌∷◌, sum_by, refl, ap, ◌∙◌, subst, arith}
-use Rattle.std.proofs.lemmas.Bool.{false_from_ne_true}
+use Rattle.std.proofs.Common.{◌≡◌, ◌⊎◌, inl, inr, ℕ, ◌+◌, ◌≤◌, ◌||◌, Bool, true, false, cond, List, [], ◌∷◌, sum_by, refl, sym, ap, ◌∙◌, subst, arith}
+use Rattle.std.proofs.lemmas.Bool.{false_from_ne_true, or_left, or_right}
 use Rattle.std.proofs.lemmas.List.Sums.{sum_by-cons}
 use Rattle.tgap_model.specs.declared.geometry.Point.{Point}
 use Rattle.tgap_model.specs.declared.base.BaseArc.{BaseArc}
@@ -9,7 +9,11 @@ use Rattle.tgap_model.specs.Merged.{MergedMap, is_border}
 use Rattle.tgap_model.specs.Chains.{first_point, last_point, arc_number, border_numbers, ends_at, degree, Link, Chain, link_start, link_end, chain_start, chain_end, touches}
 use Rattle.map_laws.proofs.Lists.{sum_passing}
 use Rattle.map_laws.proofs.ChainWalks.{IsRow}
+<<<<<<< HEAD
 use Rattle.tgap_model.proofs.Points.{same_point-true}
+=======
+use Rattle.map_laws.proofs.ChainEnds.{same_point-true, same_point-from}
+>>>>>>> 10fd304e74561245d27df4badef03a2a32312990
 use Rattle.map_laws.proofs.JoinPaths.{Meets, IsPath}
 
 -- points that are not one fail the test
@@ -67,7 +71,8 @@ link_ends arcs p d = by d.turned
 
 module _ (arcs : List BaseArc) (J : Point → Type 0) (p : Point) (fresh : J p → ⊥) where
   -- the ends of the arcs of a row, at a point that is no junction
-  row_ends : (d : Link) (c : Chain) → IsRow (Meets arcs J) (d ∷ c) → sum_by (λ e. ends_at p (arc_number arcs e.arc)) (d ∷ c) ≡ chain_ends arcs p (d ∷ c)
+  row_ends : (d : Link) (c : Chain) → IsRow (Meets arcs J) (d ∷ c)
+      → sum_by (λ e. ends_at p (arc_number arcs e.arc)) (d ∷ c) ≡ chain_ends arcs p (d ∷ c)
   row_ends d [] r =
       let g : Link → ℕ = λ (e : Link). ends_at p (arc_number arcs e.arc) in
       omega (arith, sum_by-cons g d [], link_ends arcs p d)
@@ -82,6 +87,42 @@ module _ (arcs : List BaseArc) (J : Point → Type 0) (p : Point) (fresh : J p �
   pub path_ends : (c : Chain) → IsPath arcs J c → sum_by (λ e. ends_at p (arc_number arcs e.arc)) c ≡ chain_ends arcs p c
   path_ends [] q = let none = q.links in absurd cc
   path_ends (d ∷ c) q = row_ends d c q.row
+
+-- ---- at a junction
+
+-- one end at least
+end_there : (arcs : List BaseArc) (p : Point) (d : Link) → (link_start arcs d ≡ p) ⊎ (link_end arcs d ≡ p) → 1 ≤ ends_at p (arc_number arcs d.arc)
+end_there arcs p d t =
+    let touched : (same_point (link_start arcs d) p || same_point (link_end arcs d) p) ≡ true = elim t [
+      | inl s ↦ or_left _ (same_point (link_end arcs d) p) (same_point-from _ _ s)
+      | inr s ↦ or_right (same_point (link_start arcs d) p) _ (same_point-from _ _ s)
+    ] in
+    omega (arith, link_ends arcs p d, some_end (same_point (link_start arcs d) p) (same_point (link_end arcs d) p) touched)
+
+-- two arcs of a path end at each of its junctions
+row_junctions : (arcs : List BaseArc) (J K : Point → Type 0) (c : Chain) → IsRow (Meets arcs J) c
+    → ((p : Point) → J p → 2 ≤ sum_by (λ e. ends_at p (arc_number arcs e.arc)) c → K p) → IsRow (Meets arcs K) c
+row_junctions arcs J K [] r on = tt
+row_junctions arcs J K (d ∷ []) r on = tt
+row_junctions arcs J K (d ∷ e ∷ c) r on = (
+  (
+    r.0.0,
+    on (link_end arcs d) r.0.1 (
+        let g : Link → ℕ = λ (f : Link). ends_at (link_end arcs d) (arc_number arcs f.arc) in
+        omega (
+          arith,
+          sum_by-cons g d (e ∷ c),
+          sum_by-cons g e c,
+          end_there arcs (link_end arcs d) d (inr refl),
+          end_there arcs (link_end arcs d) e (inl (sym r.0.0)),
+        )),
+  ),
+  row_junctions arcs J K (e ∷ c) r.1 (λ p j two. on p j (omega (arith, sum_by-cons (λ (f : Link). ends_at p (arc_number arcs f.arc)) d (e ∷ c)))),
+)
+
+pub path_junctions : (arcs : List BaseArc) (J K : Point → Type 0) (c : Chain) → IsPath arcs J c
+    → ((p : Point) → J p → 2 ≤ sum_by (λ e. ends_at p (arc_number arcs e.arc)) c → K p) → IsPath arcs K c
+path_junctions arcs J K c q on = record { links = q.links; row = row_junctions arcs J K c q.row on }
 
 -- the ends of the border arcs at a point are its degree
 pub border_ends : (h : MergedMap) (k : ℕ) (p : Point) → sum_by (λ i. ends_at p (arc_number h.base.arcs i)) (border_numbers h k) ≡ degree h k p

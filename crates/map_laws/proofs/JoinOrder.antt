@@ -39,8 +39,8 @@ one_passes false false h = absurd (h refl refl)
 ends_among : (p : Point) (a : BaseArc) → 1 ≤ ends_at p a → Among p (first_point a.points ∷ last_point a.points ∷ [])
 ends_among p a l = by (same_point (first_point a.points) p) refl (same_point (last_point a.points) p) refl l
   where
-    by : (s : Bool) → same_point (first_point a.points) p ≡ s → (t : Bool) → same_point (last_point a.points) p ≡ t → 1 ≤ cond {A = ℕ} s 1 0 + cond {A = ℕ} t 1 0
-        → Among p (first_point a.points ∷ last_point a.points ∷ [])
+    by : (s : Bool) → same_point (first_point a.points) p ≡ s → (t : Bool) → same_point (last_point a.points) p ≡ t
+        → 1 ≤ cond {A = ℕ} s 1 0 + cond {A = ℕ} t 1 0 → Among p (first_point a.points ∷ last_point a.points ∷ [])
     by true e t f m = inl (same_point-true _ _ e)
     by false e true f m = inr (inl (same_point-true _ _ f))
     by false e false f m = absurd (omega arith)

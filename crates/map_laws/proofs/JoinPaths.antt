@@ -80,7 +80,9 @@ module _ (arcs : List BaseArc) where
   turned_start [] = refl
   turned_start (d ∷ []) = turn_start arcs d
   turned_start (d ∷ e ∷ c) =
-      ap (chain_start arcs) (turned_cons d (e ∷ c)) ∙ append_start (turned_round (e ∷ c)) (turn d ∷ []) (turned_links (e ∷ c) refl) ∙ turned_start (e ∷ c)
+      ap (chain_start arcs) (turned_cons d (e ∷ c))
+      ∙ append_start (turned_round (e ∷ c)) (turn d ∷ []) (turned_links (e ∷ c) refl)
+      ∙ turned_start (e ∷ c)
 
   -- ---- paths
 
@@ -103,14 +105,15 @@ module _ (arcs : List BaseArc) where
   path_named J K on c p = record { links = p.links; row = row_named J K on c p.row }
 
   -- two rows in a row, where the first ends at the start of the second
-  row_append : (J : Point → Type 0) (c e : Chain) → IsRow (Meets J) c → IsRow (Meets J) e → chain_end arcs c ≡ chain_start arcs e → J (chain_end arcs c)
-      → IsRow (Meets J) (c ++ e)
+  row_append : (J : Point → Type 0) (c e : Chain) → IsRow (Meets J) c → IsRow (Meets J) e → chain_end arcs c ≡ chain_start arcs e
+      → J (chain_end arcs c) → IsRow (Meets J) (c ++ e)
   row_append J [] e r s m j = s
   row_append J (d ∷ []) [] r s m j = tt
   row_append J (d ∷ []) (f ∷ e) r s m j = ((m, j), s)
   row_append J (d ∷ g ∷ c) e r s m j = (r.0, row_append J (g ∷ c) e r.1 s m j)
 
-  pub path_append : (J : Point → Type 0) (c e : Chain) → IsPath J c → IsPath J e → chain_end arcs c ≡ chain_start arcs e → J (chain_end arcs c) → IsPath J (c ++ e)
+  pub path_append : (J : Point → Type 0) (c e : Chain) → IsPath J c → IsPath J e → chain_end arcs c ≡ chain_start arcs e → J (chain_end arcs c)
+      → IsPath J (c ++ e)
   path_append J c e p q m j = record { links = append_links c e p.links; row = row_append J c e p.row q.row m j }
 
   row_turned : (J : Point → Type 0) (c : Chain) → IsRow (Meets J) c → IsRow (Meets J) (turned_round c)
@@ -126,7 +129,8 @@ module _ (arcs : List BaseArc) where
   path_turned J c p = record { links = turned_links c p.links; row = row_turned J c p.row }
 
   -- each link starts where the path does, or at a junction
-  pub path_starts : (J : Point → Type 0) (c : Chain) → IsPath J c → (d : Link) → Among d c → (chain_start arcs c ≡ link_start arcs d) ⊎ J (link_start arcs d)
+  pub path_starts : (J : Point → Type 0) (c : Chain) → IsPath J c → (d : Link) → Among d c
+      → (chain_start arcs c ≡ link_start arcs d) ⊎ J (link_start arcs d)
   path_starts J c p d m = by c p.row m
     where
       by : (c : Chain) → IsRow (Meets J) c → Among d c → (chain_start arcs c ≡ link_start arcs d) ⊎ J (link_start arcs d)
@@ -134,3 +138,14 @@ module _ (arcs : List BaseArc) where
       by (e ∷ c) r (inl s) = inl (ap (link_start arcs) s)
       by (e ∷ []) r (inr n) = absurd n
       by (e ∷ f ∷ c) r (inr n) = elim (by (f ∷ c) r.1 n) [ inl s ↦ inr (subst J (r.0.0 ∙ s) r.0.1) | inr j ↦ inr j ]
+
+  -- a row through the junctions of two kinds
+  row_both : (J K : Point → Type 0) (c : Chain) → IsRow (Meets J) c → IsRow (Meets K) c → IsRow (Meets (λ q. J q × K q)) c
+  row_both J K [] r s = tt
+  row_both J K (d ∷ []) r s = tt
+  row_both J K (d ∷ e ∷ c) r s = ((r.0.0, (r.0.1, s.0.1)), row_both J K (e ∷ c) r.1 s.1)
+
+  -- a path through both is a path through what they imply together
+  pub path_both : (J K L : Point → Type 0) → ((p : Point) → J p → K p → L p) → (c : Chain) → IsPath J c → IsPath K c → IsPath L c
+  path_both J K L on c p q =
+      path_named (λ r. J r × K r) L (λ r b. on r b.0 b.1) c (record { links = p.links; row = row_both J K c p.row q.row })

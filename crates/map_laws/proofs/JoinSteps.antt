@@ -32,7 +32,8 @@ pub record AreJoined (h : MergedMap) (k : ℕ) (J : Point → Type 0) (cs : List
 ends_degree : (h : MergedMap) (k : ℕ) (J : Point → Type 0) (cs : List Chain) → AreJoined h k J cs → (p : Point) → (J p → ⊥)
     → sum_by (chain_ends h.base.arcs p) cs ≡ degree h k p
 ends_degree h k J cs a p fresh =
-    sum_agree (chain_ends h.base.arcs p) (arc_sum (λ i. ends_at p (arc_number h.base.arcs i))) cs (λ c m. sym (path_ends h.base.arcs J p fresh c (a.paths c m)))
+    sum_agree (chain_ends h.base.arcs p) (arc_sum (λ i. ends_at p (arc_number h.base.arcs i))) cs
+    (λ c m. sym (path_ends h.base.arcs J p fresh c (a.paths c m)))
     ∙ a.covers (λ i. ends_at p (arc_number h.base.arcs i))
     ∙ border_ends h k p
 
@@ -53,8 +54,8 @@ one_end true true h e f = absurd (omega arith)
 one_end true false h e f = absurd cc
 one_end false t h e f = absurd cc
 
-toward_is : (arcs : List BaseArc) (J : Point → Type 0) (p : Point) (c : Chain) → IsPath arcs J c → touches arcs p c ≡ true → chain_ends arcs p c ≡ 1
-    → IsToward arcs J p c (toward arcs p c)
+toward_is : (arcs : List BaseArc) (J : Point → Type 0) (p : Point) (c : Chain) → IsPath arcs J c → touches arcs p c ≡ true
+    → chain_ends arcs p c ≡ 1 → IsToward arcs J p c (toward arcs p c)
 toward_is arcs J p c path t one = by (same_point (chain_end arcs c) p) refl
   where
     by : (b : Bool) → same_point (chain_end arcs c) p ≡ b → IsToward arcs J p c (cond b c (turned_round c))
@@ -91,7 +92,8 @@ joined_with arcs chains p touching =
       | c ∷ d ∷ more ↦ (toward arcs p c ++ turned_round (toward arcs p d)) ∷ (more ++ filter (λ e. not (touches arcs p e)) chains)
     ]
 
-module _ (h : MergedMap) (k : ℕ) (J : Point → Type 0) (cs : List Chain) (a : AreJoined h k J cs) (p : Point) (two : degree h k p ≡ 2) (fresh : J p → ⊥)
+module _ (h : MergedMap) (k : ℕ) (J : Point → Type 0) (cs : List Chain) (a : AreJoined h k J cs)
+    (p : Point) (two : degree h k p ≡ 2) (fresh : J p → ⊥)
     (last : (q j : Point) → degree h k q ≡ 2 → (J q → ⊥) → (q ≡ p → ⊥) → J j ⊎ (j ≡ p) → joins_before h k q j ≡ false) where
   -- with the node among the junctions
   abbrev Through : Point → Type 0
@@ -232,11 +234,13 @@ module _ (h : MergedMap) (k : ℕ) (J : Point → Type 0) (cs : List Chain) (a :
         old : (e : Chain) → Among e (filter (λ e. not (touches h.base.arcs p e)) cs) → Among e cs
         old e n = kept_among (λ e. not (touches h.base.arcs p e)) cs e n
 
-        away : (e : Chain) → Among e (filter (λ e. not (touches h.base.arcs p e)) cs) → (chain_start h.base.arcs e ≡ p) ⊎ (chain_end h.base.arcs e ≡ p) → ⊥
+        away : (e : Chain) → Among e (filter (λ e. not (touches h.base.arcs p e)) cs)
+            → (chain_start h.base.arcs e ≡ p) ⊎ (chain_end h.base.arcs e ≡ p) → ⊥
         away e n t =
             both_ways (touches h.base.arcs p e) (not-true _ (filter_among (λ e. not (touches h.base.arcs p e)) cs e n)) (touches_from e t)
 
-        anchor : degree h k (chain_start h.base.arcs new) ≡ 2 → IsPath h.base.arcs (λ j. joins_before h k (chain_start h.base.arcs new) j ≡ false) new
+        anchor : degree h k (chain_start h.base.arcs new) ≡ 2
+            → IsPath h.base.arcs (λ j. joins_before h k (chain_start h.base.arcs new) j ≡ false) new
         anchor deg =
             path_named h.base.arcs Through (λ j. joins_before h k (chain_start h.base.arcs new) j ≡ false)
             (λ j through. last (chain_start h.base.arcs new) j deg
@@ -261,7 +265,8 @@ module _ (h : MergedMap) (k : ℕ) (J : Point → Type 0) (cs : List Chain) (a :
   pub join_step : AreJoined h k (λ q. J q ⊎ (q ≡ p)) (join_at h.base.arcs cs p)
   join_step = by (filter (touches h.base.arcs p) cs) refl
     where
-      by : (touching : List Chain) → filter (touches h.base.arcs p) cs ≡ touching → AreJoined h k (λ q. J q ⊎ (q ≡ p)) (joined_with h.base.arcs cs p touching)
+      by : (touching : List Chain) → filter (touches h.base.arcs p) cs ≡ touching
+          → AreJoined h k (λ q. J q ⊎ (q ≡ p)) (joined_with h.base.arcs cs p touching)
       by [] is = absurd (omega (arith, ap (sum_by (chain_ends h.base.arcs p)) is, touching_two))
       by (c ∷ []) is = one_closed c is
       by (c ∷ d ∷ []) is = two_joined c d is

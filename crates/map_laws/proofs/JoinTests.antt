@@ -100,13 +100,15 @@ module _ (h : MergedMap) (k : ℕ) where
   joined_from (d ∷ []) r = refl
   joined_from (d ∷ e ∷ c) r =
       and_from _ (is_joined h k (e ∷ c))
-      (and_from (same_point (link_end h.base.arcs d) (link_start h.base.arcs e)) _ (same_point-from _ _ r.0.0) (eq-eqb (degree h k (link_end h.base.arcs d)) 2 r.0.1))
+      (and_from (same_point (link_end h.base.arcs d) (link_start h.base.arcs e)) _ (same_point-from _ _ r.0.0)
+      (eq-eqb (degree h k (link_end h.base.arcs d)) 2 r.0.1))
       (joined_from (e ∷ c) r.1)
 
   maximal_from : (c : Chain) → IsMaximalPath h k c → is_maximal h k c ≡ true
   maximal_from c w = by (degree h k (chain_start h.base.arcs c) == 2) refl (degree h k (chain_end h.base.arcs c) == 2) refl
     where
-      by : (s : Bool) → (degree h k (chain_start h.base.arcs c) == 2) ≡ s → (t : Bool) → (degree h k (chain_end h.base.arcs c) == 2) ≡ t → is_maximal h k c ≡ true
+      by : (s : Bool) → (degree h k (chain_start h.base.arcs c) == 2) ≡ s → (t : Bool) → (degree h k (chain_end h.base.arcs c) == 2) ≡ t
+          → is_maximal h k c ≡ true
       by true e t f =
           or_left (is_closed h.base.arcs c) _ (same_point-from _ _ (sym (w.shut (chain_start h.base.arcs c) (eqb-true _ 2 e) (inl refl)).1))
       by false e true f =
@@ -117,7 +119,8 @@ module _ (h : MergedMap) (k : ℕ) where
   anchored_from : (c : Chain) → IsMaximalPath h k c → is_anchored h k c ≡ true
   anchored_from c w = by (is_closed h.base.arcs c) refl (degree h k (chain_start h.base.arcs c) == 2) refl
     where
-      by : (s : Bool) → is_closed h.base.arcs c ≡ s → (t : Bool) → (degree h k (chain_start h.base.arcs c) == 2) ≡ t → is_anchored h k c ≡ true
+      by : (s : Bool) → is_closed h.base.arcs c ≡ s → (t : Bool) → (degree h k (chain_start h.base.arcs c) == 2) ≡ t
+          → is_anchored h k c ≡ true
       by false e t f =
           or_left (not (is_closed h.base.arcs c) || not (degree h k (chain_start h.base.arcs c) == 2)) _
           (or_left (not (is_closed h.base.arcs c)) (not (degree h k (chain_start h.base.arcs c) == 2)) (not_from_false _ e))

@@ -23,6 +23,7 @@ pub mod JoinAll
 pub mod JoinTests
 pub mod ChainsExist
 pub mod StepDegrees
+pub mod ChainsStep
 pub mod SlicesUnique
 pub mod InnerVertices
 pub mod Nearest

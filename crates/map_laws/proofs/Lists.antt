@@ -1,6 +1,6 @@
--- Members of lists that are filtered, mapped, joined, sorted or made distinct; sums over their members; orders by two keys.
+-- Members of lists that are filtered, mapped, sorted or made distinct; sums over them; numbers of a range; orders by two keys.
 use Rattle.std.proofs.Common.{◌≡◌, ◌⊎◌, inl, inr, ℕ, zero, suc, ◌+◌, ◌<◌, ◌≤◌, ◌==◌, ◌&&◌, ◌||◌, Bool, true, false, cond, List, [], ◌∷◌, map, filter, length, get_or, All, sum_by, refl, sym, ap, ◌∙◌, subst, arith}
-use Rattle.std.specs.Prelude.{⊤, count_by, flat_map, find, Option, Some, None, if◌then◌else◌}
+use Rattle.std.specs.Prelude.{⊤, count_by, flat_map, find, Some, if◌then◌else◌}
 use Rattle.std.specs.List.{list_all, list_any, range_with_len}
 use Rattle.std.proofs.lemmas.Bool.{and_parts, and_cases, and_from, and_right, or_cases, or_from, or_left, or_right, true≢false, eq-eqb, ne_eqb, cases_eq, cases_lt}
 use Rattle.std.proofs.lemmas.List.Elements.{All-head, All-tail}
@@ -153,7 +153,8 @@ module _ {A : Type 0} (before : A → A → Bool) where
   insert_among x [] z m = m
   insert_among x (y ∷ ys) z m = by (before x y) m (insert_among x ys z)
     where
-      by : (b : Bool) → Among z (cond b (x ∷ y ∷ ys) (y ∷ insert_by before x ys)) → (Among z (insert_by before x ys) → Among z (x ∷ ys)) → Among z (x ∷ y ∷ ys)
+      by : (b : Bool) → Among z (cond b (x ∷ y ∷ ys) (y ∷ insert_by before x ys)) → (Among z (insert_by before x ys) → Among z (x ∷ ys))
+          → Among z (x ∷ y ∷ ys)
       by true n f = n
       by false (inl e) f = inr (inl e)
       by false (inr n) f = elim (f n) [ inl e ↦ inl e | inr o ↦ inr (inr o) ]
@@ -162,7 +163,8 @@ module _ {A : Type 0} (before : A → A → Bool) where
   among_insert x [] z m = m
   among_insert x (y ∷ ys) z m = by (before x y) m (among_insert x ys z)
     where
-      by : (b : Bool) → Among z (x ∷ y ∷ ys) → (Among z (x ∷ ys) → Among z (insert_by before x ys)) → Among z (cond b (x ∷ y ∷ ys) (y ∷ insert_by before x ys))
+      by : (b : Bool) → Among z (x ∷ y ∷ ys) → (Among z (x ∷ ys) → Among z (insert_by before x ys))
+          → Among z (cond b (x ∷ y ∷ ys) (y ∷ insert_by before x ys))
       by true n f = n
       by false (inl e) f = inr (f (inl e))
       by false (inr (inl e)) f = inl e
@@ -199,11 +201,13 @@ module _ {A : Type 0} (before : A → A → Bool) where
 
   -- ---- ascending lists of distinct elements
 
-  once_first : (y x : A) (ys : List A) → before y x ≡ true → is_before_first before y ys ≡ true → is_before_first before y (insert_once before x ys) ≡ true
+  once_first : (y x : A) (ys : List A) → before y x ≡ true → is_before_first before y ys ≡ true
+      → is_before_first before y (insert_once before x ys) ≡ true
   once_first y x [] e f = e
   once_first y x (z ∷ zs) e f = by (before x z)
     where
-      by : (b : Bool) → is_before_first before y (elim b [ true ↦ x ∷ z ∷ zs | false ↦ z ∷ elim (before z x) [ true ↦ insert_once before x zs | false ↦ zs ] ]) ≡ true
+      by : (b : Bool)
+          → is_before_first before y (elim b [ true ↦ x ∷ z ∷ zs | false ↦ z ∷ elim (before z x) [ true ↦ insert_once before x zs | false ↦ zs ] ]) ≡ true
       by true = e
       by false = f
 
@@ -230,7 +234,8 @@ module _ {A : Type 0} (before : A → A → Bool) where
     among_once x [] z m = m
     among_once x (y ∷ ys) z m = by (before x y) refl (before y x) refl m (among_once x ys z)
       where
-        by : (b : Bool) → before x y ≡ b → (c : Bool) → before y x ≡ c → Among z (x ∷ y ∷ ys) → (Among z (x ∷ ys) → Among z (insert_once before x ys))
+        by : (b : Bool) → before x y ≡ b → (c : Bool) → before y x ≡ c → Among z (x ∷ y ∷ ys)
+            → (Among z (x ∷ ys) → Among z (insert_once before x ys))
             → Among z (elim b [ true ↦ x ∷ y ∷ ys | false ↦ y ∷ elim c [ true ↦ insert_once before x ys | false ↦ ys ] ])
         by true e c f n rest = n
         by false e true f (inl s) rest = inr (rest (inl s))
@@ -316,7 +321,8 @@ range_count p a n i = by (list_any (λ j. j == i) numbers) refl (cases_lt 0 (cou
     by false e (inr l) = omega arith
 
 -- the first number that passes is no greater than one that does
-pub find_some : (p : ℕ → Bool) (a n j : ℕ) → a ≤ j → j < a + n → p j ≡ true → (i : ℕ) × (find p (range_with_len a n) ≡ Some i) × (i ≤ j)
+pub find_some : (p : ℕ → Bool) (a n j : ℕ) → a ≤ j → j < a + n → p j ≡ true
+    → (i : ℕ) × (find p (range_with_len a n) ≡ Some i) × (i ≤ j)
 find_some p a zero j l u e = absurd (omega arith)
 find_some p a (suc n) j l u e = by (p a) refl (cases_eq a j) (λ m. find_some p (a + 1) n j m (omega arith) e)
   where
@@ -340,7 +346,8 @@ find_longer p a (suc n) (suc m) i l e = by (p a) e (λ f. find_longer p (a + 1) 
     by false f rest = rest f
 
 -- where none before passes, the last one is the first that does
-pub find_last : (p : ℕ → Bool) (a n m : ℕ) → m ≡ suc n → ((j : ℕ) → a ≤ j → j < a + n → p j ≡ false) → p (a + n) ≡ true → find p (range_with_len a m) ≡ Some (a + n)
+pub find_last : (p : ℕ → Bool) (a n m : ℕ) → m ≡ suc n → ((j : ℕ) → a ≤ j → j < a + n → p j ≡ false) → p (a + n) ≡ true
+    → find p (range_with_len a m) ≡ Some (a + n)
 find_last p a n zero s none e = absurd (omega arith)
 find_last p a zero (suc m) s none e =
     let here : a + 0 ≡ a = omega arith in

@@ -1,14 +1,13 @@
 -- What one step of the history leaves: no new borders, so no greater degrees, and the steps at which degrees became two.
-use Rattle.std.proofs.Common.{◌≡◌, ◌⊎◌, inl, inr, ℕ, zero, suc, ◌+◌, ◌<◌, ◌≤◌, ◌==◌, ◌||◌, ◌&&◌, not, Bool, true, false, cond, nat_lt, length, refl, sym, ap, ◌∙◌, subst, arith}
-use Rattle.std.specs.Prelude.{unwrap_or, find}
-use Rattle.std.specs.List.{range_with_len}
+use Rattle.std.proofs.Common.{◌≡◌, inl, inr, ℕ, zero, suc, ◌+◌, ◌<◌, ◌≤◌, ◌==◌, ◌||◌, ◌&&◌, Bool, true, false, cond, nat_lt, length, refl, sym, ap, ◌∙◌, subst, arith}
+use Rattle.std.specs.Prelude.{unwrap_or}
 use Rattle.std.proofs.lemmas.Bool.{and_from, and_left, or_from, or_right, not-false, not_from_true, ne_eqb, eq-eqb, eqb-true, le-ltb, cases_eq, true≢false}
 use Rattle.tgap_model.specs.declared.geometry.Point.{Point}
 use Rattle.tgap_model.specs.declared.base.BaseArc.{BaseArc}
 use Rattle.tgap_model.specs.declared.merge.MergeStep.{MergeStep}
 use Rattle.tgap_model.specs.Segment.{point_before}
 use Rattle.tgap_model.specs.History.{relabel}
-use Rattle.tgap_model.specs.Merged.{MergedMap, label_at, step_number, is_border}
+use Rattle.tgap_model.specs.Merged.{MergedMap, label_at, is_border}
 use Rattle.tgap_model.specs.Chains.{ends_at, degree, step_of_two, joins_before}
 use Rattle.map_laws.proofs.Lists.{sum_less, find_some, find_longer, find_last}
 use Rattle.map_laws.proofs.MergeSteps.{label_next}
@@ -80,14 +79,14 @@ module _ (h : MergedMap) where
         let test : ℕ → Bool = λ (j : ℕ). degree h j p == 2 in
         let zero_on : 0 + (k + 1) ≡ k + 1 = omega arith in
         let found = find_last test 0 (k + 1) (k + 1 + 1) (omega arith)
-            (λ j low high. ne_eqb (degree h j p) 2 (λ e. other (omega (
-              arith,
-              e,
-              two,
-              degree_below j k p (omega arith) (omega arith),
-              degree_less p,
-            ))))
-            (ap test zero_on ∙ eq-eqb (degree h (k + 1) p) 2 two) in
+        (λ j low high. ne_eqb (degree h j p) 2 (λ e. other (omega (
+          arith,
+          e,
+          two,
+          degree_below j k p (omega arith) (omega arith),
+          degree_less p,
+        ))))
+        (ap test zero_on ∙ eq-eqb (degree h (k + 1) p) 2 two) in
         ap (λ o. unwrap_or o (k + 1)) found ∙ zero_on
 
     -- ---- the order of joining

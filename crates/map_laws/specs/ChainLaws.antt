@@ -73,8 +73,8 @@ new_joints h k =
     (distinct_by point_before (flat_map (λ a. first_point a.points ∷ last_point a.points ∷ []) h.base.arcs))
 
 -- the chains that are left, joined at these nodes one after the other
-abbrev pub chains_after : MergedMap → ℕ → List Chain
-chains_after h k =
+abbrev pub joined_chains : MergedMap → ℕ → List Chain
+joined_chains h k =
     sort_by (λ c d. nat_lt (key c) (key d)) (map directed (fold (join_at h.base.arcs) (chains_left h k) (new_joints h k)))
 
 -- Where the faces stay the same along each chain, a step takes out the chains between its loser and its winner and joins the
@@ -82,4 +82,4 @@ chains_after h k =
 abbrev pub ChainsStep : Type 0
 ChainsStep =
     (h : MergedMap) (k : ℕ) → AreNumbered (length h.base.classes) h.steps → k < length h.steps
-    → All (λ a. has_base_faces h a ≡ true) h.base.arcs → HasEvenSides h k → chains_at h (k + 1) ≡ chains_after h k
+    → All (λ a. has_base_faces h a ≡ true) h.base.arcs → HasEvenSides h k → chains_at h (k + 1) ≡ joined_chains h k
