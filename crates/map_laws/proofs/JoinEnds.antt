@@ -9,11 +9,7 @@ use Rattle.tgap_model.specs.Merged.{MergedMap, is_border}
 use Rattle.tgap_model.specs.Chains.{first_point, last_point, arc_number, border_numbers, ends_at, degree, Link, Chain, link_start, link_end, chain_start, chain_end, touches}
 use Rattle.map_laws.proofs.Lists.{sum_passing}
 use Rattle.map_laws.proofs.ChainWalks.{IsRow}
-<<<<<<< HEAD
-use Rattle.tgap_model.proofs.Points.{same_point-true}
-=======
-use Rattle.map_laws.proofs.ChainEnds.{same_point-true, same_point-from}
->>>>>>> 10fd304e74561245d27df4badef03a2a32312990
+use Rattle.tgap_model.proofs.Points.{same_point-true, same_point-from}
 use Rattle.map_laws.proofs.JoinPaths.{Meets, IsPath}
 
 -- points that are not one fail the test
