@@ -3,3 +3,5 @@ pub mod Parts
 pub mod BaseFacts
 pub mod Segments
 pub mod Points
+pub mod Proper
+pub mod FirstFault
