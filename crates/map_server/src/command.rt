@@ -30,6 +30,7 @@ pub fn parse_command(words: &[String]) -> Option<Command<'_>>
     let [name, words @ ..] = words else {
         return None;
     };
+    let name = name.as_str();
     if name == "borders" {
         borders::parse(words)
     } else if name == "check" {
