@@ -60,11 +60,11 @@ pub rules_at_is : (lines : Lines) (x : Rules × Lines) → rules_at lines ≡ Ok
 unfolding rules_at is_rules
 rules_at_is lines x e =
     bound _ (read_line BadLine (read_count (codes "ratio") 0 MAX_RATIO) lines) x e (λ ratio e0 r0.
-    bound _ (count_line Classes MAX_CLASSES (codes "classes") 1 ratio.1) x r0 (λ c e1 r1.
+    bound _ (count_line Classes 1 ratio.1) x r0 (λ c e1 r1.
     bound _ (classes_at c.0 0 c.0 c.1) x r1 (λ weighed e2 r2.
     let row = read_line_is BadLine (read_count (codes "ratio") 0 MAX_RATIO) lines ratio e0 in
     let first = read_count_is (codes "ratio") 0 MAX_RATIO row.0 ratio.0 row.2 in
-    let count = count_line_is Classes MAX_CLASSES (codes "classes") 1 ratio.1 c e1 in
+    let count = count_line_is Classes 1 ratio.1 c e1 in
     let classes = classes_at_is c.0 0 c.0 c.1 weighed e2 in
     let rules : Rules = record { ratio = ratio.0; weights = weighed.0.0; compat = weighed.0.1 } in
     let made : (rules, weighed.1) ≡ x = cc in
@@ -94,8 +94,8 @@ pub record AreAllFaces (c : ℕ) (lines : Lines) (x : List ℕ × Lines) : Type 
 pub all_faces_at_is : (c : ℕ) (lines : Lines) (x : List ℕ × Lines) → all_faces_at c lines ≡ Ok x → AreAllFaces c lines x
 unfolding all_faces_at
 all_faces_at_is c lines x e =
-    bound _ (count_line Faces MAX_FACES (codes "faces") 0 lines) x e (λ n e0 r0.
-    let count = count_line_is Faces MAX_FACES (codes "faces") 0 lines n e0 in
+    bound _ (count_line Faces 0 lines) x e (λ n e0 r0.
+    let count = count_line_is Faces 0 lines n e0 in
     let faces = faces_at_is c 1 n.0 n.1 x r0 in
     let f0 = count.spelled in
     let f1 = faces.spelled in
@@ -113,8 +113,8 @@ pub record AreAllArcs (n : ℕ) (lines : Lines) (x : List BaseArc × Lines) : Ty
 all_arcs_at_is : (n : ℕ) (lines : Lines) (x : List BaseArc × Lines) → all_arcs_at n lines ≡ Ok x → AreAllArcs n lines x
 unfolding all_arcs_at
 all_arcs_at_is n lines x e =
-    bound _ (count_line Arcs MAX_ARCS (codes "arcs") 0 lines) x e (λ m e0 r0.
-    let count = count_line_is Arcs MAX_ARCS (codes "arcs") 0 lines m e0 in
+    bound _ (count_line Arcs 0 lines) x e (λ m e0 r0.
+    let count = count_line_is Arcs 0 lines m e0 in
     let arcs = arcs_at_is n 0 m.0 m.1 x (omega arith) r0 in
     let f0 = count.spelled in
     let f1 = arcs.spelled in
@@ -278,7 +278,7 @@ rules_again n m is =
     let ratio = read_count_again (codes "ratio") 0 MAX_RATIO m.rules.ratio (omega arith) is.rules.ratio (omega (arith, is.rules.ratio)) in
     rw (
       read_line_again {F = MapFault} BadLine (read_count (codes "ratio") 0 MAX_RATIO) n (count_words (codes "ratio") m.rules.ratio) (count_words (codes "classes") c ∷ of_classes) m.rules.ratio (λ e. cc) ratio,
-      count_line_again Classes MAX_CLASSES (codes "classes") 1 (next_number n) c of_classes some is.rules.some_class is.rules.few_classes (omega (arith, is.rules.few_classes)),
+      count_line_again Classes 1 (next_number n) c of_classes some is.rules.some_class is.rules.few_classes (omega (arith, is.rules.few_classes)),
       classes_at_again c 0 (next_number (next_number n)) m.rules.weights m.rules.compat (from_faces m) (λ e. cc) (omega (arith, is.rules.few_classes)) is.rules.table is.weights is.compat,
     ) refl
 
@@ -289,7 +289,7 @@ faces_again n m is =
     let of_faces : List Row = face_rows 1 m.classes ++ from_arcs m in
     let some : of_faces ≢ [] = some_rows (face_rows 1 m.classes) (from_arcs m) (λ e. cc) in
     rw (
-      count_line_again Faces MAX_FACES (codes "faces") 0 n (length m.classes) of_faces some (omega arith) is.facts.few_faces (omega (arith, is.facts.few_faces)),
+      count_line_again Faces 0 n (length m.classes) of_faces some (omega arith) is.facts.few_faces (omega (arith, is.facts.few_faces)),
       faces_at_again (length m.rules.weights) 1 (next_number n) m.classes (from_arcs m) (λ e. cc) (omega (arith, is.facts.few_faces)) (omega (arith, is.rules.few_classes)) is.classes,
     ) refl
 
@@ -300,7 +300,7 @@ arcs_again n m is =
     let of_arcs : List Row = map arc_words m.arcs ++ last_rows in
     let some : of_arcs ≢ [] = some_rows (map arc_words m.arcs) last_rows (λ e. cc) in
     rw (
-      count_line_again Arcs MAX_ARCS (codes "arcs") 0 n (length m.arcs) of_arcs some (omega arith) is.facts.few_arcs (omega (arith, is.facts.few_arcs)),
+      count_line_again Arcs 0 n (length m.arcs) of_arcs some (omega arith) is.facts.few_arcs (omega (arith, is.facts.few_arcs)),
       arcs_at_again (length m.classes) 0 (next_number n) m.arcs last_rows (λ e. cc) (omega (arith, is.facts.few_faces)) is.facts.arcs (omega (arith, is.facts.few_points)),
     ) refl
 

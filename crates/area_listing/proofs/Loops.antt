@@ -1,5 +1,5 @@
--- Reading one thing after another, as a loop does: what was read before, put in front of what is still read, is what is read in all.
-use Rattle.std.proofs.Common.{◌≡◌, ℕ, suc, ◌+◌, ◌-◌, ◌≤◌, ◌<◌, List, [], ◌∷◌, ◌++◌, length, Option, Some, None, Result, Ok, Err, refl, sym, ap, ◌∙◌, append_assoc, arith}
+-- Reading numbers, points, faces, arcs and classes one after another, as a loop does.
+use Rattle.std.proofs.Common.{◌≡◌, ℕ, suc, ◌+◌, ◌-◌, ◌≤◌, ◌<◌, List, [], ◌∷◌, ◌++◌, length, Option, Some, None, Result, Ok, Err, refl, sym, ap, ◌∙◌, append_assoc}
 use Rattle.std.specs.Prelude.{ℤ, codes}
 use Rattle.std.specs.Option.{ok_or}
 use Rattle.std.proofs.lemmas.List.{append-nil}
@@ -14,51 +14,10 @@ use Rattle.tgap_model.specs.Words.{Row, ◌>>=◌, natural_at, after_word, after
 use Rattle.tgap_model.specs.Lines.{Lines, line_at, read_line, ◌>>=◌ as ◌or>>=◌}
 use Rattle.tgap_model.specs.ListingLines.{coordinate_at, naturals_at, points_at, read_class, read_face}
 use Rattle.tgap_model.specs.Listing.{arc_at, classes_at, faces_at, arcs_at}
-use Rattle.plain_io.specs.Taking.{Takes, Skips, Refuses}
-use Rattle.area_listing.specs.Fronts.{with_front, in_front, point_at, class_onto}
-
--- ---- what was found, or the fault of a line
-
--- what a step took, behind the fault
-pub found : {A S : Type 0} (taken : Option A) (x : A) (rest : S) (read : Option (A × S)) (bad : Or MapFault) → Ok x ≡ ok_or taken bad → Takes taken rest read → read ≡ Some (x, rest)
-found (Some y) x rest read bad e h = let same : y ≡ x = cc in h ∙ ap (λ z. Some (z, rest)) same
-found None x rest read bad e h = absurd cc
-
--- a step that took nothing
-pub missing : {A S : Type 0} (taken : Option A) (f bad : Or MapFault) (rest : S) (read : Option (A × S)) → Err f ≡ ok_or taken bad → Takes taken rest read → (f ≡ bad) × (read ≡ None)
-missing (Some y) f bad rest read e h = absurd cc
-missing None f bad rest read e h = (cc, h)
-
--- the fault of a line where nothing was read
-pub refused_at : {X : Type 0} (f : Or MapFault) (n : ℕ) (read : Option X) → f ≡ Fault (BadLine n) → read ≡ None → Refuses f (ok_or read (BadLine n))
-refused_at f n read e none = rw (e, none) refl
-
--- where one is refused, so is what stands on it
-pub refused : {X Y : Type 0} (f : Or MapFault) (read : Result X MapFault) (total : Result Y MapFault) → ((e : MapFault) → read ≡ Err e → total ≡ Err e) → Refuses f read → Refuses f total
-refused Memory read total goes h = tt
-refused (Fault f) read total goes h = goes f h
-
--- ---- fronts
-
--- one value more in front, or first of what is still read
-regroup : {A S : Type 0} (front : List A) (v : A) (read : Option (List A × S)) → with_front front (read >>= λ x. Some (v ∷ x.0, x.1)) ≡ with_front (front ++ v ∷ []) read
-regroup front v (Some x) = ap (λ vs. Some (vs, x.1)) (sym (append_assoc front (v ∷ []) x.0))
-regroup front v None = refl
-
--- what is read first, and what is read after it
-abbrev then_rest : {A S F : Type 0} → A → Result (List A × S) F → Result (List A × S) F
-then_rest v (Ok x) = Ok (v ∷ x.0, x.1)
-then_rest v (Err f) = Err f
-
--- the same, as a definition has it
-shape : {A S F : Type 0} (v : A) (read : Result (List A × S) F) → (read or>>= λ x. Ok (v ∷ x.0, x.1)) ≡ then_rest v read
-shape v (Ok x) = refl
-shape v (Err f) = refl
-
--- the same of what may be a fault
-regroup_or : {A S F : Type 0} (front : List A) (v : A) (read : Result (List A × S) F) → in_front front (then_rest v read) ≡ in_front (front ++ v ∷ []) read
-regroup_or front v (Ok x) = ap (λ vs. Ok (vs, x.1)) (sym (append_assoc front (v ∷ []) x.0))
-regroup_or front v (Err f) = refl
+use Rattle.plain_io.specs.Taking.{Refuses}
+use Rattle.plain_io.specs.Fronts.{with_front, in_front}
+use Rattle.plain_io.proofs.Loops.{one_left, none_left, with_front_more, with_front_stop, with_front_done, in_front_more, in_front_stop, in_front_done}
+use Rattle.area_listing.specs.Reading.{point_at, class_onto}
 
 -- ---- numbers
 
@@ -67,22 +26,18 @@ pub numbers_go_on : (least most : ℕ) (front : List ℕ) (n i : ℕ) (words : R
     → with_front (front ++ v ∷ []) (naturals_at least most (n - (i + 1)) rest) ≡ with_front front (naturals_at least most (n - i) words)
 unfolding naturals_at
 numbers_go_on least most front n i words v rest lt e =
-    let more : n - i ≡ suc (n - (i + 1)) = omega arith in
-    sym (rw (more, e) (regroup front v (naturals_at least most (n - (i + 1)) rest)))
+    with_front_more front v (naturals_at least most (n - (i + 1)) rest) (naturals_at least most (n - i) words) (rw (one_left n i lt, e) refl)
 
 -- no number where there was to be one
-pub numbers_stop : (least most : ℕ) (front : List ℕ) (n i : ℕ) (words : Row) → i < n → natural_at least most words ≡ None → with_front front (naturals_at least most (n - i) words) ≡ None
+pub numbers_stop : (least most : ℕ) (front : List ℕ) (n i : ℕ) (words : Row) → i < n → natural_at least most words ≡ None
+    → with_front front (naturals_at least most (n - i) words) ≡ None
 unfolding naturals_at
-numbers_stop least most front n i words lt e =
-    let more : n - i ≡ suc (n - (i + 1)) = omega arith in
-    rw (more, e) refl
+numbers_stop least most front n i words lt e = with_front_stop front (naturals_at least most (n - i) words) (rw (one_left n i lt, e) refl)
 
 -- all numbers
 pub numbers_done : (least most : ℕ) (front : List ℕ) (n i : ℕ) (words : Row) → n ≤ i → with_front front (naturals_at least most (n - i) words) ≡ Some (front, words)
 unfolding naturals_at
-numbers_done least most front n i words le =
-    let none : n - i ≡ 0 = omega arith in
-    rw none (ap (λ vs. Some (vs, words)) (append-nil front))
+numbers_done least most front n i words le = with_front_done front words (naturals_at least most (n - i) words) (rw (none_left n i le) refl)
 
 -- ---- points
 
@@ -114,78 +69,57 @@ one_point_more n words = first_x (coordinate_at words) coordinate_at (points_at 
 pub points_go_on : (front : List Point) (n i : ℕ) (words : Row) (p : Point) (rest : Row) → i < n → point_at words ≡ Some (p, rest)
     → with_front (front ++ p ∷ []) (points_at (n - (i + 1)) rest) ≡ with_front front (points_at (n - i) words)
 points_go_on front n i words p rest lt e =
-    let more : n - i ≡ suc (n - (i + 1)) = omega arith in
-    sym (rw (more, one_point_more (n - (i + 1)) words, e) (regroup front p (points_at (n - (i + 1)) rest)))
+    with_front_more front p (points_at (n - (i + 1)) rest) (points_at (n - i) words) (rw (one_left n i lt, one_point_more (n - (i + 1)) words, e) refl)
 
 -- no point where there was to be one
 pub points_stop : (front : List Point) (n i : ℕ) (words : Row) → i < n → point_at words ≡ None → with_front front (points_at (n - i) words) ≡ None
 points_stop front n i words lt e =
-    let more : n - i ≡ suc (n - (i + 1)) = omega arith in
-    rw (more, one_point_more (n - (i + 1)) words, e) refl
+    with_front_stop front (points_at (n - i) words) (rw (one_left n i lt, one_point_more (n - (i + 1)) words, e) refl)
 
 -- all points
 pub points_done : (front : List Point) (n i : ℕ) (words : Row) → n ≤ i → with_front front (points_at (n - i) words) ≡ Some (front, words)
 unfolding points_at
-points_done front n i words le =
-    let none : n - i ≡ 0 = omega arith in
-    rw none (ap (λ vs. Some (vs, words)) (append-nil front))
+points_done front n i words le = with_front_done front words (points_at (n - i) words) (rw (none_left n i le) refl)
 
 -- ---- faces
-
--- one face more is a face, and those after it
-one_face_more : (c f n : ℕ) (lines rest : Lines) (k : ℕ) → read_line BadLine (read_face c f) lines ≡ Ok (k, rest) → faces_at c f (suc n) lines ≡ then_rest k (faces_at c (f + 1) n rest)
-unfolding faces_at
-one_face_more c f n lines rest k e = rw e (shape k (faces_at c (f + 1) n rest))
 
 -- a face more
 pub faces_go_on : (c : ℕ) (front : List ℕ) (n i : ℕ) (lines : Lines) (k : ℕ) (rest : Lines) → i < n → read_line BadLine (read_face c (i + 1)) lines ≡ Ok (k, rest)
     → in_front (front ++ k ∷ []) (faces_at c (i + 1 + 1) (n - (i + 1)) rest) ≡ in_front front (faces_at c (i + 1) (n - i) lines)
+unfolding faces_at
 faces_go_on c front n i lines k rest lt e =
-    let more : n - i ≡ suc (n - (i + 1)) = omega arith in
-    sym (rw (more, one_face_more c (i + 1) (n - (i + 1)) lines rest k e) (regroup_or front k (faces_at c (i + 1 + 1) (n - (i + 1)) rest)))
+    in_front_more front k (faces_at c (i + 1 + 1) (n - (i + 1)) rest) (faces_at c (i + 1) (n - i) lines) (rw (one_left n i lt, e) refl)
 
 -- no face where there was to be one
-pub faces_stop : (c : ℕ) (front : List ℕ) (n i : ℕ) (lines : Lines) (f : MapFault) → i < n → read_line BadLine (read_face c (i + 1)) lines ≡ Err f → in_front front (faces_at c (i + 1) (n - i) lines) ≡ Err f
+pub faces_stop : (c : ℕ) (front : List ℕ) (n i : ℕ) (lines : Lines) (f : MapFault) → i < n → read_line BadLine (read_face c (i + 1)) lines ≡ Err f
+    → in_front front (faces_at c (i + 1) (n - i) lines) ≡ Err f
 unfolding faces_at
-faces_stop c front n i lines f lt e =
-    let more : n - i ≡ suc (n - (i + 1)) = omega arith in
-    rw (more, e) refl
+faces_stop c front n i lines f lt e = in_front_stop front f (faces_at c (i + 1) (n - i) lines) (rw (one_left n i lt, e) refl)
 
 -- all faces
 pub faces_done : (c : ℕ) (front : List ℕ) (n i : ℕ) (lines : Lines) → n ≤ i → in_front front (faces_at c (i + 1) (n - i) lines) ≡ Ok (front, lines)
 unfolding faces_at
-faces_done c front n i lines le =
-    let none : n - i ≡ 0 = omega arith in
-    rw none (ap (λ ks. Ok (ks, lines)) (append-nil front))
+faces_done c front n i lines le = in_front_done front lines (faces_at c (i + 1) (n - i) lines) (rw (none_left n i le) refl)
 
 -- ---- arcs
-
--- one arc more is an arc, and those after it
-one_arc_more : (faces before m : ℕ) (lines rest : Lines) (a : BaseArc) → arc_at faces before lines ≡ Ok (a, rest)
-    → arcs_at faces before (suc m) lines ≡ then_rest a (arcs_at faces (before + length a.points) m rest)
-unfolding arcs_at
-one_arc_more faces before m lines rest a e = rw e (shape a (arcs_at faces (before + length a.points) m rest))
 
 -- an arc more
 pub arcs_go_on : (faces before : ℕ) (front : List BaseArc) (n i : ℕ) (lines : Lines) (a : BaseArc) (rest : Lines) → i < n → arc_at faces before lines ≡ Ok (a, rest)
     → in_front (front ++ a ∷ []) (arcs_at faces (before + length a.points) (n - (i + 1)) rest) ≡ in_front front (arcs_at faces before (n - i) lines)
+unfolding arcs_at
 arcs_go_on faces before front n i lines a rest lt e =
-    let more : n - i ≡ suc (n - (i + 1)) = omega arith in
-    sym (rw (more, one_arc_more faces before (n - (i + 1)) lines rest a e) (regroup_or front a (arcs_at faces (before + length a.points) (n - (i + 1)) rest)))
+    in_front_more front a (arcs_at faces (before + length a.points) (n - (i + 1)) rest) (arcs_at faces before (n - i) lines) (rw (one_left n i lt, e) refl)
 
 -- no arc where there was to be one
-pub arcs_stop : (faces before : ℕ) (front : List BaseArc) (n i : ℕ) (lines : Lines) (f : MapFault) → i < n → arc_at faces before lines ≡ Err f → in_front front (arcs_at faces before (n - i) lines) ≡ Err f
+pub arcs_stop : (faces before : ℕ) (front : List BaseArc) (n i : ℕ) (lines : Lines) (f : MapFault) → i < n → arc_at faces before lines ≡ Err f
+    → in_front front (arcs_at faces before (n - i) lines) ≡ Err f
 unfolding arcs_at
-arcs_stop faces before front n i lines f lt e =
-    let more : n - i ≡ suc (n - (i + 1)) = omega arith in
-    rw (more, e) refl
+arcs_stop faces before front n i lines f lt e = in_front_stop front f (arcs_at faces before (n - i) lines) (rw (one_left n i lt, e) refl)
 
 -- all arcs
 pub arcs_done : (faces before : ℕ) (front : List BaseArc) (n i : ℕ) (lines : Lines) → n ≤ i → in_front front (arcs_at faces before (n - i) lines) ≡ Ok (front, lines)
 unfolding arcs_at
-arcs_done faces before front n i lines le =
-    let none : n - i ≡ 0 = omega arith in
-    rw none (ap (λ arcs. Ok (arcs, lines)) (append-nil front))
+arcs_done faces before front n i lines le = in_front_done front lines (arcs_at faces before (n - i) lines) (rw (none_left n i le) refl)
 
 -- ---- classes
 
@@ -234,11 +168,6 @@ row_stops compat read w line rest Memory h = tt
 row_stops compat (Some vs) w line rest (Fault f) h = absurd cc
 row_stops compat None w line rest (Fault f) h = let same : BadLine line ≡ f = cc in ap Err same
 
--- a step that only leaves, behind the fault
-pub passed : {A S : Type 0} (taken : Option A) (x : A) (rest : S) (read : Option S) (bad : Or MapFault) → Ok x ≡ ok_or taken bad → Skips taken rest read → read ≡ Some rest
-passed (Some y) x rest read bad e h = h
-passed None x rest read bad e h = absurd cc
-
 -- the class whose weight was read, and whose row is still to be read
 pub read_class_from : (c i : ℕ) (lines rest : Lines) (line : ℕ) (row start named after : Row) (w : ℕ) → line ≡ lines.number → line_at lines ≡ Some (row, rest) → after_word (codes "class") row ≡ Some start
     → after_count i start ≡ Some named → natural_at 1 MAX_WEIGHT named ≡ Some (w, after)
@@ -256,7 +185,7 @@ one_class_more c i n lines rest w row e = rw e (class_shape w row (classes_at c 
 pub classes_go_on : (weights compat : List ℕ) (n i : ℕ) (lines : Lines) (w : ℕ) (all : List ℕ) (rest : Lines) → i < n → class_onto compat (read_line BadLine (read_class n i) lines) ≡ Ok ((all, w), rest)
     → with_fronts (weights ++ w ∷ []) all (classes_at n (i + 1) (n - (i + 1)) rest) ≡ with_fronts weights compat (classes_at n i (n - i) lines)
 classes_go_on weights compat n i lines w all rest lt e =
-    let more : n - i ≡ suc (n - (i + 1)) = omega arith in
+    let more = one_left n i lt in
     let first = class_before compat (read_line BadLine (read_class n i) lines) all w rest e in
     sym (ap (λ k. with_fronts weights compat (classes_at n i k lines)) more
     ∙ ap (with_fronts weights compat) (one_class_more n i (n - (i + 1)) lines rest w first.0 first.1)
@@ -267,13 +196,10 @@ classes_go_on weights compat n i lines w all rest lt e =
 pub classes_stop : (weights compat : List ℕ) (n i : ℕ) (lines : Lines) (f : MapFault) → i < n → class_onto compat (read_line BadLine (read_class n i) lines) ≡ Err f → with_fronts weights compat (classes_at n i (n - i) lines) ≡ Err f
 unfolding classes_at
 classes_stop weights compat n i lines f lt e =
-    let more : n - i ≡ suc (n - (i + 1)) = omega arith in
     let first = no_class_before compat (read_line BadLine (read_class n i) lines) f e in
-    rw (more, first) refl
+    rw (one_left n i lt, first) refl
 
 -- all classes
 pub classes_done : (weights compat : List ℕ) (n i : ℕ) (lines : Lines) → n ≤ i → with_fronts weights compat (classes_at n i (n - i) lines) ≡ Ok ((weights, compat), lines)
 unfolding classes_at
-classes_done weights compat n i lines le =
-    let none : n - i ≡ 0 = omega arith in
-    rw none (rw (append-nil weights, append-nil compat) refl)
+classes_done weights compat n i lines le = rw (none_left n i le, append-nil weights, append-nil compat) refl

@@ -11,6 +11,7 @@ use Rattle.tgap_model.specs.declared.fault.LimitKind.TheVariants.{Points}
 use Rattle.tgap_model.specs.declared.fault.MapFault.{MapFault}
 use Rattle.tgap_model.specs.declared.fault.MapFault.TheVariants.{BadLine, Limit}
 use Rattle.tgap_model.specs.declared.limits.TheConstants.{MAX_WEIGHT, MAX_COMPATIBILITY, MAX_POINTS}
+use Rattle.tgap_model.specs.Limits.{limit_of, limit_word}
 use Rattle.tgap_model.specs.Base.{is_arc, count_points}
 use Rattle.tgap_model.specs.Words.{Row}
 use Rattle.tgap_model.specs.Lines.{Lines, next_number, line_at, read_line}
@@ -28,35 +29,37 @@ cond_ok : {A F : Type 0} (b : Bool) (x y : A) (f : F) → cond b (Ok x) (Err f) 
 cond_ok true x y f e = refl
 cond_ok false x y f e = absurd cc
 
-pub within_limit_is : (which : LimitKind) (most n : ℕ) (x : Unit {0}) → within_limit which most n ≡ Ok x → n ≤ most
-within_limit_is which most n x e = leb-true n most (cond_ok (nat_le n most) tt x (Limit which n) e)
+pub within_limit_is : (which : LimitKind) (n : ℕ) (x : Unit {0}) → within_limit which n ≡ Ok x → n ≤ limit_of which
+within_limit_is which n x e = leb-true n (limit_of which) (cond_ok (nat_le n (limit_of which)) tt x (Limit which n) e)
 
-pub within_limit_again : (which : LimitKind) (most n : ℕ) → n ≤ most → within_limit which most n ≡ Ok tt
-within_limit_again which most n le = rw (le-leb n most le) refl
+pub within_limit_again : (which : LimitKind) (n : ℕ) → n ≤ limit_of which → within_limit which n ≡ Ok tt
+within_limit_again which n le = rw (le-leb n (limit_of which) le) refl
 
 -- a line of a count is spelled so, and within its limit
-pub record IsCountLine (most : ℕ) (keyword : List ℕ) (least : ℕ) (lines : Lines) (x : ℕ × Lines) : Type 0 where
-  pub spelled : lines.rows ≡ count_words keyword x.0 ∷ x.1.rows
+pub record IsCountLine (which : LimitKind) (least : ℕ) (lines : Lines) (x : ℕ × Lines) : Type 0 where
+  pub spelled : lines.rows ≡ count_words (limit_word which) x.0 ∷ x.1.rows
   pub low : least ≤ x.0
-  pub high : x.0 ≤ most
+  pub high : x.0 ≤ limit_of which
 
-pub count_line_is : (which : LimitKind) (most : ℕ) (keyword : List ℕ) (least : ℕ) (lines : Lines) (x : ℕ × Lines) → count_line which most keyword least lines ≡ Ok x → IsCountLine most keyword least lines x
+pub count_line_is : (which : LimitKind) (least : ℕ) (lines : Lines) (x : ℕ × Lines) → count_line which least lines ≡ Ok x → IsCountLine which least lines x
 unfolding count_line
-count_line_is which most keyword least lines x e =
+count_line_is which least lines x e =
+    let keyword = limit_word which in
     bound _ (read_line BadLine (read_count keyword least (2 ^ 32 - 1)) lines) x e (λ n e0 r0.
-    bound _ (within_limit which most n.0) x r0 (λ u e1 r1.
+    bound _ (within_limit which n.0) x r0 (λ u e1 r1.
     let row = read_line_is BadLine (read_count keyword least (2 ^ 32 - 1)) lines n e0 in
     let count = read_count_is keyword least (2 ^ 32 - 1) row.0 n.0 row.2 in
     let made : n ≡ x = cc in
-    subst (λ (y : ℕ × Lines). IsCountLine most keyword least lines y) made
-    (record { spelled = row.1 ∙ ap (λ (r : Row). r ∷ n.1.rows) count.0; low = count.1; high = within_limit_is which most n.0 u e1 })))
+    subst (λ (y : ℕ × Lines). IsCountLine which least lines y) made
+    (record { spelled = row.1 ∙ ap (λ (r : Row). r ∷ n.1.rows) count.0; low = count.1; high = within_limit_is which n.0 u e1 })))
 
-pub count_line_again : (which : LimitKind) (most : ℕ) (keyword : List ℕ) (least n k : ℕ) (rest : List Row) → rest ≢ [] → least ≤ k → k ≤ most → k < 2 ^ 32
-    → count_line which most keyword least (lines_from n (count_words keyword k ∷ rest)) ≡ Ok (k, lines_from (next_number n) rest)
+pub count_line_again : (which : LimitKind) (least n k : ℕ) (rest : List Row) → rest ≢ [] → least ≤ k → k ≤ limit_of which → k < 2 ^ 32
+    → count_line which least (lines_from n (count_words (limit_word which) k ∷ rest)) ≡ Ok (k, lines_from (next_number n) rest)
 unfolding count_line
-count_line_again which most keyword least n k rest some low high small =
+count_line_again which least n k rest some low high small =
+    let keyword = limit_word which in
     let word = read_count_again keyword least (2 ^ 32 - 1) k low (omega arith) small in
-    rw (read_line_again {F = MapFault} BadLine (read_count keyword least (2 ^ 32 - 1)) n (count_words keyword k) rest k some word, within_limit_again which most k high) refl
+    rw (read_line_again {F = MapFault} BadLine (read_count keyword least (2 ^ 32 - 1)) n (count_words keyword k) rest k some word, within_limit_again which k high) refl
 
 -- ---- classes
 
@@ -181,7 +184,7 @@ unfolding arc_at is_arc
 arc_at_is n before lines x e =
     bound _ (ok_or (line_at lines) (BadLine lines.number)) x e (λ line e0 r0.
     bound _ (ok_or (head_at n line.0) (BadLine lines.number)) x r0 (λ head e1 r1.
-    bound _ (within_limit Points MAX_POINTS (before + head.0.2)) x r1 (λ u e2 r2.
+    bound _ (within_limit Points (before + head.0.2)) x r1 (λ u e2 r2.
     bound _ (ok_or (read_points head.0.2 head.1) (BadLine lines.number)) x r2 (λ points e3 r3.
     let f0 = line_at_is lines line (ok_or_is (line_at lines) (BadLine lines.number) line e0) in
     let one = head_at_is n line.0 head (ok_or_is (head_at n line.0) (BadLine lines.number) head e1) in
@@ -195,7 +198,7 @@ arc_at_is n before lines x e =
     let two : 2 ≤ length points = omega (arith, one.two, all.count) in
     let differ : not (eqb head.0.0 head.0.1) ≡ true = ap not one.differ in
     let fits : is_arc n a ≡ true = rw (le-leb head.0.0 n one.left, le-leb head.0.1 n one.right, one.differ, le-leb 2 (length points) two, all.inside, all.apart) refl in
-    let room = within_limit_is Points MAX_POINTS (before + head.0.2) u e2 in
+    let room = within_limit_is Points (before + head.0.2) u e2 in
     subst (λ (y : BaseArc × Lines). IsArcLine n before lines y) made
     (record { spelled = spelled; arc = fits; few = omega (arith, room, all.count) })))))
 
@@ -208,7 +211,7 @@ arc_at_again n before k a rest some few fits room =
     rw (
       line_at_again k (arc_words a) rest some,
       head_at_again n a.left a.right (length a.points) (flat_map point_words a.points) facts.left facts.right few facts.differ facts.two_points (omega arith),
-      within_limit_again Points MAX_POINTS (before + length a.points) room,
+      within_limit_again Points (before + length a.points) room,
       read_points_again a.points facts.in_limits facts.apart,
     ) refl
 

@@ -7,7 +7,9 @@ use Rattle.tgap_model.specs.Listing.{count_words, class_rows, face_rows, arc_wor
 
 -- the ratio and the classes
 abbrev pub rules_rows : Rules → List Row
-rules_rows r = count_words (codes "ratio") r.ratio ∷ count_words (codes "classes") (length r.weights) ∷ class_rows (length r.weights) 0 r.weights r.compat
+rules_rows r =
+    count_words (codes "ratio") r.ratio ∷ count_words (codes "classes") (length r.weights)
+    ∷ class_rows (length r.weights) 0 r.weights r.compat
 
 -- the number of the faces, and each face
 abbrev pub all_face_rows : List ℕ → List Row

@@ -1,5 +1,6 @@
-//! The plain listing of a base map. It stands on `tgap_model`, whose `Listing` says how a base map is spelled and what the
-//! first fault of other bytes is, and on `plain_io`, which cuts a text into lines and words, and reads and writes numbers.
+//! The plain listing of a base map. It stands on `tgap_model`, whose `Listing` says how a base map is spelled and what
+//! the first fault of other bytes is, and on `plain_io`, which cuts a text into lines and words, and reads and writes
+//! numbers.
 #![tactic(auto)]
 
 ghost use Rattle.std.specs.Prelude.{◌≡◌, IfOk, Ok, Err};
@@ -7,17 +8,16 @@ ghost use Rattle.tgap_model.specs.Base.{BaseMap};
 ghost use Rattle.tgap_model.specs.declared.fault.MapFault.{MapFault as Fault};
 ghost use Rattle.tgap_model.specs.Listing.{IsListing, listing, map_at};
 ghost use Rattle.plain_io.specs.Taking.{GivesWhole};
-ghost use Rattle.area_listing.specs.Fronts.{GivesParts};
+ghost use Rattle.area_listing.specs.Reading.{GivesParts};
 
-mod fault;
+mod limit;
 mod line;
 mod row;
 mod section;
 mod write;
 
-use fault::at_line;
 use line::{read_end, read_heading, read_transform};
-use plain_io::Lines;
+use plain_io::{Lines, at_line};
 use section::{read_arcs, read_faces, read_rules};
 use std::alloc::Global;
 use tgap_model::{Base, BaseArc, List, MapFault, Or, Rules, Transform};
@@ -47,18 +47,27 @@ fn read_checked(alloc: Global, bytes: &[u8]) -> Result<Base, Or<MapFault>>
     ensures { GivesWhole result (listing bytes.now) }
 {
     let mut lines = Lines::of(bytes);
-    let (transform, rules, classes, arcs) = read_map(alloc, &mut lines)?;
-    let base = at_line(lines.number(), Base::new(transform, rules, classes, arcs))?;
+    let parts = read_map(alloc, &mut lines)?;
+    let base = at_line(
+        lines.number(),
+        Base::new(parts.transform, parts.rules, parts.classes, parts.arcs),
+    )?;
     read_end(&mut lines)?;
     Ok(base)
 }
 
+/// The parts of a base map, before it is known whether each face has a border.
+#[derive(Drop)]
+struct MapParts {
+    transform: Transform,
+    rules: Rules,
+    classes: List<u32>,
+    arcs: List<BaseArc>,
+}
+
 /// The parts of the map that is listed, up to the last line.
 #[tactic(auto, unfolding(tgap_model::specs::Listing::map_at))]
-fn read_map(
-    alloc: Global,
-    lines: &mut Lines,
-) -> Result<(Transform, Rules, List<u32>, List<BaseArc>), Or<MapFault>>
+fn read_map(alloc: Global, lines: &mut Lines) -> Result<MapParts, Or<MapFault>>
     ensures { GivesParts result lines.new (map_at lines.old) }
 {
     at_line(lines.number(), read_heading(lines))?;
@@ -66,5 +75,10 @@ fn read_map(
     let rules = read_rules(alloc, lines)?;
     let classes = read_faces(alloc, lines, rules.weights.len() as u32)?;
     let arcs = read_arcs(alloc, lines, classes.len() as u32)?;
-    Ok((transform, rules, classes, arcs))
+    Ok(MapParts {
+        transform,
+        rules,
+        classes,
+        arcs,
+    })
 }

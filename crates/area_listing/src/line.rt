@@ -1,35 +1,36 @@
 //! The lines of a listing, each read whole.
 
-ghost use Rattle.std.specs.Prelude.{◌≡◌, ◌≤◌, ◌∷◌, [], codes};
+ghost use Rattle.std.specs.Prelude.{◌≡◌, ◌≤◌, ◌∷◌, [], codes, IfOk};
 ghost use Rattle.std.specs.Option.{ok_or};
 ghost use Rattle.tgap_model.specs.declared.fault.MapFault.TheVariants.{BadLine};
+ghost use Rattle.tgap_model.specs.Limits.{limit_of};
 ghost use Rattle.tgap_model.specs.Words.{read_words};
 ghost use Rattle.tgap_model.specs.Lines.{read_row, read_line};
 ghost use Rattle.tgap_model.specs.ListingLines.{read_transform, read_count, read_class, read_face};
 ghost use Rattle.tgap_model.specs.Listing.{count_line, arc_at, end_at};
-ghost use Rattle.plain_io.specs.Taking.{Takes, Gives, GivesWith, GivesWhole};
-ghost use Rattle.area_listing.specs.Fronts.{class_onto};
+ghost use Rattle.plain_io.specs.Taking.{Reads, Gives, GivesWith, GivesWhole};
+ghost use Rattle.area_listing.specs.Reading.{class_onto};
 
-use crate::fault::{at_line, within_limit};
+use crate::limit::within_limit;
 use crate::row::{head_at, push_compatibilities, read_points, word_at};
-use plain_io::{Lines, after_count, after_word, ended, natural_at};
+use plain_io::{Lines, after_count, after_word, at_line, ended, natural_at};
 use std::alloc::Global;
 use tgap_model::{BaseArc, LimitKind, List, MAX_POINTS, MAX_WEIGHT, MapFault, Or, Transform};
 
 /// The first line: the name of the format, and its version.
 pub fn read_heading(lines: &mut Lines) -> Option<()>
-    ensures { Takes result lines.new (read_row (read_words (codes "tgap" ∷ codes "1" ∷ [])) lines.old) }
+    ensures { Reads result lines.new (read_row (read_words (codes "tgap" ∷ codes "1" ∷ [])) lines.old) }
 {
     let mut words = lines.next_line()?;
     after_word(&mut words, b"tgap")?;
     after_word(&mut words, b"1")?;
-    ended(&mut words, ())
+    ended(&words, ())
 }
 
 /// The transform of the map.
 #[tactic(auto, unfolding(tgap_model::specs::ListingLines::read_transform))]
 pub fn read_transform(lines: &mut Lines) -> Option<Transform>
-    ensures { Takes result lines.new (read_row read_transform lines.old) }
+    ensures { Reads result lines.new (read_row read_transform lines.old) }
 {
     let mut words = lines.next_line()?;
     after_word(&mut words, b"transform")?;
@@ -37,33 +38,29 @@ pub fn read_transform(lines: &mut Lines) -> Option<Transform>
     let sy = word_at(&mut words)?;
     let tx = word_at(&mut words)?;
     let ty = word_at(&mut words)?;
-    ended(&mut words, Transform { sx, sy, tx, ty })
+    ended(&words, Transform { sx, sy, tx, ty })
 }
 
 /// A line of this keyword and a number from `least` to `most`.
 #[tactic(auto, unfolding(tgap_model::specs::ListingLines::read_count))]
 pub fn read_count(lines: &mut Lines, keyword: &[u8], least: u32, most: u32) -> Option<u32>
-    ensures { Takes result lines.new (read_row (read_count keyword.now least most) lines.old) }
+    ensures { Reads result lines.new (read_row (read_count keyword.now least most) lines.old) }
 {
     let mut words = lines.next_line()?;
     after_word(&mut words, keyword)?;
     let count = natural_at(&mut words, least, most)?;
-    ended(&mut words, count)
+    ended(&words, count)
 }
 
-/// A line of this keyword and a count from `least` on, of which there may be so many.
+/// A line of the name of what is counted, and the count, from `least` on and within its limit.
 #[tactic(auto, unfolding(tgap_model::specs::Listing::count_line))]
-pub fn count_line(
-    lines: &mut Lines,
-    which: LimitKind,
-    limit: usize,
-    keyword: &[u8],
-    least: u32,
-) -> Result<u32, Or<MapFault>>
-    ensures { Gives result lines.new (count_line which limit keyword.now least lines.old) }
+pub fn count_line(lines: &mut Lines, which: LimitKind, least: u32) -> Result<u32, Or<MapFault>>
+    ensures read { Gives result lines.new (count_line which least lines.old) }
+    ensures few { IfOk result (λ count. count ≤ limit_of which) }
 {
+    let keyword = which.word().as_bytes();
     let count = at_line(lines.number(), read_count(lines, keyword, least, u32::MAX))?;
-    within_limit(which, limit, u64::from(count))?;
+    within_limit(which, u64::from(count))?;
     Ok(count)
 }
 
@@ -75,7 +72,8 @@ pub fn read_class(
     class: u32,
     compat: &mut List<u32>,
 ) -> Result<u32, Or<MapFault>>
-    ensures { GivesWith result compat.new lines.new (class_onto compat.old (read_line BadLine (read_class classes class) lines.old)) }
+    ensures { GivesWith result compat.new lines.new
+        (class_onto compat.old (read_line BadLine (read_class classes class) lines.old)) }
 {
     let line = lines.number();
     let mut words = at_line(line, lines.next_line())?;
@@ -83,19 +81,19 @@ pub fn read_class(
     at_line(line, after_count(&mut words, class))?;
     let weight = at_line(line, natural_at(&mut words, 1, MAX_WEIGHT))?;
     push_compatibilities(&mut words, line, classes, compat)?;
-    at_line(line, ended(&mut words, weight))
+    at_line(line, ended(&words, weight))
 }
 
 /// The class of this face, where there are so many classes.
 #[tactic(auto, unfolding(tgap_model::specs::ListingLines::read_face))]
 pub fn read_face(lines: &mut Lines, classes: u32, face: u32) -> Option<u32>
-    ensures { Takes result lines.new (read_row (read_face classes face) lines.old) }
+    ensures { Reads result lines.new (read_row (read_face classes face) lines.old) }
 {
     let mut words = lines.next_line()?;
     after_word(&mut words, b"face")?;
     after_count(&mut words, face)?;
     let class = natural_at(&mut words, 0, classes.saturating_sub(1))?;
-    ended(&mut words, class)
+    ended(&words, class)
 }
 
 /// An arc of a map with so many faces, after arcs with so many points.
@@ -111,16 +109,12 @@ pub fn read_arc(
 {
     let line = lines.number();
     let mut words = at_line(line, lines.next_line())?;
-    let (left, right, count) = at_line(line, head_at(&mut words, faces))?;
-    within_limit(
-        LimitKind::Points,
-        MAX_POINTS,
-        before as u64 + u64::from(count),
-    )?;
-    let points = read_points(alloc, &mut words, line, count)?;
+    let head = at_line(line, head_at(&mut words, faces))?;
+    within_limit(LimitKind::Points, before as u64 + u64::from(head.count))?;
+    let points = read_points(alloc, &mut words, line, head.count)?;
     Ok(BaseArc {
-        left,
-        right,
+        left: head.left,
+        right: head.right,
         points,
     })
 }
@@ -136,9 +130,9 @@ pub fn read_end(lines: &mut Lines) -> Result<(), Or<MapFault>>
 
 /// The last line.
 fn read_last(lines: &mut Lines) -> Option<()>
-    ensures { Takes result lines.new (read_row (read_words (codes "end" ∷ [])) lines.old) }
+    ensures { Reads result lines.new (read_row (read_words (codes "end" ∷ [])) lines.old) }
 {
     let mut words = lines.next_line()?;
     after_word(&mut words, b"end")?;
-    ended(&mut words, ())
+    ended(&words, ())
 }

@@ -4,11 +4,11 @@ ghost use Rattle.std.specs.Prelude.{◌≡◌};
 ghost use Rattle.std.specs.Option.{ok_or};
 ghost use Rattle.tgap_model.specs.ListingLines.{word_at, coordinate_at, naturals_at, points_at, head_at, read_points};
 ghost use Rattle.tgap_model.specs.declared.fault.MapFault.TheVariants.{BadLine};
-ghost use Rattle.plain_io.specs.Taking.{Takes, Gives, GivesOnto, GivesWhole};
-ghost use Rattle.area_listing.specs.Fronts.{point_at, with_front};
+ghost use Rattle.plain_io.specs.Taking.{Takes, Reads, Gives, GivesOnto, GivesWhole};
+ghost use Rattle.plain_io.specs.Fronts.{with_front};
+ghost use Rattle.area_listing.specs.Reading.{point_at, ReadsHead};
 
-use crate::fault::at_line;
-use plain_io::{Pieces, after_word, ended, natural_at, number_at};
+use plain_io::{Pieces, after_word, at_line, ended, natural_at, number_at};
 use std::alloc::Global;
 use tgap_model::{
     List, MAX_COMPATIBILITY, MAX_COORDINATE, MapFault, Or, Point, are_without_repeat,
@@ -16,7 +16,7 @@ use tgap_model::{
 
 /// The next word, a number of 32 bits with a sign.
 pub fn word_at(words: &mut Pieces) -> Option<i32>
-    ensures { Takes result words.new (word_at words.old) }
+    ensures { Takes result words.old words.new (word_at words.old) }
 {
     let number = number_at(words, i32::MIN as i64, i32::MAX as i64)?;
     Some(number as i32)
@@ -24,25 +24,32 @@ pub fn word_at(words: &mut Pieces) -> Option<i32>
 
 /// The next word, a coordinate within the limits.
 fn coordinate_at(words: &mut Pieces) -> Option<i64>
-    ensures { Takes result words.new (coordinate_at words.old) }
+    ensures { Takes result words.old words.new (coordinate_at words.old) }
 {
     number_at(words, -MAX_COORDINATE, MAX_COORDINATE)
 }
 
 /// The next two words, the coordinates of a point.
 fn point_at(words: &mut Pieces) -> Option<Point>
-    ensures { Takes result words.new (point_at words.old) }
+    ensures { Reads result words.new (point_at words.old) }
 {
     let x = coordinate_at(words)?;
     let y = coordinate_at(words)?;
     Some(Point { x, y })
 }
 
-/// What stands before the points of an arc of a map with so many faces: its left and right face, which differ, and how
-/// many points it has.
+/// What stands before the points of an arc: its left and right face, which differ, and how many points it has.
+#[derive(Clone, Copy)]
+pub struct ArcHead {
+    pub left: u32,
+    pub right: u32,
+    pub count: u32,
+}
+
+/// The head of an arc of a map with so many faces.
 #[tactic(auto, unfolding(tgap_model::specs::ListingLines::head_at))]
-pub fn head_at(words: &mut Pieces, faces: u32) -> Option<(u32, u32, u32)>
-    ensures { Takes result words.new (head_at faces words.old) }
+pub fn head_at(words: &mut Pieces, faces: u32) -> Option<ArcHead>
+    ensures { ReadsHead result words.new (head_at faces words.old) }
 {
     after_word(words, b"arc")?;
     let left = natural_at(words, 0, faces)?;
@@ -51,7 +58,7 @@ pub fn head_at(words: &mut Pieces, faces: u32) -> Option<(u32, u32, u32)>
     if left == right {
         None
     } else {
-        Some((left, right, count))
+        Some(ArcHead { left, right, count })
     }
 }
 
@@ -62,7 +69,8 @@ pub fn push_compatibilities(
     n: u32,
     compat: &mut List<u32>,
 ) -> Result<(), Or<MapFault>>
-    ensures { GivesOnto result compat.new words.new (ok_or (with_front compat.old (naturals_at 0 MAX_COMPATIBILITY n words.old)) (BadLine line)) }
+    ensures { GivesOnto result compat.new words.new
+        (ok_or (with_front compat.old (naturals_at 0 MAX_COMPATIBILITY n words.old)) (BadLine line)) }
 {
     for _ in 0..n {
         let value = at_line(line, natural_at(words, 0, MAX_COMPATIBILITY))?;
@@ -80,7 +88,7 @@ fn points_at(
 ) -> Result<List<Point>, Or<MapFault>>
     ensures { Gives result words.new (ok_or (points_at n words.old) (BadLine line)) }
 {
-    let mut points = List::new(alloc);
+    let mut points = List::with_capacity(alloc, n as usize)?;
     for _ in 0..n {
         let point = at_line(line, point_at(words))?;
         points.push(point)?;

@@ -1,16 +1,13 @@
 //! The sections of a listing: its rules, its faces and its arcs, each with its count before it.
 
-ghost use Rattle.std.specs.Prelude.{◌≡◌};
+ghost use Rattle.std.specs.Prelude.{◌≡◌, ◌≤◌};
 ghost use Rattle.tgap_model.specs.Listing.{classes_at, faces_at, arcs_at, rules_at, all_faces_at, all_arcs_at};
 ghost use Rattle.plain_io.specs.Taking.{Gives};
 
-use crate::fault::at_line;
 use crate::line::{count_line, read_arc, read_class, read_count, read_face};
-use plain_io::Lines;
+use plain_io::{Lines, at_line};
 use std::alloc::Global;
-use tgap_model::{
-    BaseArc, LimitKind, List, MAX_ARCS, MAX_CLASSES, MAX_FACES, MAX_RATIO, MapFault, Or, Rules,
-};
+use tgap_model::{BaseArc, LimitKind, List, MAX_CLASSES, MAX_RATIO, MapFault, Or, Rules};
 
 /// The line of the ratio, and the classes.
 #[tactic(auto, unfolding(tgap_model::specs::Listing::rules_at))]
@@ -18,7 +15,7 @@ pub fn read_rules(alloc: Global, lines: &mut Lines) -> Result<Rules, Or<MapFault
     ensures { Gives result lines.new (rules_at lines.old) }
 {
     let ratio = at_line(lines.number(), read_count(lines, b"ratio", 0, MAX_RATIO))?;
-    let count = count_line(lines, LimitKind::Classes, MAX_CLASSES, b"classes", 1)?;
+    let count = count_line(lines, LimitKind::Classes, 1)?;
     let (weights, compat) = classes_at(alloc, lines, count)?;
     Ok(Rules {
         ratio,
@@ -32,7 +29,7 @@ pub fn read_rules(alloc: Global, lines: &mut Lines) -> Result<Rules, Or<MapFault
 pub fn read_faces(alloc: Global, lines: &mut Lines, classes: u32) -> Result<List<u32>, Or<MapFault>>
     ensures { Gives result lines.new (all_faces_at classes lines.old) }
 {
-    let count = count_line(lines, LimitKind::Faces, MAX_FACES, b"faces", 0)?;
+    let count = count_line(lines, LimitKind::Faces, 0)?;
     faces_at(alloc, lines, classes, count)
 }
 
@@ -45,7 +42,7 @@ pub fn read_arcs(
 ) -> Result<List<BaseArc>, Or<MapFault>>
     ensures { Gives result lines.new (all_arcs_at faces lines.old) }
 {
-    let count = count_line(lines, LimitKind::Arcs, MAX_ARCS, b"arcs", 0)?;
+    let count = count_line(lines, LimitKind::Arcs, 0)?;
     arcs_at(alloc, lines, faces, count)
 }
 
@@ -55,10 +52,11 @@ fn classes_at(
     lines: &mut Lines,
     n: u32,
 ) -> Result<(List<u32>, List<u32>), Or<MapFault>>
+    requires { n ≤ MAX_CLASSES }
     ensures { Gives result lines.new (classes_at n 0 n lines.old) }
 {
-    let mut weights = List::new(alloc);
-    let mut compat = List::new(alloc);
+    let mut weights = List::with_capacity(alloc, n as usize)?;
+    let mut compat = List::with_capacity(alloc, n as usize * n as usize)?;
     for class in 0..n {
         let weight = read_class(lines, n, class, &mut compat)?;
         weights.push(weight)?;
@@ -75,7 +73,7 @@ fn faces_at(
 ) -> Result<List<u32>, Or<MapFault>>
     ensures { Gives result lines.new (faces_at classes 1 n lines.old) }
 {
-    let mut all = List::new(alloc);
+    let mut all = List::with_capacity(alloc, n as usize)?;
     for before in 0..n {
         let class = at_line(lines.number(), read_face(lines, classes, before + 1))?;
         all.push(class)?;
@@ -92,7 +90,7 @@ fn arcs_at(
 ) -> Result<List<BaseArc>, Or<MapFault>>
     ensures { Gives result lines.new (arcs_at faces 0 n lines.old) }
 {
-    let mut arcs = List::new(alloc);
+    let mut arcs = List::with_capacity(alloc, n as usize)?;
     let mut points = 0;
     for _ in 0..n {
         let arc = read_arc(alloc, lines, faces, points)?;

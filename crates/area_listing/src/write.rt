@@ -8,7 +8,7 @@ ghost use Rattle.tgap_model.specs.Listing.{transform_words, count_words, class_r
 ghost use Rattle.plain_io.specs.Fields.{fields};
 ghost use Rattle.area_listing.specs.Written.{rules_rows, all_face_rows, all_arc_rows};
 
-use plain_io::{put_count, put_field};
+use plain_io::{put_count, put_field, put_size};
 use std::alloc::Global;
 use tgap_model::{Base, BaseArc, Memory, Point, Rules, Text, Transform};
 
@@ -46,13 +46,6 @@ fn put_word(alloc: Global, out: &mut Text, word: i32) -> Result<(), Memory>
     ensures { OnOk result (out.new ≡ out.old ++ 32 ∷ signed_decimal word) }
 {
     put_field(alloc, out, i128::from(word))
-}
-
-/// Appends a space and the size of a list, or a place in it.
-fn put_size(alloc: Global, out: &mut Text, size: usize) -> Result<(), Memory>
-    ensures { OnOk result (out.new ≡ out.old ++ 32 ∷ decimal size) }
-{
-    put_field(alloc, out, size as i128)
 }
 
 /// Appends the line of a keyword and a count.
@@ -101,7 +94,8 @@ fn put_class(
     weight: u32,
     compat: &[u32],
 ) -> Result<(), Memory>
-    ensures { OnOk result (out.new ≡ out.old ++ line (codes "class" ∷ decimal class ∷ decimal weight ∷ map decimal compat.now)) }
+    ensures { OnOk result
+        (out.new ≡ out.old ++ line (codes "class" ∷ decimal class ∷ decimal weight ∷ map decimal compat.now)) }
 {
     out.push_slice(b"class")?;
     put_size(alloc, out, class)?;

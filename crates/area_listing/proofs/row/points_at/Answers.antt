@@ -3,15 +3,16 @@ use Rattle.std.specs.Option.{ok_or}
 use Rattle.std.proofs.lemmas.Result.{err_from_is_err_and}
 use Rattle.tgap_model.specs.declared.fault.MapFault.TheVariants.{BadLine}
 use Rattle.tgap_model.specs.declared.failure.Or.TheVariants.{Fault}
-use Rattle.area_listing.specs.Fronts.{point_at}
-use Rattle.area_listing.proofs.Loops.{found, missing, refused_at, points_go_on, points_stop, points_done}
+use Rattle.area_listing.specs.Reading.{point_at}
+use Rattle.plain_io.proofs.Loops.{found, missing, refused_at}
+use Rattle.area_listing.proofs.Loops.{points_go_on, points_stop, points_done}
 use Rattle.area_listing.proofs.row.points_at.Goals as goal
 
 pub returns-in_err-point : goal.returns-in_err-point
 returns-in_err-point c =
-    let p = err_from_is_err_and c.from_residual.result c.from_residual.ensures.1 in
+    let p = err_from_is_err_and c.from_residual-in_err-point.result c.from_residual-in_err-point.ensures.1 in
     let none = missing c.point_at.result c.in_err-point.field-0.0 (Fault (BadLine c.args.line)) c.point_at.new.words (point_at c.loop.words) c.in_err-point.ensures c.point_at.ensures in
-    rw (p.1, p.2) (refused_at c.in_err-point.field-0.0 c.args.line _ none.0 (sym c.loop.invariant ∙ points_stop c.loop.points c.args.n c.loop.counter c.loop.words c.loop-test.true none.1))
+    rw (p.1, p.2) (refused_at c.in_err-point.field-0.0 (BadLine c.args.line) _ none.0 (sym c.loop.invariant ∙ points_stop c.loop.points c.args.n c.loop.counter c.loop.words c.loop-test.true none.1))
 
 pub loop-preserved : goal.loop-preserved
 loop-preserved c =

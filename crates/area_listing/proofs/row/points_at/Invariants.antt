@@ -1,6 +1,6 @@
 use Rattle.std.proofs.Common.{◌≡◌, ◌-◌}
 use Rattle.tgap_model.specs.ListingLines.{points_at}
-use Rattle.area_listing.specs.Fronts.{with_front}
+use Rattle.plain_io.specs.Fronts.{with_front}
 use Rattle.area_listing.proofs.row.points_at.Given as goal
 
 abbrev pub invariant-loop : goal.invariant-loop

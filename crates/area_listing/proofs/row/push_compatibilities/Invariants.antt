@@ -1,7 +1,7 @@
 use Rattle.std.proofs.Common.{◌≡◌, ◌-◌}
 use Rattle.tgap_model.specs.declared.limits.TheConstants.{MAX_COMPATIBILITY}
 use Rattle.tgap_model.specs.ListingLines.{naturals_at}
-use Rattle.area_listing.specs.Fronts.{with_front}
+use Rattle.plain_io.specs.Fronts.{with_front}
 use Rattle.area_listing.proofs.row.push_compatibilities.Given as goal
 
 abbrev pub invariant-loop : goal.invariant-loop

@@ -1,13 +1,14 @@
 use Rattle.std.proofs.Common.{◌∙◌, sym}
 use Rattle.std.proofs.lemmas.Result.{err_from_is_err_and}
 use Rattle.tgap_model.specs.Listing.{arc_at}
-use Rattle.area_listing.proofs.Loops.{refused, arcs_go_on, arcs_stop, arcs_done}
+use Rattle.plain_io.proofs.Loops.{refused}
+use Rattle.area_listing.proofs.Loops.{arcs_go_on, arcs_stop, arcs_done}
 use Rattle.area_listing.proofs.Sections.{arc_at_is}
 use Rattle.area_listing.proofs.section.arcs_at.Goals as goal
 
 pub returns-in_err-arc : goal.returns-in_err-arc
 returns-in_err-arc c =
-    let p = err_from_is_err_and c.from_residual.result c.from_residual.ensures.1 in
+    let p = err_from_is_err_and c.from_residual-in_err-arc.result c.from_residual-in_err-arc.ensures.1 in
     let l = c.loop in
     rw (p.1, p.2) (refused c.in_err-arc.field-0.0 (arc_at c.args.faces l.points l.lines) _ (λ f e. sym l.invariant.read ∙ arcs_stop c.args.faces l.points l.arcs c.args.n l.counter l.lines f c.loop-test.true e) c.in_err-arc.ensures)
 

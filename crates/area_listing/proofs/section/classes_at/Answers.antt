@@ -3,13 +3,14 @@ use Rattle.std.proofs.lemmas.Result.{err_from_is_err_and}
 use Rattle.tgap_model.specs.declared.fault.MapFault.TheVariants.{BadLine}
 use Rattle.tgap_model.specs.Lines.{read_line}
 use Rattle.tgap_model.specs.ListingLines.{read_class}
-use Rattle.area_listing.specs.Fronts.{class_onto}
-use Rattle.area_listing.proofs.Loops.{refused, classes_go_on, classes_stop, classes_done}
+use Rattle.area_listing.specs.Reading.{class_onto}
+use Rattle.plain_io.proofs.Loops.{refused}
+use Rattle.area_listing.proofs.Loops.{classes_go_on, classes_stop, classes_done}
 use Rattle.area_listing.proofs.section.classes_at.Goals as goal
 
 pub returns-in_err-weight : goal.returns-in_err-weight
 returns-in_err-weight c =
-    let p = err_from_is_err_and c.from_residual.result c.from_residual.ensures.1 in
+    let p = err_from_is_err_and c.from_residual-in_err-weight.result c.from_residual-in_err-weight.ensures.1 in
     let l = c.loop-class in
     rw (p.1, p.2) (refused c.in_err-weight.field-0.0 (class_onto l.compat (read_line BadLine (read_class c.args.n l.class) l.lines)) _ (λ f e. sym l.invariant ∙ classes_stop l.weights l.compat c.args.n l.class l.lines f c.loop-class-test.true e) c.in_err-weight.ensures)
 

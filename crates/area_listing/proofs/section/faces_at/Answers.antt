@@ -5,18 +5,19 @@ use Rattle.tgap_model.specs.declared.fault.MapFault.TheVariants.{BadLine}
 use Rattle.tgap_model.specs.declared.failure.Or.TheVariants.{Fault}
 use Rattle.tgap_model.specs.Lines.{read_row, read_line}
 use Rattle.tgap_model.specs.ListingLines.{read_face}
-use Rattle.area_listing.proofs.Loops.{found, missing, refused, refused_at, faces_go_on, faces_stop, faces_done}
+use Rattle.plain_io.proofs.Loops.{found, missing, refused, refused_at}
+use Rattle.area_listing.proofs.Loops.{faces_go_on, faces_stop, faces_done}
 use Rattle.area_listing.proofs.section.faces_at.Goals as goal
 
 pub returns-in_err-class : goal.returns-in_err-class
 returns-in_err-class c =
-    let p = err_from_is_err_and c.from_residual.result c.from_residual.ensures.1 in
+    let p = err_from_is_err_and c.from_residual-in_err-class.result c.from_residual-in_err-class.ensures.1 in
     let l = c.loop-before in
     let read = read_row (read_face c.args.classes (l.before + 1)) l.lines in
     let taken = rw c.number.ensures at c.in_err-class.ensures in
     let none = missing c.read_face.result c.in_err-class.field-0.0 (Fault (BadLine l.lines.number)) c.read_face.new.lines read taken c.read_face.ensures in
     rw (p.1, p.2) (refused c.in_err-class.field-0.0 (read_line BadLine (read_face c.args.classes (l.before + 1)) l.lines) _ (λ f e. sym l.invariant ∙ faces_stop c.args.classes l.all c.args.n l.before l.lines f c.loop-before-test.true e)
-    (refused_at c.in_err-class.field-0.0 l.lines.number read none.0 none.1))
+    (refused_at c.in_err-class.field-0.0 (BadLine l.lines.number) read none.0 none.1))
 
 pub loop-before-preserved : goal.loop-before-preserved
 loop-before-preserved c =

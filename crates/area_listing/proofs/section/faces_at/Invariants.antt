@@ -1,6 +1,6 @@
 use Rattle.std.proofs.Common.{◌≡◌, ◌+◌, ◌-◌}
 use Rattle.tgap_model.specs.Listing.{faces_at}
-use Rattle.area_listing.specs.Fronts.{in_front}
+use Rattle.plain_io.specs.Fronts.{in_front}
 use Rattle.area_listing.proofs.section.faces_at.Given as goal
 
 abbrev pub invariant-loop-before : goal.invariant-loop-before
