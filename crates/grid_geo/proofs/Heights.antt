@@ -1,36 +1,55 @@
 -- Every number of the comparison of heights fits, and the comparison is that of the definition.
-use Rattle.std.proofs.Common.{◌≡◌, ◌≤◌, ℕ, ◌*◌, ◌^◌, ◌==◌, Bool, true, false, cond, ℤ, pos, ◌+ℤ◌, ◌*ℤ◌, ◌<ℤ◌, unsigned_abs, to_z, of_z, int_lt, Ordering, Less, Equal, Greater, refl, sym, ap, ap₂, ◌∙◌, true≢false, ⊎_elim, arith}
-use Rattle.std.specs.Int.{w128}
+use Rattle.std.proofs.Common.{◌≡◌, ◌≤◌, ◌<◌, ◌+◌, ℕ, ◌*◌, ◌^◌, ◌==◌, Bool, true, false, cond, ℤ, pos, ◌+ℤ◌, ◌-ℤ◌, ◌*ℤ◌, ◌<ℤ◌, unsigned_abs, int_lt, Ordering, Less, Equal, Greater, refl, sym, ap, ap₂, ◌∙◌, true≢false, ⊎_elim, arith}
 use Rattle.std.specs.Ordering.{int_cmp, ordering_index}
 use Rattle.std.proofs.lemmas.Bool.{and_parts, or_cases}
-use Rattle.std.proofs.lemmas.Int.{ints, unsigned_abs-mul}
-use Rattle.std.proofs.Math.Nat.{mul-le-mul_left}
+use Rattle.std.proofs.lemmas.Int.{ints}
 use Rattle.lemmas.proofs.Signs.{Decides-int_lt, int_lt-from_le, le_from_lt}
+use Rattle.tgap_model.specs.declared.geometry.Point.{Point}
 use Rattle.tgap_model.specs.declared.geometry.Seg.{Seg}
-use Rattle.tgap_model.specs.Base.{in_limits}
+use Rattle.tgap_model.specs.Bounds.{IsNear, HasNearEnds, max_coordinate, max_difference, max_product, max_shoelace}
+use Rattle.tgap_model.specs.Point.{shoelace_term}
 use Rattle.tgap_model.specs.Segment.{Line, line_after, crosses, passes, rightward, run, height, is_higher}
-use Rattle.grid_geo.specs.Heights.{is_near, order_on_line}
-use Rattle.grid_geo.proofs.Sizes.{near}
+use Rattle.grid_geo.specs.Sizes.{max_height}
+use Rattle.grid_geo.specs.Heights.{order_on_line}
+use Rattle.grid_geo.proofs.Sizes.{wide, word, unsigned_abs-mul_le}
 
--- ---- sizes
+-- ---- a height: a product less the double of a shoelace term
 
--- the size of a product
-pub product_size : (a b : ℤ) (n : ℕ) → unsigned_abs b ≤ n → unsigned_abs (a *ℤ b) ≤ unsigned_abs a * n
-product_size a b n h = let le : unsigned_abs a * unsigned_abs b ≤ unsigned_abs a * n = mul-le-mul_left (unsigned_abs a) h in omega (arith, unsigned_abs-mul a b, le)
+module _ (t w h : ℤ) (lt : unsigned_abs t ≤ max_difference + 1) (lw : unsigned_abs w ≤ unsigned_abs (wide t) * max_difference)
+    (lh : unsigned_abs h ≤ max_shoelace) where
+  -- the product is small
+  way_size : unsigned_abs w ≤ (max_difference + 1) * max_difference
+  way_size = let e : wide t ≡ t = omega (arith, ints, lt) in omega (arith, lw, lt, ap (λ (y : ℤ). unsigned_abs y) e)
 
--- a product of this size is as the code computes it
-pub product_fits : (a b : ℤ) → unsigned_abs a ≤ 2 ^ 61 → unsigned_abs b ≤ 2 ^ 30 → to_z w128 (of_z w128 (to_z w128 (of_z w128 a) *ℤ to_z w128 (of_z w128 b))) ≡ a *ℤ b
-product_fits a b la lb =
-    let ea : to_z w128 (of_z w128 a) ≡ a = omega (arith, ints) in
-    let eb : to_z w128 (of_z w128 b) ≡ b = omega (arith, ints) in
-    ap₂ (λ (x y : ℤ). to_z w128 (of_z w128 (x *ℤ y))) ea eb ∙ fits (a *ℤ b) (unsigned_abs a) (product_size a b (2 ^ 30) lb) la
+  -- so is the double, so their difference fits, and is that of the numbers themselves
+  pub difference_fits : unsigned_abs (wide w) + unsigned_abs (wide (pos 2 *ℤ wide h)) < 2 ^ 127
+  difference_fits = let l = way_size in omega (arith, ints, l, lh)
+
+  pub difference_is : wide (wide w -ℤ wide (pos 2 *ℤ wide h)) ≡ w -ℤ pos 2 *ℤ h
+  difference_is = let l = way_size in omega (arith, ints, l, lh)
+
+  pub difference_size : unsigned_abs (w -ℤ pos 2 *ℤ h) ≤ max_height
+  difference_size = let l = way_size in omega (arith, ints, l, lh)
+
+-- the product, from what the code has of its factors
+pub way_is : (t r line y w : ℤ) → unsigned_abs line ≤ max_coordinate → unsigned_abs r ≤ max_difference → t ≡ pos 2 *ℤ word line +ℤ pos 1 → r ≡ y
+    → w ≡ wide t *ℤ word r → w ≡ (pos 2 *ℤ line +ℤ pos 1) *ℤ y
+way_is t r line y w near short et er ew =
+    let first : wide t ≡ pos 2 *ℤ line +ℤ pos 1 = omega (arith, ints, near, et) in
+    let second : word r ≡ y = omega (arith, ints, short, er) in
+    ew ∙ ap₂ (λ (u v : ℤ). u *ℤ v) first second
+
+-- the size of a shoelace term
+pub shoelace_size : (a b : Point) → IsNear a → IsNear b → unsigned_abs (shoelace_term a b) ≤ max_shoelace
+shoelace_size a b near far =
+    let left = unsigned_abs-mul_le a.x b.y max_coordinate max_coordinate near.x far.y in
+    let right = unsigned_abs-mul_le b.x a.y max_coordinate max_coordinate far.x near.y in
+    less (a.x *ℤ b.y) (b.x *ℤ a.y) left right
   where
-    fits : (z : ℤ) (m : ℕ) → unsigned_abs z ≤ m * 2 ^ 30 → m ≤ 2 ^ 61 → to_z w128 (of_z w128 z) ≡ z
-    fits z m h l = omega (arith, ints)
+    less : (u v : ℤ) → unsigned_abs u ≤ max_product → unsigned_abs v ≤ max_product → unsigned_abs (u -ℤ v) ≤ max_shoelace
+    less u v h k = omega (arith, ints, h, k)
 
--- a product of two numbers that the code has computed
-pub product_is : (p a b x y : ℤ) → unsigned_abs a ≤ 2 ^ 61 → unsigned_abs b ≤ 2 ^ 29 → p ≡ to_z w128 (of_z w128 a) *ℤ to_z w128 (of_z w128 b) → a ≡ x → b ≡ y → to_z w128 (of_z w128 p) ≡ x *ℤ y
-product_is p a b x y la lb e f g = ap (λ (z : ℤ). to_z w128 (of_z w128 z)) e ∙ product_fits a b la (omega arith) ∙ ap₂ (λ (v w : ℤ). v *ℤ w) f g
+-- ---- lines and heights
 
 -- what it is for a line to pass between two abscissas
 pub passes_parts : (l : Line) (u v : ℤ) → passes l u v ≡ true → ((l.c *ℤ u) <ℤ l.a) × (l.a <ℤ (l.c *ℤ v))
@@ -39,17 +58,28 @@ passes_parts l u v e =
     ((Decides-int_lt (l.c *ℤ u) l.a).0 parts.0, (Decides-int_lt l.a (l.c *ℤ v)).0 parts.1)
 
 -- an abscissa one half before a line that crosses a segment within the limits
-pub line_near : (s : Seg) (v : ℤ) → is_near s ≡ true → crosses (line_after v) s ≡ true → unsigned_abs v ≤ 2 ^ 28
-line_near s v inside h =
-    let parts = and_parts (in_limits s.a) (in_limits s.b) inside in
-    ⊎_elim (λ e. between s.a.x s.b.x (near s.a parts.0).x (near s.b parts.1).x (passes_parts (line_after v) s.a.x s.b.x e))
-    (λ e. between s.b.x s.a.x (near s.b parts.1).x (near s.a parts.0).x (passes_parts (line_after v) s.b.x s.a.x e))
+pub line_near : (s : Seg) (v : ℤ) → HasNearEnds s → crosses (line_after v) s ≡ true → unsigned_abs v ≤ max_coordinate
+line_near s v near h =
+    ⊎_elim (λ e. between s.a.x s.b.x near.a.x near.b.x (passes_parts (line_after v) s.a.x s.b.x e))
+    (λ e. between s.b.x s.a.x near.b.x near.a.x (passes_parts (line_after v) s.b.x s.a.x e))
     (or_cases (passes (line_after v) s.a.x s.b.x) (passes (line_after v) s.b.x s.a.x) h)
   where
-    between : (x y : ℤ) → unsigned_abs x ≤ 2 ^ 28 → unsigned_abs y ≤ 2 ^ 28 → ((pos 2 *ℤ x) <ℤ (pos 2 *ℤ v +ℤ pos 1)) × ((pos 2 *ℤ v +ℤ pos 1) <ℤ (pos 2 *ℤ y)) → unsigned_abs v ≤ 2 ^ 28
+    between : (x y : ℤ) → unsigned_abs x ≤ max_coordinate → unsigned_abs y ≤ max_coordinate → ((pos 2 *ℤ x) <ℤ (pos 2 *ℤ v +ℤ pos 1)) × ((pos 2 *ℤ v +ℤ pos 1) <ℤ (pos 2 *ℤ y)) → unsigned_abs v ≤ max_coordinate
     between x y lx ly (h, k) = omega (arith, ints)
 
 -- ---- the comparison
+
+-- a height times the run of the other segment, as the code has it
+pub scaled_is : (p a b x y : ℤ) → unsigned_abs a ≤ max_height → unsigned_abs b ≤ max_difference → unsigned_abs p ≤ unsigned_abs (wide a) * max_difference
+    → p ≡ wide a *ℤ word b → a ≡ x → b ≡ y → wide p ≡ x *ℤ y
+scaled_is p a b x y la lb lp e f g =
+    let ea : wide a ≡ a = omega (arith, ints, la) in
+    let eb : word b ≡ b = omega (arith, ints, lb) in
+    let ep : wide p ≡ p = fits (unsigned_abs (wide a)) lp (omega (arith, la, ap (λ (z : ℤ). unsigned_abs z) ea)) in
+    ep ∙ e ∙ ap₂ (λ (u v : ℤ). u *ℤ v) (ea ∙ f) (eb ∙ g)
+  where
+    fits : (m : ℕ) → unsigned_abs p ≤ m * max_difference → m ≤ max_height → wide p ≡ p
+    fits m h l = omega (arith, ints, h, l)
 
 -- to compare two heights, each with the run of the other segment as a factor, is to ask which segment is higher
 pub compared : (l : Line) (s t : Seg) (above below : ℤ) → above ≡ height l (rightward s) *ℤ run (rightward t) → below ≡ height l (rightward t) *ℤ run (rightward s)

@@ -6,3 +6,4 @@ pub mod Overlap
 pub mod CommonPoint
 pub mod Directions
 pub mod Heights
+pub mod Disjoint

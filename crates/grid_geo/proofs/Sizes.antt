@@ -1,27 +1,10 @@
 -- Numbers within bounds: what is computed of them fits, and the code's bits of it are the number itself.
-use Rattle.std.proofs.Common.{◌≡◌, ◌≤◌, ◌*◌, ◌^◌, ℕ, true, ℤ, pos, negsuc, ◌+ℤ◌, ◌-ℤ◌, ◌*ℤ◌, ◌≤ℤ◌, unsigned_abs, FitsSigned, int_le, neg_ℤ, to_z, of_z, Bool, ◌&&◌, refl, sym, ap, ◌∙◌, subst, arith}
+use Rattle.std.proofs.Common.{◌≡◌, ◌≤◌, ◌*◌, ℕ, true, ℤ, pos, negsuc, ◌+ℤ◌, ◌*ℤ◌, unsigned_abs, FitsSigned, to_z, of_z, Bool, ◌&&◌, refl, sym, ap, ◌∙◌, subst, arith}
 use Rattle.std.specs.Int.{w8, w64, w128, int_signum}
-use Rattle.std.proofs.lemmas.Int.{ints, unsigned_abs-mul, fits_signed_from_abs}
-use Rattle.std.proofs.Math.Nat.{mul-le-mul}
-use Rattle.std.proofs.lemmas.Bool.{and_parts}
-use Rattle.tgap_model.specs.declared.geometry.Point.{Point}
-use Rattle.tgap_model.specs.Base.{in_limits, within}
-use Rattle.tgap_model.specs.declared.limits.TheConstants.{MAX_COORDINATE}
-use Rattle.lemmas.proofs.Signs.{Decides-int_le}
-use Rattle.grid_geo.specs.Sizes.{IsNear}
-
--- a coordinate and a point within the limits, by their sizes
-coordinate_size : (z : ℤ) → within (neg_ℤ MAX_COORDINATE) MAX_COORDINATE z ≡ true → unsigned_abs z ≤ 2 ^ 28
-coordinate_size z h =
-    let parts = and_parts (int_le (neg_ℤ MAX_COORDINATE) z) (int_le z MAX_COORDINATE) h in
-    let low : neg_ℤ (pos 268435456) ≤ℤ z = (Decides-int_le (neg_ℤ MAX_COORDINATE) z).0 parts.0 in
-    let high : z ≤ℤ pos 268435456 = (Decides-int_le z MAX_COORDINATE).0 parts.1 in
-    omega (arith, ints)
-
-pub near : (v : Point) → in_limits v ≡ true → IsNear v
-near v h =
-    let parts = and_parts (within (neg_ℤ MAX_COORDINATE) MAX_COORDINATE v.x) (within (neg_ℤ MAX_COORDINATE) MAX_COORDINATE v.y) h in
-    record { x = coordinate_size v.x parts.0; y = coordinate_size v.y parts.1 }
+use Rattle.std.proofs.lemmas.Int.{ints, unsigned_abs-mul, fits_signed_from_abs, to_z-of_z}
+use Rattle.std.proofs.Math.Nat.{mul-le-mul, mul-le-mul_left}
+use Rattle.tgap_model.specs.Bounds.{max_coordinate, max_difference, max_cross}
+use Rattle.grid_geo.specs.Sizes.{max_scaled, max_height}
 
 -- a number, by its bits in 64 and in 128
 abbrev pub word : ℤ → ℤ
@@ -31,10 +14,10 @@ abbrev pub wide : ℤ → ℤ
 wide z = to_z w128 (of_z w128 z)
 
 -- a number that fits is the number of its bits
-pub word_is : (z : ℤ) → unsigned_abs z ≤ 2 ^ 29 → word z ≡ z
+pub word_is : (z : ℤ) → unsigned_abs z ≤ max_difference → word z ≡ z
 word_is z h = omega (arith, ints)
 
-pub wide_is : (z : ℤ) → unsigned_abs z ≤ 2 ^ 91 → wide z ≡ z
+pub wide_is : (z : ℤ) → unsigned_abs z ≤ 4 * max_scaled → wide z ≡ z
 wide_is z h = omega (arith, ints)
 
 -- the size of a product
@@ -46,70 +29,49 @@ pub signum_size : (z : ℤ) → unsigned_abs (int_signum z) ≤ 1
 signum_size (pos n) = omega (arith, ints)
 signum_size (negsuc n) = omega (arith, ints)
 
--- ---- a cross product times a coordinate
+-- ---- the product of a number and a coordinate or a difference
 
-module _ (f z r : ℤ) (lf : unsigned_abs f ≤ 2 ^ 60) (lz : unsigned_abs z ≤ 2 ^ 29) (e : r ≡ word z) where
-  -- the size of the product
-  scaled_size : unsigned_abs (f *ℤ z) ≤ 2 ^ 89
-  scaled_size = unsigned_abs-mul_le f z (2 ^ 60) (2 ^ 29) lf lz
-
+module _ (a b r : ℤ) (la : unsigned_abs a ≤ max_height) (lb : unsigned_abs b ≤ max_difference) (e : r ≡ word b) where
   -- the code multiplies the numbers themselves
-  factors_are : wide f *ℤ wide r ≡ f *ℤ z
+  factors_are : wide a *ℤ wide r ≡ a *ℤ b
   factors_are =
-      let er : r ≡ z = e ∙ word_is z lz in
-      let a : wide f ≡ f = omega (arith, ints) in
-      let b : wide z ≡ z = omega (arith, ints) in
-      rw (er, a, b) refl
+      let er : r ≡ b = e ∙ word_is b lb in
+      let ea : wide a ≡ a = omega (arith, ints, la) in
+      let eb : wide b ≡ b = omega (arith, ints, lb) in
+      rw (er, ea, eb) refl
 
-  -- so its product is theirs, and of that size
-  pub scaled_is : wide (wide f *ℤ wide r) ≡ f *ℤ z
-  scaled_is = ap wide factors_are ∙ wide_is (f *ℤ z) (omega (arith, scaled_size))
+  -- their product is small, so it fits, and the code has it
+  product_size : unsigned_abs (a *ℤ b) ≤ unsigned_abs a * max_difference
+  product_size = let le : unsigned_abs a * unsigned_abs b ≤ unsigned_abs a * max_difference = mul-le-mul_left (unsigned_abs a) lb in omega (arith, unsigned_abs-mul a b, le)
 
-  pub scaled_is_small : unsigned_abs (wide (wide f *ℤ wide r)) ≤ 2 ^ 89
-  scaled_is_small = subst (λ (x : ℤ). unsigned_abs x ≤ 2 ^ 89) (sym scaled_is) scaled_size
+  fits : (z : ℤ) (m : ℕ) → unsigned_abs z ≤ m * max_difference → m ≤ max_height → FitsSigned w128 z
+  fits z m h l = fits_signed_from_abs w128 z (omega (arith, h, l))
 
--- ---- the cross product of two steps, by its two products
+  pub product_fits : FitsSigned w128 (wide a *ℤ wide r)
+  product_fits = subst (λ (z : ℤ). FitsSigned w128 z) (sym factors_are) (fits (a *ℤ b) (unsigned_abs a) product_size la)
 
-module _ (a b c d p q : ℤ) (la : unsigned_abs a ≤ 2 ^ 29) (lb : unsigned_abs b ≤ 2 ^ 29) (lc : unsigned_abs c ≤ 2 ^ 29) (ld : unsigned_abs d ≤ 2 ^ 29)
-    (ep : p ≡ word a *ℤ word b) (eq : q ≡ word c *ℤ word d) where
-  -- the two products, and their sizes
-  product_is : p ≡ a *ℤ b
-  product_is = let ea = word_is a la in let eb = word_is b lb in cc
+  pub product_is : wide (wide a *ℤ wide r) ≡ a *ℤ b
+  product_is = ap wide factors_are ∙ to_z-of_z w128 (a *ℤ b) (fits (a *ℤ b) (unsigned_abs a) product_size la)
 
-  second_is : q ≡ c *ℤ d
-  second_is = let ec = word_is c lc in let ed = word_is d ld in cc
-
-  product_size : unsigned_abs p ≤ 2 ^ 58
-  product_size = subst (λ (z : ℤ). unsigned_abs z ≤ 2 ^ 58) (sym product_is) (unsigned_abs-mul_le a b (2 ^ 29) (2 ^ 29) la lb)
-
-  second_size : unsigned_abs q ≤ 2 ^ 58
-  second_size = subst (λ (z : ℤ). unsigned_abs z ≤ 2 ^ 58) (sym second_is) (unsigned_abs-mul_le c d (2 ^ 29) (2 ^ 29) lc ld)
-
-  -- their difference fits
-  pub cross_fits : FitsSigned w128 (wide p -ℤ wide q)
-  cross_fits = fits p q product_size second_size
-    where
-      fits : (x y : ℤ) → unsigned_abs x ≤ 2 ^ 58 → unsigned_abs y ≤ 2 ^ 58 → FitsSigned w128 (wide x -ℤ wide y)
-      fits x y h k = omega (arith, ints)
-
-  -- and is the cross product
-  pub cross_is : wide (wide p -ℤ wide q) ≡ a *ℤ b -ℤ c *ℤ d
-  cross_is = is p q product_size second_size ∙ ap (λ (z : ℤ). z -ℤ q) product_is ∙ ap (λ (z : ℤ). a *ℤ b -ℤ z) second_is
-    where
-      is : (x y : ℤ) → unsigned_abs x ≤ 2 ^ 58 → unsigned_abs y ≤ 2 ^ 58 → wide (wide x -ℤ wide y) ≡ x -ℤ y
-      is x y h k = omega (arith, ints)
-
-  -- which is not large
-  pub cross_size : unsigned_abs (wide (wide p -ℤ wide q)) ≤ 2 ^ 60
-  cross_size = small p q product_size second_size
-    where
-      small : (x y : ℤ) → unsigned_abs x ≤ 2 ^ 58 → unsigned_abs y ≤ 2 ^ 58 → unsigned_abs (wide (wide x -ℤ wide y)) ≤ 2 ^ 60
-      small x y h k = omega (arith, ints)
+  pub product_is_small : unsigned_abs (wide (wide a *ℤ wide r)) ≤ unsigned_abs a * max_difference
+  product_is_small = subst (λ (x : ℤ). unsigned_abs x ≤ unsigned_abs a * max_difference) (sym product_is) product_size
 
 -- ---- a sign times the sum of two products
 
-module _ (turn start across extent g p q : ℤ) (lt : unsigned_abs turn ≤ 2 ^ 60) (ls : unsigned_abs start ≤ 2 ^ 28) (la : unsigned_abs across ≤ 2 ^ 60) (le : unsigned_abs extent ≤ 2 ^ 29)
-    (eg : g ≡ int_signum (wide turn)) (ep : p ≡ wide turn *ℤ word start) (lp : unsigned_abs p ≤ 2 ^ 89) (eq : q ≡ wide across *ℤ word extent) (lq : unsigned_abs q ≤ 2 ^ 89) where
+module _ (turn start across extent g p q : ℤ) (lt : unsigned_abs turn ≤ max_cross) (ls : unsigned_abs start ≤ max_coordinate)
+    (la : unsigned_abs across ≤ max_cross) (le : unsigned_abs extent ≤ max_difference) (eg : g ≡ int_signum (wide turn))
+    (ep : p ≡ wide turn *ℤ word start) (sp : unsigned_abs p ≤ unsigned_abs (wide turn) * max_difference)
+    (eq : q ≡ wide across *ℤ word extent) (sq : unsigned_abs q ≤ unsigned_abs (wide across) * max_difference) where
+  -- the sizes of the products
+  scaled_size : (f z : ℤ) → unsigned_abs f ≤ max_cross → unsigned_abs z ≤ unsigned_abs (wide f) * max_difference → unsigned_abs z ≤ max_scaled
+  scaled_size f z h k = omega (arith, k, h, ap (λ (y : ℤ). unsigned_abs y) (wide_is f (omega (arith, h))))
+
+  lp : unsigned_abs p ≤ max_scaled
+  lp = scaled_size turn p lt sp
+
+  lq : unsigned_abs q ≤ max_scaled
+  lq = scaled_size across q la sq
+
   -- the sign, and its size
   sign_is : g ≡ int_signum turn
   sign_is = eg ∙ ap int_signum (wide_is turn (omega (arith, lt)))
@@ -121,21 +83,21 @@ module _ (turn start across extent g p q : ℤ) (lt : unsigned_abs turn ≤ 2 ^ 
   sum_is : wide (wide p +ℤ wide q) ≡ p +ℤ q
   sum_is = is p q lp lq
     where
-      is : (x y : ℤ) → unsigned_abs x ≤ 2 ^ 89 → unsigned_abs y ≤ 2 ^ 89 → wide (wide x +ℤ wide y) ≡ x +ℤ y
+      is : (x y : ℤ) → unsigned_abs x ≤ max_scaled → unsigned_abs y ≤ max_scaled → wide (wide x +ℤ wide y) ≡ x +ℤ y
       is x y h k = omega (arith, ints)
 
-  sum_size : unsigned_abs (p +ℤ q) ≤ 2 ^ 90
+  sum_size : unsigned_abs (p +ℤ q) ≤ 2 * max_scaled
   sum_size = small p q lp lq
     where
-      small : (x y : ℤ) → unsigned_abs x ≤ 2 ^ 89 → unsigned_abs y ≤ 2 ^ 89 → unsigned_abs (x +ℤ y) ≤ 2 ^ 90
+      small : (x y : ℤ) → unsigned_abs x ≤ max_scaled → unsigned_abs y ≤ max_scaled → unsigned_abs (x +ℤ y) ≤ 2 * max_scaled
       small x y h k = omega (arith, ints)
 
   -- their product, and its size
   signed_is : wide g *ℤ wide (wide p +ℤ wide q) ≡ g *ℤ (p +ℤ q)
   signed_is = ap (λ (z : ℤ). z *ℤ wide (wide p +ℤ wide q)) (wide_is g (omega (arith, sign_size))) ∙ ap (λ (z : ℤ). g *ℤ z) sum_is
 
-  signed_size : unsigned_abs (g *ℤ (p +ℤ q)) ≤ 2 ^ 90
-  signed_size = unsigned_abs-mul_le g (p +ℤ q) 1 (2 ^ 90) sign_size sum_size
+  signed_size : unsigned_abs (g *ℤ (p +ℤ q)) ≤ 2 * max_scaled
+  signed_size = unsigned_abs-mul_le g (p +ℤ q) 1 (2 * max_scaled) sign_size sum_size
 
   -- it fits
   pub coordinate_fits : FitsSigned w128 (wide g *ℤ wide (wide p +ℤ wide q))
@@ -169,13 +131,13 @@ then_both e f = cc
 -- ---- a sign in 8 bits
 
 -- the sign of a cross product, its size, and its bits
-sign_is_small : (z g : ℤ) → unsigned_abs z ≤ 2 ^ 60 → g ≡ int_signum (wide z) → unsigned_abs g ≤ 1
+sign_is_small : (z g : ℤ) → unsigned_abs z ≤ max_cross → g ≡ int_signum (wide z) → unsigned_abs g ≤ 1
 sign_is_small z g h e = subst (λ (x : ℤ). unsigned_abs x ≤ 1) (sym e) (signum_size (wide z))
 
-pub sign_fits : (z g : ℤ) → unsigned_abs z ≤ 2 ^ 60 → g ≡ int_signum (wide z) → FitsSigned w8 (wide g)
+pub sign_fits : (z g : ℤ) → unsigned_abs z ≤ max_cross → g ≡ int_signum (wide z) → FitsSigned w8 (wide g)
 sign_fits z g h e = let small = sign_is_small z g h e in omega (arith, ints)
 
-pub sign_cast : (z g : ℤ) → unsigned_abs z ≤ 2 ^ 60 → g ≡ int_signum (wide z) → to_z w8 (of_z w8 (wide g)) ≡ int_signum z
+pub sign_cast : (z g : ℤ) → unsigned_abs z ≤ max_cross → g ≡ int_signum (wide z) → to_z w8 (of_z w8 (wide g)) ≡ int_signum z
 sign_cast z g h e =
     let small = sign_is_small z g h e in
     let same : to_z w8 (of_z w8 (wide g)) ≡ g = omega (arith, ints) in
@@ -184,5 +146,5 @@ sign_cast z g h e =
 -- ---- a number whose bits are 0
 
 -- a number is 0 where its bits are
-pub zero_from_bits : (z : ℤ) → unsigned_abs z ≤ 2 ^ 60 → of_z w128 z ≡ 0 → z ≡ pos 0
+pub zero_from_bits : (z : ℤ) → unsigned_abs z ≤ max_cross → of_z w128 z ≡ 0 → z ≡ pos 0
 zero_from_bits z h e = omega (arith, ints)

@@ -1,14 +1,9 @@
 -- The order of two segments on a vertical line.
-use Rattle.std.specs.Prelude.{Bool, ◌&&◌, if◌then◌else◌}
+use Rattle.std.specs.Prelude.{if◌then◌else◌}
 use Rattle.std.specs.declared.cmp.Ordering.{Ordering}
 use Rattle.std.specs.declared.cmp.Ordering.TheVariants.{Less, Equal, Greater}
 use Rattle.tgap_model.specs.declared.geometry.Seg.{Seg}
-use Rattle.tgap_model.specs.Base.{in_limits}
 use Rattle.tgap_model.specs.Segment.{Line, is_higher}
-
--- both ends of a segment are within the limits
-abbrev pub is_near : Seg → Bool
-is_near s = in_limits s.a && in_limits s.b
 
 -- which of two segments is higher on a line that crosses both
 abbrev pub order_on_line : Line → Seg → Seg → Ordering

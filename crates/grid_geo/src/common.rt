@@ -1,37 +1,28 @@
 //! What two segments have in common.
 
-ghost use Rattle.std.specs.Prelude.{◌≡◌, ◌≤◌, ◌^◌, ◌&&◌, ◌+ℤ◌, ◌*ℤ◌, int_le, unsigned_abs, IfSome};
+ghost use Rattle.std.specs.Prelude.{◌≡◌, ◌≤◌, ◌&&◌, ◌+ℤ◌, ◌*ℤ◌, int_le, unsigned_abs, IfSome};
 ghost use Rattle.std.specs.Int.{int_signum};
 ghost use Rattle.std.specs.Ordering.{int_eq};
-ghost use Rattle.tgap_model.specs.Segment.{is_at, point_before, lies_between, turn, crossing, earlier_end, later_end, middle, overlap, intersection, any_common, is_permitted};
-ghost use Rattle.grid_geo.specs.Sizes.{IsNear, HasNearEnds};
+ghost use Rattle.tgap_model.specs.Segment.{is_at, lies_between, turn, crossing, earlier_end, later_end, common_first, common_last, middle, overlap, intersection, any_common, is_permitted};
+ghost use Rattle.tgap_model.specs.Bounds.{IsNear, HasNearEnds, max_coordinate, max_difference, max_cross};
 ghost use Rattle.grid_geo.specs.Within.{is_within};
 
+use crate::arithmetic::product;
 use crate::determinant::{Step, orientation};
 use tgap_model::{Fraction, Point, Seg, Shared};
 
-/// A coordinate, or the difference of two, times a cross product.
-fn scaled(factor: i128, z: i64) -> i128
-    requires factor { unsigned_abs factor ≤ 2 ^ 60 }
-    requires coordinate { unsigned_abs z ≤ 2 ^ 29 }
-    ensures value { result ≡ factor *ℤ z }
-    ensures size { unsigned_abs result ≤ 2 ^ 89 }
-{
-    factor * i128::from(z)
-}
-
 /// Whether `n / d` is this coordinate.
 fn is_coordinate(v: i64, n: i128, d: i128) -> bool
-    requires v { unsigned_abs v ≤ 2 ^ 28 }
-    requires d { unsigned_abs d ≤ 2 ^ 60 }
+    requires v { unsigned_abs v ≤ max_coordinate }
+    requires d { unsigned_abs d ≤ max_cross }
     ensures { result ≡ int_eq n (d *ℤ v) }
 {
-    n == scaled(d, v)
+    n == product(d, v)
 }
 
 /// Whether the point is at `v`.
 fn is_at(p: Fraction, v: Point) -> bool
-    requires denominator { unsigned_abs p.d ≤ 2 ^ 60 }
+    requires denominator { unsigned_abs p.d ≤ max_cross }
     requires near { IsNear v }
     ensures { result ≡ is_at p v }
 {
@@ -47,19 +38,19 @@ fn is_from_to(low: i128, n: i128, high: i128) -> bool
 
 /// Whether `n / d` is from one of two coordinates to the other.
 fn lies_between(u: i64, v: i64, n: i128, d: i128) -> bool
-    requires u { unsigned_abs u ≤ 2 ^ 28 }
-    requires v { unsigned_abs v ≤ 2 ^ 28 }
-    requires d { unsigned_abs d ≤ 2 ^ 60 }
+    requires u { unsigned_abs u ≤ max_coordinate }
+    requires v { unsigned_abs v ≤ max_coordinate }
+    requires d { unsigned_abs d ≤ max_cross }
     ensures { result ≡ lies_between u v n d }
 {
-    let start = scaled(d, u);
-    let end = scaled(d, v);
+    let start = product(d, u);
+    let end = product(d, v);
     is_from_to(start, n, end) || is_from_to(end, n, start)
 }
 
 /// Whether both coordinates of a point are between those of the segment's ends.
 fn is_within(p: Fraction, s: Seg) -> bool
-    requires denominator { unsigned_abs p.d ≤ 2 ^ 60 }
+    requires denominator { unsigned_abs p.d ≤ max_cross }
     requires near { HasNearEnds s }
     ensures { result ≡ is_within p s }
 {
@@ -69,13 +60,13 @@ fn is_within(p: Fraction, s: Seg) -> bool
 /// A coordinate of the point of two lines, times the absolute value of `turn`: `start` and `extent` are of the first
 /// line, `turn` is the cross product of both directions and `across` that of the second line's ends and the start.
 fn coordinate(turn: i128, start: i64, across: i128, extent: i64) -> i128
-    requires turn { unsigned_abs turn ≤ 2 ^ 60 }
-    requires start { unsigned_abs start ≤ 2 ^ 28 }
-    requires across { unsigned_abs across ≤ 2 ^ 60 }
-    requires extent { unsigned_abs extent ≤ 2 ^ 29 }
+    requires turn { unsigned_abs turn ≤ max_cross }
+    requires start { unsigned_abs start ≤ max_coordinate }
+    requires across { unsigned_abs across ≤ max_cross }
+    requires extent { unsigned_abs extent ≤ max_difference }
     ensures { result ≡ int_signum turn *ℤ (turn *ℤ start +ℤ across *ℤ extent) }
 {
-    turn.signum() * (scaled(turn, start) + scaled(across, extent))
+    turn.signum() * (product(turn, start) + product(across, extent))
 }
 
 /// The point of the lines of two segments, of which the directions have this cross product.
@@ -83,9 +74,9 @@ fn crossing(s: Seg, t: Seg, cross: i128) -> Fraction
     requires s { HasNearEnds s }
     requires t { HasNearEnds t }
     requires cross { cross ≡ turn s t }
-    requires size { unsigned_abs cross ≤ 2 ^ 60 }
+    requires size { unsigned_abs cross ≤ max_cross }
     ensures value { result ≡ crossing s t }
-    ensures size { unsigned_abs result.d ≤ 2 ^ 60 }
+    ensures size { unsigned_abs result.d ≤ max_cross }
 {
     let step = Step::between(s.a, s.b);
     let across = orientation(t.a, t.b, s.a);
@@ -101,9 +92,9 @@ fn intersection(s: Seg, t: Seg, cross: i128) -> Option<Fraction>
     requires s { HasNearEnds s }
     requires t { HasNearEnds t }
     requires cross { cross ≡ turn s t }
-    requires size { unsigned_abs cross ≤ 2 ^ 60 }
+    requires size { unsigned_abs cross ≤ max_cross }
     ensures value { result ≡ intersection s t }
-    ensures size { IfSome result (λ p. unsigned_abs p.d ≤ 2 ^ 60) }
+    ensures size { IfSome result (λ p. unsigned_abs p.d ≤ max_cross) }
 {
     // The point is on both lines, so only the places of the ends are left to test.
     let p = crossing(s, t, cross);
@@ -114,23 +105,12 @@ fn intersection(s: Seg, t: Seg, cross: i128) -> Option<Fraction>
     }
 }
 
-/// Whether `a` stands before `b`, by x, then y.
-fn is_before(a: Point, b: Point) -> bool
-    ensures { result ≡ point_before a b }
-{
-    a.x < b.x || a.x == b.x && a.y < b.y
-}
-
 /// The ends of a segment, the earlier one first.
 fn ends_in_order(s: Seg) -> (Point, Point)
     ensures first { result.0 ≡ earlier_end s }
     ensures last { result.1 ≡ later_end s }
 {
-    if is_before(s.b, s.a) {
-        (s.b, s.a)
-    } else {
-        (s.a, s.b)
-    }
+    if s.b < s.a { (s.b, s.a) } else { (s.a, s.b) }
 }
 
 /// The middle between two points.
@@ -144,29 +124,30 @@ fn middle(a: Point, b: Point) -> Fraction
     }
 }
 
+/// The first and the last point that two segments on one line have in common, where they have one.
+fn common_ends(s: Seg, t: Seg) -> (Point, Point)
+    ensures first { result.0 ≡ common_first s t }
+    ensures last { result.1 ≡ common_last s t }
+{
+    let (s_first, s_last) = ends_in_order(s);
+    let (t_first, t_last) = ends_in_order(t);
+    let first = if s_first < t_first { t_first } else { s_first };
+    let last = if s_last < t_last { s_last } else { t_last };
+    (first, last)
+}
+
 /// The middle of what two parallel segments have in common.
 fn overlap(s: Seg, t: Seg) -> Option<Fraction>
     requires s { HasNearEnds s }
     requires t { HasNearEnds t }
     ensures value { result ≡ overlap s t }
-    ensures size { IfSome result (λ p. unsigned_abs p.d ≤ 2 ^ 60) }
+    ensures size { IfSome result (λ p. unsigned_abs p.d ≤ max_cross) }
 {
-    let (s_first, s_last) = ends_in_order(s);
-    let (t_first, t_last) = ends_in_order(t);
-    let first = if is_before(s_first, t_first) {
-        t_first
-    } else {
-        s_first
-    };
-    let last = if is_before(s_last, t_last) {
-        s_last
-    } else {
-        t_last
-    };
-    if orientation(s.a, s.b, t.a) == 0 && !is_before(last, first) {
-        Some(middle(first, last))
-    } else {
+    let (first, last) = common_ends(s, t);
+    if orientation(s.a, s.b, t.a) != 0 || last < first {
         None
+    } else {
+        Some(middle(first, last))
     }
 }
 
@@ -175,7 +156,7 @@ pub fn any_common(s: Seg, t: Seg) -> Option<Fraction>
     requires s { HasNearEnds s }
     requires t { HasNearEnds t }
     ensures value { result ≡ any_common s t }
-    ensures size { IfSome result (λ p. unsigned_abs p.d ≤ 2 ^ 60) }
+    ensures size { IfSome result (λ p. unsigned_abs p.d ≤ max_cross) }
 {
     let cross = Step::between(s.a, s.b).cross(Step::between(t.a, t.b));
     if cross == 0 {
@@ -187,7 +168,7 @@ pub fn any_common(s: Seg, t: Seg) -> Option<Fraction>
 
 /// Whether the point is an end at which the segments may meet.
 pub fn is_permitted(shared: Shared, s: Seg, t: Seg, p: Fraction) -> bool
-    requires denominator { unsigned_abs p.d ≤ 2 ^ 60 }
+    requires denominator { unsigned_abs p.d ≤ max_cross }
     requires near { HasNearEnds s }
     ensures { result ≡ is_permitted shared s t p }
 {

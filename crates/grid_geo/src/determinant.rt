@@ -1,9 +1,11 @@
 //! Cross products of steps between grid points, in 128 bits.
 
-ghost use Rattle.std.specs.Prelude.{◌≡◌, ◌≤◌, ◌^◌, ◌-ℤ◌, ◌*ℤ◌, unsigned_abs};
+ghost use Rattle.std.specs.Prelude.{◌≡◌, ◌≤◌, ◌-ℤ◌, ◌*ℤ◌, unsigned_abs};
+ghost use Rattle.tgap_model.specs.Bounds.{IsNear, max_cross};
 ghost use Rattle.tgap_model.specs.Point.{cross};
-ghost use Rattle.grid_geo.specs.Sizes.{IsNear, IsShort};
+ghost use Rattle.grid_geo.specs.Sizes.{IsShort};
 
+use crate::arithmetic::{difference, product};
 use tgap_model::Point;
 
 /// How far one point is from another along each axis.
@@ -11,13 +13,6 @@ use tgap_model::Point;
 pub struct Step {
     pub x: i64,
     pub y: i64,
-}
-
-/// The product of two coordinates.
-fn product(a: i64, b: i64) -> i128
-    ensures { result ≡ a *ℤ b }
-{
-    i128::from(a) * i128::from(b)
 }
 
 impl Step {
@@ -40,9 +35,11 @@ impl Step {
         requires first { IsShort self }
         requires second { IsShort other }
         ensures value { result ≡ self.x *ℤ other.y -ℤ self.y *ℤ other.x }
-        ensures size { unsigned_abs result ≤ 2 ^ 60 }
+        ensures size { unsigned_abs result ≤ max_cross }
     {
-        product(self.x, other.y) - product(self.y, other.x)
+        let left = product(i128::from(self.x), other.y);
+        let right = product(i128::from(self.y), other.x);
+        difference(left, right)
     }
 }
 
@@ -52,7 +49,7 @@ pub fn orientation(a: Point, b: Point, c: Point) -> i128
     requires b { IsNear b }
     requires c { IsNear c }
     ensures value { result ≡ cross a b c }
-    ensures size { unsigned_abs result ≤ 2 ^ 60 }
+    ensures size { unsigned_abs result ≤ max_cross }
 {
     Step::between(a, b).cross(Step::between(a, c))
 }

@@ -1,13 +1,17 @@
 //! The order of directions round a point.
 
-ghost use Rattle.std.specs.Prelude.{◌≡◌, ◌==◌};
+ghost use Rattle.std.specs.Prelude.{◌≡◌};
 ghost use Rattle.tgap_model.specs.Segment.{half_turn};
 
 use tgap_model::Point;
 
-/// Whether `p` is above `o`, or right of it at the same height: the first half turn from the direction of positive x.
-pub fn is_in_first_half(o: Point, p: Point) -> bool
-    ensures { result ≡ (half_turn o p == 0) }
+/// 0 for a direction that goes up, or to positive x; 1 for the others.
+pub fn half_turn(o: Point, p: Point) -> u8
+    ensures { result ≡ half_turn o p }
 {
-    o.y < p.y || o.y == p.y && o.x < p.x
+    if o.y < p.y || o.y == p.y && o.x < p.x {
+        0
+    } else {
+        1
+    }
 }

@@ -6,16 +6,21 @@ ghost use Rattle.std.specs.Prelude.{◌≡◌, ◌≢◌, pos, true, IsTrue, IfS
 ghost use Rattle.tgap_model.specs.Base.{in_limits};
 ghost use Rattle.tgap_model.specs.Point.{side, area2};
 ghost use Rattle.tgap_model.specs.Segment.{HaveInCommon, common_point, turns_before};
+ghost use Rattle.grid_geo.specs.Directions.{order_round};
 
+mod arithmetic;
+mod boxes;
 mod common;
 mod determinant;
 mod direction;
 mod height;
 
+pub use boxes::boxes_apart;
 use common::{any_common, is_permitted};
 use determinant::orientation;
-use direction::is_in_first_half;
+use direction::half_turn;
 pub use height::cmp_on_line;
+use std::cmp::Ordering;
 pub use tgap_model::Shared;
 use tgap_model::{Fraction, Point, Seg};
 
@@ -41,12 +46,13 @@ pub fn area2(a: Point, b: Point, c: Point) -> i128
 
 /// A point that both segments hold and that is no end at which they may meet, or None exactly where there is none.
 ///
-/// Of segments that are not parallel it is the point of their lines; its denominator is the absolute cross product of their
-/// directions, and the fraction is not reduced. Of segments on one line it is the middle of the common part, over 2.
-/// The first segment has two different ends; the second may be a single point. A flag of `shared` permits the end of the
-/// first segment that it names.
+/// Of segments that are not parallel it is the point of their lines; its denominator is the absolute cross product of
+/// their directions, and the fraction is not reduced. Of segments on one line it is the middle of the common part, over 2.
+/// The first segment has two different ends; the second may be a single point. A flag of `shared` permits the end of
+/// the first segment that it names.
 pub fn common_point(s: Seg, t: Seg, shared: Shared) -> Option<Fraction>
-    requires ends { (IsTrue (in_limits s.a) × IsTrue (in_limits s.b)) × (IsTrue (in_limits t.a) × IsTrue (in_limits t.b)) }
+    requires s { IsTrue (in_limits s.a) × IsTrue (in_limits s.b) }
+    requires t { IsTrue (in_limits t.a) × IsTrue (in_limits t.b) }
     requires apart { s.a ≢ s.b }
     ensures value { result ≡ common_point s t shared }
     // It is on both segments, and no permitted end.
@@ -62,6 +68,20 @@ pub fn common_point(s: Seg, t: Seg, shared: Shared) -> Option<Fraction>
     }
 }
 
+/// The order of the directions from `o` to `p` and to `q`, counter-clockwise from the direction of positive x: Less
+/// where that to `p` comes first, Equal where they are one.
+pub fn cmp_round(o: Point, p: Point, q: Point) -> Ordering
+    requires o { IsTrue (in_limits o) }
+    requires p { IsTrue (in_limits p) × (o ≢ p) }
+    requires q { IsTrue (in_limits q) × (o ≢ q) }
+    ensures { result ≡ order_round o p q }
+{
+    match half_turn(o, p).cmp(&half_turn(o, q)) {
+        Ordering::Equal => 0.cmp(&orientation(o, p, q)),
+        order => order,
+    }
+}
+
 /// Whether the direction from `o` to `p` comes before that to `q`, counter-clockwise from the direction of positive x.
 pub fn turn_before(o: Point, p: Point, q: Point) -> bool
     requires o { IsTrue (in_limits o) }
@@ -69,11 +89,5 @@ pub fn turn_before(o: Point, p: Point, q: Point) -> bool
     requires q { IsTrue (in_limits q) × (o ≢ q) }
     ensures { result ≡ turns_before o p q }
 {
-    let first = is_in_first_half(o, p);
-    let second = is_in_first_half(o, q);
-    if first == second {
-        orientation(o, p, q) > 0
-    } else {
-        first
-    }
+    cmp_round(o, p, q) == Ordering::Less
 }

@@ -1,10 +1,11 @@
-//! Whether the segments of a base map have no point in common but permitted ones. It stands on `grid_geo`, which finds the
-//! common point of two segments, and on `tgap_model`, whose `Partition` defines the least pair that meets.
+//! Whether the segments of a base map have no point in common but permitted ones. It stands on `grid_geo`, which finds
+//! the common point of two segments, and on `tgap_model`, whose `Partition` defines the least pair that meets.
 #![tactic(auto)]
 
 ghost use Rattle.std.specs.Prelude.{◌≡◌, IfOk, Ok, Some, None, option_map, AllPairs};
 ghost use Rattle.tgap_model.specs.Partition.{AreApart, base_segments, meeting_fault};
-ghost use Rattle.planar_apart.specs.Meetings.{meets, IsMeeting};
+ghost use Rattle.tgap_model.specs.Evidence.{IsFirstMeeting};
+ghost use Rattle.planar_apart.specs.Meetings.{meets};
 
 mod meeting;
 mod pair;
@@ -15,10 +16,11 @@ use std::alloc::Global;
 use std::thread::Threads;
 use tgap_model::{Base, Memory, base_segments};
 
-/// The least pair of segments that meet where they may not, with a point that both hold, or None exactly where there is none.
+/// The least pair of segments that meet where they may not, with a point that both hold, or None exactly where there is
+/// none.
 ///
-/// Every pair of segments is looked at, so the cost is the square of their number; a pair whose bounding boxes are apart
-/// costs a few comparisons.
+/// Every pair of segments is looked at, so the cost is the square of their number; a pair whose bounding boxes are
+/// apart costs a few comparisons.
 pub fn first_meeting<R: Threads + Sync>(
     _rt: &R,
     alloc: Global,
@@ -26,8 +28,8 @@ pub fn first_meeting<R: Threads + Sync>(
 ) -> Result<Option<Meeting>, Memory>
     // It is the least pair by the definition.
     ensures exact { IfOk result (λ found. option_map meets found ≡ meeting_fault base.now) }
-    // The two have the point in common, and it is no end at which they may meet.
-    ensures found { (m : Meeting) → result ≡ Ok (Some m) → IsMeeting (base_segments base.now) m }
+    // The two have the point in common, it is no end at which they may meet, and all lesser pairs are apart.
+    ensures found { (m : Meeting) → result ≡ Ok (Some m) → IsFirstMeeting (base_segments base.now) m.i m.j m.at }
     // There is none only where all pairs are apart.
     ensures apart { result ≡ Ok None → AllPairs AreApart (base_segments base.now) }
 {

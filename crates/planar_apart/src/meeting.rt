@@ -1,9 +1,9 @@
 //! The least pair of segments that meet.
 
-ghost use Rattle.std.specs.Prelude.{◌≡◌, ◌<◌, ◌≤◌, ◌+◌, ◌^◌, IsTrue, length, drop, get_or, option_map};
+ghost use Rattle.std.specs.Prelude.{◌≡◌, ◌<◌, ◌^◌, IsTrue, length, option_map};
 ghost use Rattle.std.specs.List.{list_all};
-ghost use Rattle.tgap_model.specs.Partition.{is_proper, first_meeting_of, meeting_from};
-ghost use Rattle.planar_apart.specs.Meetings.{meets};
+ghost use Rattle.tgap_model.specs.Partition.{is_proper, meeting_from};
+ghost use Rattle.planar_apart.specs.Meetings.{meets, IsFirstAfter};
 
 use crate::pair::meeting_point;
 use tgap_model::{Fraction, LabelledSegment};
@@ -21,7 +21,7 @@ fn first_after(segments: &[LabelledSegment], i: usize) -> Option<Meeting>
     requires inside { i < length segments.now }
     requires proper { IsTrue (list_all is_proper segments.now) }
     requires few { length segments.now < 2 ^ 32 }
-    ensures { (d : LabelledSegment) → option_map meets result ≡ first_meeting_of i (get_or segments.now i d) (i + 1) (drop (i + 1) segments.now) }
+    ensures { IsFirstAfter segments.now i result }
 {
     for j in i + 1..segments.len() {
         if let Some(at) = meeting_point(&segments[i], &segments[j]) {

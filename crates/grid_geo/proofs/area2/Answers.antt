@@ -1,5 +1,5 @@
 -- Points within the limits are near.
-use Rattle.grid_geo.proofs.Sizes.{near}
+use Rattle.tgap_model.proofs.Points.{near_point as near}
 use Rattle.grid_geo.proofs.area2.Goals as goal
 
 pub orientation-requires-clause-a : goal.orientation-requires-clause-a

@@ -1,7 +1,8 @@
 -- The sign of a cross product fits 8 bits.
 use Rattle.std.proofs.Common.{ap, ◌∙◌}
 use Rattle.std.specs.Int.{int_signum}
-use Rattle.grid_geo.proofs.Sizes.{near, sign_fits, sign_cast}
+use Rattle.tgap_model.proofs.Points.{near_point as near}
+use Rattle.grid_geo.proofs.Sizes.{sign_fits, sign_cast}
 use Rattle.grid_geo.proofs.side.Goals as goal
 
 pub orientation-requires-clause-a : goal.orientation-requires-clause-a

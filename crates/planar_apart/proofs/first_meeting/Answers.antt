@@ -1,7 +1,7 @@
 use Rattle.std.proofs.Common.{◌≡◌, Some, None, option_map, sym, ap, ◌∙◌}
 use Rattle.tgap_model.specs.Partition.{base_segments, meeting_from}
 use Rattle.planar_apart.specs.Meetings.{meets}
-use Rattle.planar_apart.proofs.Pairs.{all_apart, is_meeting}
+use Rattle.planar_apart.proofs.Pairs.{all_apart, is_first}
 use Rattle.planar_apart.proofs.first_meeting.Goals as goal
 
 pub returns-clause-found : goal.returns-clause-found
@@ -9,7 +9,7 @@ returns-clause-found g c = λ m e.
     let listed = c.in_ok-segments.ensures.listed in
     let found : c.first_pair.result ≡ Some m = cc in
     let search = sym (c.first_pair.ensures ∙ ap (meeting_from 0) (c.as_slice.ensures ∙ listed)) ∙ ap (option_map meets) found in
-    is_meeting (base_segments c.args.base.now) m (rw (sym listed) c.in_ok-segments.ensures.proper) search
+    is_first (base_segments c.args.base.now) m (rw (sym listed) c.in_ok-segments.ensures.proper) search
 
 pub returns-clause-apart : goal.returns-clause-apart
 returns-clause-apart g c = λ e.

@@ -1,5 +1,5 @@
-use Rattle.planar_apart.proofs.Boxes.{none_below}
-use Rattle.planar_apart.proofs.pair.lies_below.Goals as goal
+use Rattle.grid_geo.proofs.Disjoint.{none_below}
+use Rattle.grid_geo.proofs.boxes.lies_below.Goals as goal
 
 pub returns-then-is_below : goal.returns-then-is_below
 returns-then-is_below c = λ t.

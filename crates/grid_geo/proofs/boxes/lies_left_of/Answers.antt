@@ -1,5 +1,5 @@
-use Rattle.planar_apart.proofs.Boxes.{none_left}
-use Rattle.planar_apart.proofs.pair.lies_left_of.Goals as goal
+use Rattle.grid_geo.proofs.Disjoint.{none_left}
+use Rattle.grid_geo.proofs.boxes.lies_left_of.Goals as goal
 
 pub returns-then-is_left_of : goal.returns-then-is_left_of
 returns-then-is_left_of c = λ t.
