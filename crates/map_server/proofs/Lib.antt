@@ -1,3 +1,4 @@
 pub mod Labels
 pub mod Statuses
 pub mod Loads
+pub mod Says

@@ -14,10 +14,12 @@ use Rattle.plain_io.specs.declared.files.LoadFail.TheVariants.{Failed, TooLong}
 use Rattle.plain_io.specs.Loads.{Told, Untold, Missing, Holds, OfFile, CountsLoad, OthersStay}
 use Rattle.map_server.specs.declared.outcome.Outcome.{Outcome}
 use Rattle.map_server.specs.declared.outcome.Outcome.TheVariants.{LoadFault, Refused, OutOfMemory}
-use Rattle.map_server.specs.Outcomes.{IsOfFiles}
+use Rattle.plain_io.specs.Taking.{Refuses}
+use Rattle.std.specs.Result.{IsErrAnd}
+use Rattle.map_server.specs.Outcomes.{IsOfFiles, refusal}
 use Rattle.map_server.specs.Command.{Source, Listing}
 use Rattle.map_server.specs.MapFile.{Contents, FileName, files_of_map, IsMapFile, IsRefusedFile, read_map, OfMap, of_map}
-use Rattle.map_server.specs.Answers.{Answering, Fetches, KeepCounts, MayHold, ReadsMap}
+use Rattle.map_server.specs.Answers.{Answering, Fetches, KeepCounts, MayHold, ReadsListing, ReadsMap}
 
 -- there are lists of each length
 list_of : (n : ℕ) → (xs : List ℕ) × (length xs ≡ n)
@@ -65,6 +67,13 @@ one_rises n before now tells others told kind = elim (same_kind n.which kind) [
   | inr apart ↦ inl (others kind apart)
 ]
 
+-- the counts after a load that failed and is told so
+pub load_failed : (n : FileName) (before now : Which → ℕ) → OthersStay n.which before now
+    → let told : Which → Result (List ℕ) Outcome = λ kind. Err (LoadFault kind) in KeepCounts (n ∷ []) before now (λ kind. told n.which ≡ told kind)
+load_failed n before now others =
+    let told : Which → Result (List ℕ) Outcome = λ kind. Err (LoadFault kind) in
+    one_rises n before now (λ kind. told n.which ≡ told kind) others refl
+
 -- ---- maps
 
 -- what comes where the file of a listing is not had
@@ -84,18 +93,28 @@ not_fetched name told rose o (inr (inr long)) = by (told Map name) refl long.1
     by Missing e h = absurd h
     by (Holds bytes) e h = refused bytes h (subst (λ (t : Told). OfFile t (λ held. bytes ≡ held)) (sym e) refl)
 
--- what comes where the bytes that were had are the listing of no map
-pub not_read : (name : List ℕ) (told : Which → List ℕ → Told) (rose : Which → Type 0) (bytes : List ℕ) (fault : MapFault) (o : Outcome)
-    → length bytes ≤ MAX_MAP_BYTES → OfFile (told Map name) (λ held. bytes ≡ held) → listing bytes ≡ Err fault → ((m : BaseMap) → ¬ (IsListing bytes m))
-    → o ≡ Refused fault → ReadsMap (Listing name) told rose (Err o)
-not_read name told rose bytes fault o fits held e none is =
-    inr (inr ((λ kind. bytes), (held, tt), (fault, is, inr (fits, e, none), rw (le-ltb MAX_MAP_BYTES (length bytes) fits) e)))
+-- the same, as it is passed on
+pub passed_on : (name : List ℕ) (told : Which → List ℕ → Told) (rose : Which → Type 0) (o : Outcome) (r : Result BaseMap Outcome)
+    → IsErrAnd r (λ p. p ≡ o) → Fetches (told Map name) MAX_MAP_BYTES Map (rose Map) (Err o) → ReadsMap (Listing name) told rose r
+passed_on name told rose o (Ok m) same h = absurd same
+passed_on name told rose o (Err p) same h = rw same (not_fetched name told rose o h)
 
-pub read_is : (name : List ℕ) (told : Which → List ℕ → Told) (rose : Which → Type 0) (bytes : List ℕ) (m : BaseMap)
-    → length bytes ≤ MAX_MAP_BYTES → OfFile (told Map name) (λ held. bytes ≡ held) → listing bytes ≡ Ok m → IsListing bytes m
-    → ReadsMap (Listing name) told rose (Ok m)
-read_is name told rose bytes m fits held e is =
-    ((λ kind. bytes), (held, tt), (fits, is), rw (le-ltb MAX_MAP_BYTES (length bytes) fits) e)
+-- what comes of bytes that were had
+pub of_bytes : (name : List ℕ) (told : Which → List ℕ → Told) (rose : Which → Type 0) (bytes : List ℕ) (r : Result BaseMap Outcome)
+    → (length bytes ≤ MAX_MAP_BYTES) × OfFile (told Map name) (λ held. bytes ≡ held) → ReadsListing bytes r → ReadsMap (Listing name) told rose r
+of_bytes name told rose bytes (Ok m) h read =
+    ((λ kind. bytes), (h.1, tt), (h.0, read.0), rw (le-ltb MAX_MAP_BYTES (length bytes) h.0) read.1)
+of_bytes name told rose bytes (Err o) h (inl memory) = inr (inl memory)
+of_bytes name told rose bytes (Err o) h (inr read) =
+    inr (inr ((λ kind. bytes), (h.1, tt), (read.0, read.1, inr (h.0, read.2, read.3), rw (le-ltb MAX_MAP_BYTES (length bytes) h.0) read.2)))
+
+-- what comes of a listing that is refused
+pub not_listed : (bytes : List ℕ) (e : Or MapFault) (r : Result BaseMap Outcome) → IsErrAnd r (λ o. o ≡ refusal e) → Refuses e (listing bytes)
+    → (let told : Or MapFault → Result BaseMap (Or MapFault) = λ x. Err x in
+    (fault : MapFault) → told e ≡ told (Fault fault) → (m : BaseMap) → ¬ (IsListing bytes m)) → ReadsListing bytes r
+not_listed bytes e (Ok m) gives refuses none = absurd gives
+not_listed bytes (Fault fault) (Err o) gives refuses none = inr (fault, gives, refuses, none fault refl)
+not_listed bytes Memory (Err o) gives refuses none = inl gives
 
 -- ---- what comes of a map
 

@@ -3,6 +3,7 @@ use Rattle.std.specs.Prelude.{◌≡◌, ◌⊎◌, ◌<◌, ◌≤◌, ℕ, Lis
 use Rattle.tgap_model.specs.declared.fault.MapFault.{MapFault}
 use Rattle.tgap_model.specs.declared.fault.MapFault.TheVariants.{InputLong}
 use Rattle.tgap_model.specs.Base.{BaseMap}
+use Rattle.tgap_model.specs.Listing.{IsListing, listing}
 use Rattle.plain_io.specs.declared.files.Which.{Which}
 use Rattle.plain_io.specs.Loads.{Told, Missing, OfFile}
 use Rattle.plain_io.specs.Puts.{Appends}
@@ -60,6 +61,13 @@ Fetches told max which rose (Ok text) = (length text ≤ max) × OfFile told (λ
 Fetches told max which rose (Err outcome) =
     ((outcome ≡ LoadFault which) × rose)
     ⊎ ((outcome ≡ OutOfMemory) ⊎ ((outcome ≡ Refused (InputLong max)) × OfFile told (λ bytes. max < length bytes)))
+
+-- a listing is read, or what comes of it
+abbrev pub ReadsListing : List ℕ → Result BaseMap Outcome → Type 0
+ReadsListing bytes (Ok m) = IsListing bytes m × (listing bytes ≡ Ok m)
+ReadsListing bytes (Err outcome) =
+    (outcome ≡ OutOfMemory)
+    ⊎ ((fault : MapFault) × (outcome ≡ Refused fault) × (listing bytes ≡ Err fault) × ((m : BaseMap) → ¬ (IsListing bytes m)))
 
 -- a map is read, or what comes of it
 abbrev pub ReadsMap : Source → (Which → List ℕ → Told) → (Which → Type 0) → Result BaseMap Outcome → Type 0

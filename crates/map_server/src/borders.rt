@@ -41,9 +41,9 @@ pub fn answer<F: Files>(
     step: u32,
     files: &mut F,
 ) -> Result<Text, Outcome>
-    ensures answers { AnswersCommand (spec.Borders (source_of map) step) (F.told files.old)
+    ensures answers { AnswersCommand (spec.Borders (source_of map.entry) step) (F.told files.old)
         (λ kind. Rose (F.faults files.old kind) (F.faults files.new kind)) (outcome_from result) }
-    ensures counts { KeepCounts (files_of_map (source_of map)) (F.faults files.old) (F.faults files.new)
+    ensures counts { KeepCounts (files_of_map (source_of map.entry)) (F.faults files.old) (F.faults files.new)
         (λ kind. outcome_from result ≡ outcome.LoadFault kind) }
 {
     let base = load_map(alloc, map, files)?;

@@ -39,9 +39,9 @@ pub fn answer<R: Threads + Sync, F: Files>(
     map: Source<'_>,
     files: &mut F,
 ) -> Result<Text, Outcome>
-    ensures answers { AnswersCommand (spec.Check (source_of map)) (F.told files.old)
+    ensures answers { AnswersCommand (spec.Check (source_of map.entry)) (F.told files.old)
         (λ kind. Rose (F.faults files.old kind) (F.faults files.new kind)) (outcome_from result) }
-    ensures counts { KeepCounts (files_of_map (source_of map)) (F.faults files.old) (F.faults files.new)
+    ensures counts { KeepCounts (files_of_map (source_of map.entry)) (F.faults files.old) (F.faults files.new)
         (λ kind. outcome_from result ≡ outcome.LoadFault kind) }
 {
     let base = load_map(alloc, map, files)?;

@@ -1,10 +1,11 @@
 //! Files, and the maps that are read from them.
 
-ghost use Rattle.std.specs.Prelude.{◌≡◌, [], ◌∷◌, Err};
+ghost use Rattle.std.specs.Prelude.{◌≡◌, ◌≤◌, [], ◌∷◌, length, Err};
 ghost use Rattle.plain_io.specs.Faults.{Rose};
 ghost use Rattle.map_server.specs.declared.outcome.Outcome.TheVariants as outcome;
 ghost use Rattle.map_server.specs.Asked.{source_of};
-ghost use Rattle.map_server.specs.Answers.{Fetches, ReadsMap, KeepCounts};
+ghost use Rattle.map_server.specs.Command as spec;
+ghost use Rattle.map_server.specs.Answers.{Fetches, ReadsListing, ReadsMap, KeepCounts};
 ghost use Rattle.map_server.specs.MapFile.{files_of_map};
 
 use crate::command::Source;
@@ -34,18 +35,35 @@ fn load<F: Files>(
     }
 }
 
+/// The base map of these bytes, or what comes where they are the listing of none.
+fn read_base(alloc: Global, bytes: &[u8]) -> Result<Base, Outcome>
+    requires { length bytes.now ≤ MAX_MAP_BYTES }
+    ensures { ReadsListing bytes.now result }
+{
+    Ok(read_listing(alloc, bytes)?)
+}
+
+/// The base map that the listing in a file spells, or what comes where none does.
+fn load_listing<F: Files>(alloc: Global, name: &str, files: &mut F) -> Result<Base, Outcome>
+    ensures read { ReadsMap (spec.Listing name.now) (F.told files.old) (λ kind. Rose (F.faults files.old kind) (F.faults files.new kind)) result }
+    ensures counts { KeepCounts (files_of_map (spec.Listing name.now)) (F.faults files.old) (F.faults files.new)
+        (λ kind. result ≡ Err (outcome.LoadFault kind)) }
+{
+    let text = load(alloc, Which::Map, name, MAX_MAP_BYTES, files)?;
+    read_base(alloc, text.as_slice())
+}
+
 /// The base map that is read from its source, or what comes where none is.
 pub fn load_map<F: Files>(
     alloc: Global,
     source: Source<'_>,
     files: &mut F,
 ) -> Result<Base, Outcome>
-    ensures read { ReadsMap (source_of source) (F.told files.old) (λ kind. Rose (F.faults files.old kind) (F.faults files.new kind)) result }
-    ensures counts { KeepCounts (files_of_map (source_of source)) (F.faults files.old) (F.faults files.new)
+    ensures read { ReadsMap (source_of source.entry) (F.told files.old) (λ kind. Rose (F.faults files.old kind) (F.faults files.new kind)) result }
+    ensures counts { KeepCounts (files_of_map (source_of source.entry)) (F.faults files.old) (F.faults files.new)
         (λ kind. result ≡ Err (outcome.LoadFault kind)) }
 {
-    let Source::Listing(name) = source;
-    let text = load(alloc, Which::Map, name, MAX_MAP_BYTES, files)?;
-    let base = read_listing(alloc, text.as_slice())?;
-    Ok(base)
+    match source {
+        Source::Listing(name) => load_listing(alloc, name, files),
+    }
 }
