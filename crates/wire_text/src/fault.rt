@@ -1,6 +1,6 @@
 //! The text of a fault.
 
-ghost use Rattle.std.specs.Prelude.{◌≡◌, ◌++◌, ◌∷◌, map, IfOk, OnOk};
+ghost use Rattle.std.specs.Prelude.{◌≡◌, ◌++◌, ◌∷◌, [], map, codes, IfOk, OnOk};
 ghost use Rattle.std.specs.Fmt.{signed_decimal};
 ghost use Rattle.tgap_model.specs.declared.fault.MapFault.TheVariants as variant;
 ghost use Rattle.tgap_model.specs.Texts.{line, refused_words, fault_text};
@@ -97,22 +97,35 @@ pub fn fault_text(alloc: Global, fault: &MapFault) -> Result<Text, Memory>
 fn limit_text(alloc: Global, which: LimitKind, count: u64) -> Result<Text, Memory>
     ensures { IfOk result (λ text. text ≡ fault_text (variant.Limit which count)) }
 {
-    let count = i128::from(count);
-    match which {
-        LimitKind::Classes => refused(alloc, b"9", b"limit classes", &[count]),
-        LimitKind::Faces => refused(alloc, b"9", b"limit faces", &[count]),
-        LimitKind::Arcs => refused(alloc, b"9", b"limit arcs", &[count]),
-        LimitKind::Points => refused(alloc, b"9", b"limit points", &[count]),
-    }
+    let mut text = named(alloc, b"9", b"limit")?;
+    put_word(&mut text, which.word().as_bytes())?;
+    shown(alloc, text, &[i128::from(count)])
 }
 
 /// The line of the fault of this number and name, with the numbers that show it.
 fn refused(alloc: Global, number: &[u8], name: &[u8], values: &[i128]) -> Result<Text, Memory>
-    ensures { IfOk result (λ text. text ≡ line (refused_words number.now name.now (map signed_decimal values.now))) }
+    ensures { IfOk result
+        (λ text. text ≡ line (refused_words number.now name.now (map signed_decimal values.now))) }
+{
+    let text = named(alloc, number, name)?;
+    shown(alloc, text, values)
+}
+
+/// The line of the fault of this number and name, before what shows it.
+fn named(alloc: Global, number: &[u8], name: &[u8]) -> Result<Text, Memory>
+    ensures { IfOk result (λ text. text ≡ codes "refused" ++ fields (number.now ∷ name.now ∷ [])) }
 {
     let mut text = Text::from_slice(alloc, b"refused")?;
     put_word(&mut text, number)?;
     put_word(&mut text, name)?;
+    Ok(text)
+}
+
+/// The line that is begun by this text, and ends with these numbers.
+fn shown(alloc: Global, begun: Text, values: &[i128]) -> Result<Text, Memory>
+    ensures { IfOk result (λ text. text ≡ begun ++ fields (map signed_decimal values.now) ++ 10 ∷ []) }
+{
+    let mut text = begun;
     put_fields(alloc, &mut text, values)?;
     text.push_slice(b"\n")?;
     Ok(text)

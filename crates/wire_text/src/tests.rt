@@ -1,7 +1,9 @@
-//! Each fault beside its text.
-use crate::{borders_text, fault_text};
+//! Each fault and each text beside its bytes.
+use crate::{borders_text, fault_text, ok_text, step_too_high_text};
 use std::test::Fail;
-use tgap_model::{BorderRow, Fraction, LimitKind, List, MapFault, Point};
+use tgap_model::{
+    Base, BaseArc, BorderRow, Fraction, LimitKind, List, MapFault, Memory, Point, Rules, Transform,
+};
 
 #[test]
 fn faults(rt: HostRuntime) -> Result<(), Fail> {
@@ -141,4 +143,46 @@ fn borders(rt: HostRuntime) -> Result<(), Fail> {
         b"borders 7\nborder 0 3 0\nborder 4 1 5\nend\n".as_slice()
     );
     Ok(())
+}
+
+#[test]
+fn answers(rt: HostRuntime) -> Result<(), Fail> {
+    let alloc = rt.alloc();
+    let mut points = List::new(alloc);
+    for (x, y) in [(0, 0), (5, 0), (0, 5), (0, 0)] {
+        points.push(Point { x, y })?;
+    }
+    let mut arcs = List::new(alloc);
+    arcs.push(BaseArc {
+        left: 1,
+        right: 0,
+        points,
+    })?;
+    let transform = Transform {
+        sx: 1,
+        sy: 1,
+        tx: 0,
+        ty: 0,
+    };
+    let rules = Rules {
+        ratio: 2,
+        weights: one_number(&rt, 7)?,
+        compat: one_number(&rt, 0)?,
+    };
+    let base = Base::new(transform, rules, one_number(&rt, 0)?, arcs).ok_or("no base map")?;
+    assert_eq!(rt;
+        ok_text(alloc, &base)?.as_slice(),
+        b"ok faces 1 arcs 1 points 4\n".as_slice()
+    );
+    assert_eq!(rt;
+        step_too_high_text(alloc, 12)?.as_slice(),
+        b"step too high 12\n".as_slice()
+    );
+    Ok(())
+}
+
+fn one_number(rt: &HostRuntime, number: u32) -> Result<List<u32>, Memory> {
+    let mut numbers = List::new(rt.alloc());
+    numbers.push(number)?;
+    Ok(numbers)
 }
