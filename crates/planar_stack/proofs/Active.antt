@@ -1,5 +1,5 @@
 -- The stack of the segments that have begun: what enters it, what leaves it, and that it is the stack of the line one half beyond.
-use Rattle.std.proofs.Common.{◌≡◌, ◌⊎◌, inl, inr, ⊎_elim, ℕ, ◌+◌, ◌<◌, Bool, true, false, cond, ◌||◌, List, [], ◌∷◌, ◌++◌, length, take, drop, filter, get_or, All, AllPairs, Contains, ℤ, pos, ◌<ℤ◌, ◌≤ℤ◌, int_lt, refl, sym, ap, ◌∙◌, subst, true≢false, not, arith}
+use Rattle.std.proofs.Common.{◌≡◌, ◌⊎◌, inl, inr, ⊎_elim, ℕ, ◌+◌, ◌<◌, Bool, true, false, cond, ◌||◌, List, [], ◌∷◌, ◌++◌, length, take, drop, filter, get_or, All, AllPairs, Contains, ℤ, ◌<ℤ◌, ◌≤ℤ◌, int_lt, refl, sym, ap, ◌∙◌, subst, true≢false, not, arith}
 use Rattle.std.specs.Int.{int_min, int_max}
 use Rattle.std.specs.Ordering.{int_eq}
 use Rattle.std.proofs.lemmas.Int.{ints}
@@ -178,10 +178,6 @@ stack_from_active segments starts begun v found apart r a later = sorted_same (o
         let was = a.into z c in
         let start = Contains-permutation starts (filter is_slanted segments) z (IsPermutation-sym (filter is_slanted segments) starts r.moved) (Contains-from_take begun starts z was.0) in
         Contains-sort_by (higher_after v) (filter (crossed_after v) segments) z (Contains-filter (crossed_after v) segments z (Contains-from_filter is_slanted segments z start).0 was.1)
-
--- what stands past the end of a list of segments
-abbrev pub no_segment : LabelledSegment
-no_segment = record { segment = record { a = record { x = pos 0; y = pos 0 }; b = record { x = pos 0; y = pos 0 } }; left = 0; right = 0; arc = 0; place = 0; starts = false; ends = false }
 
 -- ---- what is known of its members, and of the starts that are left
 

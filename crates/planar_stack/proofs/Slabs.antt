@@ -13,6 +13,7 @@ use Rattle.tgap_model.specs.declared.fault.MapFault.{MapFault}
 use Rattle.tgap_model.specs.declared.fault.MapFault.TheVariants.{StackDisagrees}
 use Rattle.tgap_model.specs.Segment.{Line, IsBetweenColumns, line_after, passes}
 use Rattle.tgap_model.specs.Partition.{AreApart, Sides, sides, stack, agree_from, stack_fault_from, stack_fault, first_fault, abscissas, all_but_last}
+use Rattle.tgap_model.proofs.FirstFault.{faults_none, none_from_faults}
 use Rattle.planar_stack.specs.Sweep.{FacesAgree, crossed_after, higher_after}
 use Rattle.lemmas.proofs.Members.{in_head, in_tail, in_cases, All-from_members, filter_agree_on, filter_none, related_members}
 use Rattle.lemmas.proofs.Ascending.{distinct_by-is_sorted, Contains-distinct_by, int_lt_decides, above_head}
@@ -186,21 +187,6 @@ locate l columns (x ∷ xs) s = by_lt_z l.a (l.c *ℤ x)
         between u v e (All-cons (Outside u v) x (y ∷ ys) (inl (le_from_lt less)) none) (in_tail x (all_but_last (y ∷ ys)) u c)
 
 -- ---- faults
-
-pub faults_none : {A : Type 0} (find : A → Option MapFault) (xs : List A) → first_fault find xs ≡ None → All (λ x. find x ≡ None) xs
-faults_none find [] e = All-nil (λ x. find x ≡ None)
-faults_none find (x ∷ xs) e = by (find x) refl e (faults_none find xs)
-  where
-    by : (o : Option MapFault) → find x ≡ o → ◌≡◌ {A = Option MapFault} (elim o [ None ↦ first_fault find xs | Some fault ↦ Some fault ]) None → (first_fault find xs ≡ None → All (λ y. find y ≡ None) xs)
-        → All (λ y. find y ≡ None) (x ∷ xs)
-    by None here h rest = All-cons (λ y. find y ≡ None) x xs here (rest h)
-    by (Some fault) here h rest = absurd cc
-
-pub none_from_faults : {A : Type 0} (find : A → Option MapFault) (xs : List A) → All (λ x. find x ≡ None) xs → first_fault find xs ≡ None
-none_from_faults find [] h = refl
-none_from_faults find (x ∷ xs) h =
-    ap (λ (o : Option MapFault). elim o [ None ↦ first_fault find xs | Some fault ↦ Some fault ]) (All-head (λ x. find x ≡ None) x xs h)
-    ∙ none_from_faults find xs (All-tail (λ x. find x ≡ None) x xs h)
 
 -- a stack has no fault exactly where its faces agree
 pub agree_from_no_fault : (v : ℤ) (i u : ℕ) (ss : List Sides) → stack_fault_from v i u ss ≡ None → agree_from u ss ≡ true

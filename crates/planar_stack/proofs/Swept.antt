@@ -15,13 +15,16 @@ use Rattle.tgap_model.specs.declared.fault.MapFault.{MapFault}
 use Rattle.tgap_model.specs.Segment.{line_after}
 use Rattle.tgap_model.specs.Partition.{AreApart, stack, stack_fault, first_fault, abscissas, all_but_last}
 use Rattle.tgap_model.specs.declared.failure.Memory.{Memory}
+use Rattle.tgap_model.proofs.FirstFault.{none_from_faults}
 use Rattle.planar_stack.specs.declared.gap.StackGap.{StackGap}
-use Rattle.grid_geo.specs.Heights.{is_near}
-use Rattle.planar_stack.specs.Sweep.{FacesAgree, disagrees, EitherApart, is_slanted, left_end, right_end, crossed_after, higher_after, AreStarts, AreReady, IsActive}
+use Rattle.tgap_model.specs.Bounds.{HasNearEnds}
+use Rattle.planar_stack.specs.Sweep.{FacesAgree, disagrees, first_stack_fault, EitherApart, is_slanted, left_end, right_end, crossed_after, higher_after, AreStarts, AreReady, IsActive}
 use Rattle.std.proofs.lemmas.List.Sums.{length-filter, count_by-le-length}
 use Rattle.lemmas.proofs.Members.{in_cases, All-from_members, Contains-from_filter}
 use Rattle.lemmas.proofs.Ascending.{distinct_by-is_sorted, ascending, from_place}
-use Rattle.planar_stack.proofs.Slabs.{BothEnds, ends_from_abscissas, end_abscissas, none_from_faults, agree_from_faults, no_faults_from_agree}
+use Rattle.planar_stack.proofs.Slabs.{BothEnds, ends_from_abscissas, end_abscissas, agree_from_faults, no_faults_from_agree}
+use Rattle.tgap_model.specs.Evidence.{IsFirstStackGap}
+use Rattle.planar_stack.proofs.Evidence.{first_stack_gap}
 use Rattle.planar_stack.proofs.Active.{ends_from_slanted, active_none, active_out}
 
 -- Before line i: the stack is that of the line before, all other starts begin at line i or after it, and no line before has a fault.
@@ -32,11 +35,11 @@ pub record IsSwept (segments : List LabelledSegment) (lines : List ℤ) (starts 
 
 -- ---- the starts
 
-pub ready_starts : (segments starts : List LabelledSegment) → AllPairs AreApart segments → All (λ s. is_near s.segment ≡ true) segments → AreStarts segments starts → AreReady starts
+pub ready_starts : (segments starts : List LabelledSegment) → AllPairs AreApart segments → All (λ s. HasNearEnds s.segment) segments → AreStarts segments starts → AreReady starts
 ready_starts segments starts apart near r = record {
   apart = AllPairs-permutation EitherApart (λ s t. ⊎_elim inr inl) (filter is_slanted segments) starts r.moved
       (λ i j d less short. inl (AllPairs-filter AreApart is_slanted segments apart i j d less short));
-  near = All-permutation (λ s. is_near s.segment ≡ true) (filter is_slanted segments) starts r.moved (All-filter is_slanted (λ s. is_near s.segment ≡ true) segments near);
+  near = All-permutation (λ s. HasNearEnds s.segment) (filter is_slanted segments) starts r.moved (All-filter is_slanted (λ s. HasNearEnds s.segment) segments near);
   slanted = All-permutation (λ s. left_end s <ℤ right_end s) (filter is_slanted segments) starts r.moved
       (All-weaker (λ s. is_slanted s ≡ true) (λ s. left_end s <ℤ right_end s) ends_from_slanted (filter is_slanted segments) (filter_passes is_slanted segments));
   ascend = r.ascend;
@@ -153,7 +156,7 @@ no_gap (Some g) fault e here = absurd cc
 
 -- the answer for these segments
 abbrev pub IsAnswer : List LabelledSegment → Option StackGap → Type 0
-IsAnswer segments gap = option_map disagrees gap ≡ first_fault (stack_fault segments) (all_but_last (abscissas segments))
+IsAnswer segments gap = option_map disagrees gap ≡ first_stack_fault segments
 
 -- without a gap the faces agree
 pub answer_agrees : (segments : List LabelledSegment) (found : Result (Option StackGap) Memory) → AllPairs AreApart segments → IfOk found (IsAnswer segments) → found ≡ Ok None → FacesAgree segments
@@ -166,3 +169,8 @@ answer_only segments found answer = IfOk-weaker found (IsAnswer segments) (λ ga
     none : (gap : Option StackGap) → option_map disagrees gap ≡ None → gap ≡ None
     none None e = refl
     none (Some g) e = absurd cc
+
+-- a gap is the first one
+pub answer_shown : (segments : List LabelledSegment) (found : Result (Option StackGap) Memory) (g : StackGap) → IfOk found (IsAnswer segments) → found ≡ Ok (Some g)
+    → IsFirstStackGap segments g.line g.place g.upper g.lower
+answer_shown segments found g answer some = first_stack_gap segments g.line g.place g.upper g.lower (sym (IfOk-at_ok (IsAnswer segments) some answer))

@@ -1,5 +1,6 @@
--- What the sweep keeps: which segments have begun, and the stack of those that cross the line one half beyond an abscissa.
-use Rattle.std.specs.Prelude.{◌≡◌, ◌⊎◌, ◌<◌, ◌≤◌, ℕ, Bool, true, ℤ, ◌<ℤ◌, ◌≤ℤ◌, List, length, take, map, filter, not, All, AllPairs, Contains, IsPermutation, get_or}
+-- What the sweep keeps: which segments have begun, and the stack of those that cross the line one half beyond an
+-- abscissa.
+use Rattle.std.specs.Prelude.{◌≡◌, ◌⊎◌, ◌<◌, ◌≤◌, ℕ, Bool, true, ℤ, ◌<ℤ◌, ◌≤ℤ◌, List, length, take, map, filter, not, All, AllPairs, Contains, IsPermutation, get_or, Option}
 use Rattle.std.specs.Int.{int_min, int_max}
 use Rattle.std.specs.Ordering.{int_eq}
 use Rattle.lemmas.specs.Sorting.{is_sorted_by}
@@ -7,8 +8,8 @@ use Rattle.tgap_model.specs.declared.segment.LabelledSegment.{LabelledSegment}
 use Rattle.tgap_model.specs.declared.fault.MapFault.{MapFault}
 use Rattle.tgap_model.specs.declared.fault.MapFault.TheVariants.{StackDisagrees}
 use Rattle.tgap_model.specs.Segment.{Line, IsBetweenColumns, line_after, crosses, is_higher}
-use Rattle.tgap_model.specs.Partition.{AreApart, sides, stack, agree_from}
-use Rattle.grid_geo.specs.Heights.{is_near}
+use Rattle.tgap_model.specs.Bounds.{HasNearEnds}
+use Rattle.tgap_model.specs.Partition.{AreApart, sides, stack, agree_from, stack_fault, first_fault, abscissas, all_but_last}
 use Rattle.planar_stack.specs.declared.gap.StackGap.{StackGap}
 
 -- ---- the property
@@ -20,6 +21,10 @@ FacesAgree segments = (l : Line) → IsBetweenColumns l → agree_from 0 (map si
 -- the fault that a gap is
 abbrev pub disagrees : StackGap → MapFault
 disagrees g = StackDisagrees g.line g.place g.upper g.lower
+
+-- the first fault down the lines one half beyond the abscissas
+abbrev pub first_stack_fault : List LabelledSegment → Option MapFault
+first_stack_fault segments = first_fault (stack_fault segments) (all_but_last (abscissas segments))
 
 -- ---- heights
 
@@ -48,19 +53,26 @@ is_slanted s = not (int_eq s.segment.a.x s.segment.b.x)
 abbrev pub EitherApart : LabelledSegment → LabelledSegment → Type 0
 EitherApart s t = AreApart s t ⊎ AreApart t s
 
+-- the segments stand in the order in which they begin
+abbrev pub BeginInOrder : List LabelledSegment → Type 0
+BeginInOrder starts =
+    (i j : ℕ) (d : LabelledSegment) → i ≤ j → j < length starts
+    → left_end (get_or starts i d) ≤ℤ left_end (get_or starts j d)
+
 -- The starts of these segments: those that are not vertical, in the order in which they begin.
 pub record AreStarts (segments starts : List LabelledSegment) : Type 0 where
   pub moved : IsPermutation (filter is_slanted segments) starts
-  pub ascend : (i j : ℕ) (d : LabelledSegment) → i ≤ j → j < length starts → left_end (get_or starts i d) ≤ℤ left_end (get_or starts j d)
+  pub ascend : BeginInOrder starts
 
 -- starts that are apart, and whose ends keep to the limits
 pub record AreReady (starts : List LabelledSegment) : Type 0 where
   pub apart : AllPairs EitherApart starts
-  pub near : All (λ s. is_near s.segment ≡ true) starts
+  pub near : All (λ s. HasNearEnds s.segment) starts
   pub slanted : All (λ s. left_end s <ℤ right_end s) starts
-  pub ascend : (i j : ℕ) (d : LabelledSegment) → i ≤ j → j < length starts → left_end (get_or starts i d) ≤ℤ left_end (get_or starts j d)
+  pub ascend : BeginInOrder starts
 
--- The stack of those of the first starts that cross the line one half beyond v, where all of them begin at v or before it.
+-- The stack of those of the first starts that cross the line one half beyond v, where all of them begin at v or before
+-- it.
 pub record IsActive (v : ℤ) (starts : List LabelledSegment) (begun : ℕ) (found : List LabelledSegment) : Type 0 where
   pub within : begun ≤ length starts
   pub sorted : is_sorted_by (higher_after v) found ≡ true

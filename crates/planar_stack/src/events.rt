@@ -1,8 +1,8 @@
 //! The abscissas at which the sweep stops, and the segments in the order in which they begin.
 
-ghost use Rattle.std.specs.Prelude.{◌≡◌, filter, IfOk};
+ghost use Rattle.std.specs.Prelude.{◌≡◌, IfOk};
 ghost use Rattle.tgap_model.specs.Partition.{abscissas};
-ghost use Rattle.planar_stack.specs.Sweep.{left_end as left_of, right_end as right_of, is_slanted, AreStarts};
+ghost use Rattle.planar_stack.specs.Sweep.{left_end as left_of, right_end as right_of, AreStarts};
 
 use std::alloc::Global;
 use tgap_model::{LabelledSegment, Memory};
@@ -25,7 +25,7 @@ pub fn right_end(s: &LabelledSegment) -> i64
 pub fn abscissas_of(alloc: Global, segments: &[LabelledSegment]) -> Result<Vec<i64>, Memory>
     ensures { IfOk result (λ found. found.items ≡ abscissas segments.now) }
 {
-    let mut found = Vec::new(alloc);
+    let mut found = Vec::with_capacity(alloc, 2 * segments.len())?;
     for s in segments {
         found.push(s.segment.a.x)?;
         found.push(s.segment.b.x)?;
@@ -35,26 +35,12 @@ pub fn abscissas_of(alloc: Global, segments: &[LabelledSegment]) -> Result<Vec<i
     Ok(found)
 }
 
-/// The segments that are not vertical.
-fn slanted(alloc: Global, segments: &[LabelledSegment]) -> Result<Vec<LabelledSegment>, Memory>
-    ensures { IfOk result (λ found. found.items ≡ filter is_slanted segments.now) }
-{
-    let found = segments
-        .iter()
-        .filter(|s| s.segment.a.x != s.segment.b.x)
-        .copied()
-        .collect(alloc)?;
-    Ok(found)
-}
-
 /// The segments that are not vertical, in the order in which they begin.
-pub fn starts_of(
-    alloc: Global,
-    segments: &[LabelledSegment],
-) -> Result<Vec<LabelledSegment>, Memory>
-    ensures { IfOk result (λ found. AreStarts segments.now found.items) }
+pub fn starts_of(segments: Vec<LabelledSegment>) -> Vec<LabelledSegment>
+    ensures { AreStarts segments.items result.items }
 {
-    let mut found = slanted(alloc, segments)?;
-    found.sort_by_key(|s| left_end(s))?;
-    Ok(found)
+    let mut starts = segments;
+    starts.retain(|s| s.segment.a.x != s.segment.b.x);
+    starts.sort_unstable_by_key(|s| left_end(s));
+    starts
 }

@@ -7,8 +7,8 @@ ghost use Rattle.planar_stack.specs.Sweep.{disagrees};
 
 use tgap_model::{LabelledSegment, MapFault};
 
-/// Where the faces down a stack disagree: on the line one half beyond the abscissa `line`, below `place` segments, the face
-/// `upper` that is reached from above meets the face `lower` that stands there. Either is 0 for the outside.
+/// Where the faces down a stack disagree: on the line one half beyond the abscissa `line`, below `place` segments, the
+/// face `upper` that is reached from above meets the face `lower` that stands there. Either is 0 for the outside.
 #[derive(Clone, Copy, Debug, PartialEq, Eq)]
 pub struct StackGap {
     pub line: i64,

@@ -1,11 +1,12 @@
-//! Whether the faces of a base map agree down each vertical line: a line sweeps the map from left to right and keeps the
-//! segments that it crosses in the order of their heights. It stands on `tgap_model`, whose `Partition` defines the
+//! Whether the faces of a base map agree down each vertical line: a line sweeps the map from left to right and keeps
+//! the segments that it crosses in the order of their heights. It stands on `tgap_model`, whose `Partition` defines the
 //! property, and on `grid_geo`, which compares heights.
 #![tactic(auto)]
 
-ghost use Rattle.std.specs.Prelude.{◌≡◌, AllPairs, IfOk, Ok, None};
+ghost use Rattle.std.specs.Prelude.{◌≡◌, AllPairs, IfOk, Ok, Some, None};
 ghost use Rattle.std.specs.Option.{option_map};
 ghost use Rattle.tgap_model.specs.Partition.{AreApart, base_segments, stack_fault_of};
+ghost use Rattle.tgap_model.specs.Evidence.{IsFirstStackGap};
 ghost use Rattle.planar_stack.specs.Sweep.{FacesAgree, disagrees};
 
 mod events;
@@ -21,11 +22,11 @@ use tgap_model::{Base, Memory};
 /// The first stack of a base map that disagrees, or None where the faces agree down each vertical line between whole
 /// abscissas.
 ///
-/// It reads the lines one half beyond each abscissa of a vertex that has a next one, from left to right. The gap has the
-/// abscissa, in grid units, and the first place from the top at which a face and the next one differ. The segments have
-/// to be apart: where two of them meet, they have no order of heights. The cost is the number of segments on all those
-/// lines together, and for each segment that comes in the logarithm of their number. It fails on want of memory alone.
-/// The threads of `rt` have no use yet. The sweep is that of Shamos and Hoey, 1976.
+/// It reads the lines one half beyond each abscissa of a vertex that has a next one, from left to right. The gap has
+/// the abscissa, in grid units, and the first place from the top at which a face and the next one differ. The segments
+/// have to be apart: where two of them meet, they have no order of heights. The cost is the number of segments on all
+/// those lines together, and for each segment that comes in the logarithm of their number. It fails on want of memory
+/// alone. The threads of `rt` have no use yet. The sweep is that of Shamos and Hoey, 1976.
 pub fn first_disagreement<R: Threads + Sync>(
     _rt: &R,
     alloc: Global,
@@ -34,10 +35,13 @@ pub fn first_disagreement<R: Threads + Sync>(
     requires apart { AllPairs AreApart (base_segments base.now) }
     // The gap is the fault that the definition of the property names.
     ensures exact { IfOk result (λ found. option_map disagrees found ≡ stack_fault_of base.now) }
+    // What it names differs there, at no higher place of the line, and on no line before.
+    ensures found { (g : StackGap) → result ≡ Ok (Some g)
+        → IsFirstStackGap (base_segments base.now) g.line g.place g.upper g.lower }
     // Without a gap the faces agree down each line between whole abscissas, and where they agree there is none.
     ensures agree { result ≡ Ok None → FacesAgree (base_segments base.now) }
     ensures only { IfOk result (λ found. FacesAgree (base_segments base.now) → found ≡ None) }
 {
     let segments = segments_of(alloc, base)?;
-    first_gap(alloc, segments.as_slice())
+    first_gap(alloc, segments.into_vec())
 }

@@ -1,13 +1,14 @@
-//! The sweep: from abscissa to abscissa the segments that end there leave the stack, and those that begin there come in.
+//! The sweep: from abscissa to abscissa the segments that end there leave the stack, and those that begin there come
+//! in.
 
 ghost use Rattle.std.specs.Prelude.{◌≡◌, ◌<◌, ◌≤◌, ◌<ℤ◌, ◌^◌, length, drop, filter, AllPairs, IfOk, OnOk, IsTrue, int_lt};
 ghost use Rattle.std.specs.List.{All, insert};
 ghost use Rattle.std.specs.Option.{option_map};
 ghost use Rattle.lemmas.specs.Sorting.{insert_by, is_sorted_by};
-ghost use Rattle.tgap_model.specs.Partition.{AreApart, abscissas, all_but_last, base_segments, first_fault, stack_fault};
+ghost use Rattle.tgap_model.specs.Bounds.{HasNearEnds};
+ghost use Rattle.tgap_model.specs.Partition.{AreApart, base_segments};
 ghost use Rattle.tgap_model.specs.declared.limits.TheConstants.{MAX_POINTS};
-ghost use Rattle.grid_geo.specs.Heights.{is_near};
-ghost use Rattle.planar_stack.specs.Sweep.{disagrees, left_end as left_of, right_end as right_of, crossed_after, higher_after, AreReady, IsActive};
+ghost use Rattle.planar_stack.specs.Sweep.{disagrees, left_end as left_of, right_end as right_of, crossed_after, higher_after, AreReady, IsActive, first_stack_fault};
 
 use crate::events::{abscissas_of, left_end, right_end, starts_of};
 use crate::gap::{StackGap, gap_of};
@@ -19,7 +20,7 @@ use tgap_model::{Base, LabelledSegment, List, Memory, base_segments};
 /// The segments of a base map, of which there are few, and whose ends keep to the limits.
 pub fn segments_of(alloc: Global, base: &Base) -> Result<List<LabelledSegment>, Memory>
     ensures value { IfOk result (λ segments. segments ≡ base_segments base.now) }
-    ensures near { IfOk result (λ segments. All (λ s. IsTrue (is_near s.segment)) segments) }
+    ensures near { IfOk result (λ segments. All (λ s. HasNearEnds s.segment) segments) }
     ensures few { IfOk result (λ segments. length segments ≤ MAX_POINTS) }
 {
     base_segments(alloc, base)
@@ -28,9 +29,9 @@ pub fn segments_of(alloc: Global, base: &Base) -> Result<List<LabelledSegment>, 
 /// The place of a segment in a stack: above the first segment that it is higher than.
 fn place_of(stack: &[LabelledSegment], s: &LabelledSegment, line: i64) -> usize
     requires sorted { IsTrue (is_sorted_by (higher_after line) stack.now) }
-    requires near { All (λ t. IsTrue (is_near t.segment)) stack.now }
+    requires near { All (λ t. HasNearEnds t.segment) stack.now }
     requires crossed { All (λ t. IsTrue (crossed_after line t)) stack.now }
-    requires near_s { IsTrue (is_near s.now.segment) }
+    requires near_s { HasNearEnds s.now.segment }
     requires crossed_s { IsTrue (crossed_after line s.now) }
     ensures place { result ≤ length stack.now }
     ensures value { insert stack.now result s.now ≡ insert_by (higher_after line) s.now stack.now }
@@ -55,8 +56,8 @@ fn remove_ended(stack: &mut Vec<LabelledSegment>, line: i64)
     stack.retain(|s| right_end(s) > line);
 }
 
-/// Puts the segments that begin at an abscissa into the stack, where the first `next` starts have begun before. It gives
-/// how many have begun then.
+/// Puts the segments that begin at an abscissa into the stack, where the first `next` starts have begun before. It
+/// gives how many have begun then.
 fn insert_begun(
     stack: &mut Vec<LabelledSegment>,
     starts: &[LabelledSegment],
@@ -81,14 +82,14 @@ fn insert_begun(
 }
 
 /// The first gap of all stacks, from left to right.
-pub fn first_gap(alloc: Global, segments: &[LabelledSegment]) -> Result<Option<StackGap>, Memory>
-    requires apart { AllPairs AreApart segments.now }
-    requires near { All (λ s. IsTrue (is_near s.segment)) segments.now }
-    requires few { length segments.now ≤ MAX_POINTS }
-    ensures { IfOk result (λ found. option_map disagrees found ≡ first_fault (stack_fault segments.now) (all_but_last (abscissas segments.now))) }
+pub fn first_gap(alloc: Global, segments: Vec<LabelledSegment>) -> Result<Option<StackGap>, Memory>
+    requires apart { AllPairs AreApart segments.items }
+    requires near { All (λ s. HasNearEnds s.segment) segments.items }
+    requires few { length segments.items ≤ MAX_POINTS }
+    ensures { IfOk result (λ found. option_map disagrees found ≡ first_stack_fault segments.items) }
 {
-    let lines = abscissas_of(alloc, segments)?;
-    let starts = starts_of(alloc, segments)?;
+    let lines = abscissas_of(alloc, &segments)?;
+    let starts = starts_of(segments);
     let mut stack = Vec::new(alloc);
     let mut next = 0;
     for i in 1..lines.len() {

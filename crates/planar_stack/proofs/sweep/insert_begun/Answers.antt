@@ -5,21 +5,22 @@ use Rattle.std.specs.Int.{w64}
 use Rattle.std.proofs.lemmas.Int.{ints}
 use Rattle.lemmas.specs.Sorting.{insert_by}
 use Rattle.tgap_model.specs.declared.segment.LabelledSegment.{LabelledSegment}
-use Rattle.grid_geo.specs.Heights.{is_near}
+use Rattle.tgap_model.specs.Bounds.{HasNearEnds}
 use Rattle.planar_stack.specs.Sweep.{crossed_after, higher_after, right_end, IsActive}
+use Rattle.tgap_model.proofs.Proper.{no_segment}
 use Rattle.lemmas.proofs.Members.{All-from_drop}
-use Rattle.planar_stack.proofs.Active.{active_members, active_in, crossed_from_ends, all_later, no_segment}
+use Rattle.planar_stack.proofs.Active.{active_members, active_in, crossed_from_ends, all_later}
 use Rattle.planar_stack.proofs.sweep.insert_begun.Goals as goal
 
 pub place_of-place-requires-clause-near : goal.place_of-place-requires-clause-near
 place_of-place-requires-clause-near c =
-    subst (λ (ss : List LabelledSegment). All (λ s. is_near s.segment ≡ true) ss) (sym c.deref.ensures.value)
-    (active_members _ c.args.starts.now c.loop-begun.begun c.loop-begun.stack.items c.loop-begun.invariant.active (λ s. is_near s.segment ≡ true) c.requires.ready.near).0
+    subst (λ (ss : List LabelledSegment). All (λ s. HasNearEnds s.segment) ss) (sym c.deref.ensures.value)
+    (active_members _ c.args.starts.now c.loop-begun.begun c.loop-begun.stack.items c.loop-begun.invariant.active (λ s. HasNearEnds s.segment) c.requires.ready.near).0
 
 pub place_of-place-requires-clause-crossed : goal.place_of-place-requires-clause-crossed
 place_of-place-requires-clause-crossed c =
     subst (λ (ss : List LabelledSegment). All (λ s. crossed_after (to_z w64 (of_z w64 c.args.line)) s ≡ true) ss) (sym c.deref.ensures.value)
-    (active_members _ c.args.starts.now c.loop-begun.begun c.loop-begun.stack.items c.loop-begun.invariant.active (λ s. is_near s.segment ≡ true) c.requires.ready.near).1
+    (active_members _ c.args.starts.now c.loop-begun.begun c.loop-begun.stack.items c.loop-begun.invariant.active (λ s. HasNearEnds s.segment) c.requires.ready.near).1
 
 pub place_of-place-requires-clause-crossed_s : goal.place_of-place-requires-clause-crossed_s
 place_of-place-requires-clause-crossed_s c =
