@@ -1,2 +1,4 @@
 pub mod Ways
 pub mod Climb
+pub mod Backwards
+pub mod Jumps
