@@ -1,4 +1,5 @@
 pub mod Ways
 pub mod Climb
+pub mod Live
 pub mod Backwards
 pub mod Jumps

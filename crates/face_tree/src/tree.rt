@@ -78,20 +78,26 @@ impl FaceTree {
         self.parents[face as usize]
     }
 
-    /// The number of the step that makes the face, 0 for a face of the base map, and of the step that merges it, S + 1
-    /// for a root. The face is live from the first to before the second.
+    /// The number of the step that merges a face, S + 1 for a root.
+    fn merged_at(&self, face: u32) -> u32
+        requires { IsFace self.now face }
+        ensures { result ≡ high_step self.now face }
+    {
+        match self.parent(face) {
+            Some(parent) => parent - self.faces,
+            None => self.steps.len() as u32 + 1,
+        }
+    }
+
+    /// The number of the step that makes a face, 0 for a face of the base map, and that of the step that merges it, S + 1
+    /// for a root. The face is live after as many steps as the first, and until before the second.
     pub fn range(&self, face: u32) -> (u32, u32)
         requires { IsFace self.now face }
         ensures low { result.0 ≡ low_step self.now face }
         ensures high { result.1 ≡ high_step self.now face }
         ensures live { (k : ℕ) → k ≤ length self.now.steps → IsTrue (is_live self.now k face) ↔ ((result.0 ≤ k) × (k < result.1)) }
     {
-        let low = face.saturating_sub(self.faces);
-        let high = match self.parents[face as usize] {
-            Some(parent) => parent - self.faces,
-            None => self.steps.len() as u32 + 1,
-        };
-        (low, high)
+        (face.saturating_sub(self.faces), self.merged_at(face))
     }
 
     /// The next face on the way up to those that are live after some steps, of which the last made face `last`: the jump
