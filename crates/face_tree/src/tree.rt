@@ -41,15 +41,15 @@ impl FaceTree {
         requires { IsHistory base.now steps.now }
         ensures { IfOk result (λ tree. tree ≡ face_history (record { base = base.now; steps = steps.now })) }
     {
-        let faces = base.classes().len() as u32;
-        let steps = Vec::from_slice(alloc, steps.as_slice())?;
-        let classes = classes_of(alloc, base.classes().as_slice(), steps.as_slice())?;
-        let parents = parents_of(alloc, faces, steps.as_slice())?;
+        let steps = steps.as_slice();
+        let classes = base.classes().as_slice();
+        let faces = classes.len() as u32;
+        let parents = parents_of(alloc, faces, steps)?;
         let jumps = jumps_of(alloc, parents.as_slice())?;
         Ok(FaceTree {
             faces,
-            steps,
-            classes,
+            steps: Vec::from_slice(alloc, steps)?,
+            classes: classes_of(alloc, classes, steps)?,
             parents,
             jumps,
         })
