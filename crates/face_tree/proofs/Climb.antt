@@ -1,8 +1,9 @@
 -- The way up by parents and jumps, from face to face.
 use Rattle.std.proofs.Common.{◌≡◌, ◌<◌, ◌≤◌, ℕ, ◌+◌, List, length, get_or, Option, Some, None, sym, ap, ◌∙◌, subst, arith}
 use Rattle.std.proofs.lemmas.List.{get_or_read}
-use Rattle.face_tree.specs.Tree.{FaceHistory, last_face, parent_of, label_from, IsJump, IsUp, IsTree}
+use Rattle.face_tree.specs.Tree.{FaceHistory, last_face, parent_of, label_from, IsJump, IsUp, IsTop, IsTree}
 use Rattle.face_tree.proofs.Ways.{parent_above, label_parent, label_itself}
+use Rattle.face_tree.proofs.Live.{top_live}
 
 -- what is read at a face
 pub read_parent : (t : FaceHistory) (parents : List (Option ℕ)) (jumps : List ℕ) (f : ℕ) (o : Option ℕ) → IsTree t parents jumps → f ≤ last_face t
@@ -29,11 +30,16 @@ up_parent t parents jumps k f p h parent near =
     let above = parent_above t.faces t.steps f p h.numbered (sym parent) in
     record { above = above.0; below = near; label = label_parent t.faces t.steps k f p h.numbered (sym parent) near }
 
--- a root is its own label
-pub up_root : (t : FaceHistory) (parents : List (Option ℕ)) (jumps : List ℕ) (k f : ℕ) → IsTree t parents jumps → None ≡ parent_of t f → label_from t k f ≡ f
-up_root t parents jumps k f h root = label_itself t.faces t.steps k f h.numbered (λ p e. absurd cc)
+-- at a root there is no way up
+pub up_root : (t : FaceHistory) (parents : List (Option ℕ)) (jumps : List ℕ) (k f : ℕ) → IsTree t parents jumps → k ≤ length t.steps → f ≤ t.faces + k
+    → None ≡ parent_of t f → IsTop t k f
+up_root t parents jumps k f h inside made root =
+    let own = label_itself t.faces t.steps k f h.numbered (λ p e. absurd cc) in
+    record { label = own; live = top_live t k f h.numbered h.live inside made own }
 
--- and so is a face whose parent is made later
-pub up_late : (t : FaceHistory) (parents : List (Option ℕ)) (jumps : List ℕ) (k f p : ℕ) → IsTree t parents jumps → Some p ≡ parent_of t f → t.faces + k < p
-    → label_from t k f ≡ f
-up_late t parents jumps k f p h parent late = label_itself t.faces t.steps k f h.numbered (λ q e. let same : p ≡ q = cc in omega arith)
+-- nor is there one at a face whose parent is made later
+pub up_late : (t : FaceHistory) (parents : List (Option ℕ)) (jumps : List ℕ) (k f p : ℕ) → IsTree t parents jumps → k ≤ length t.steps → f ≤ t.faces + k
+    → Some p ≡ parent_of t f → t.faces + k < p → IsTop t k f
+up_late t parents jumps k f p h inside made parent late =
+    let own = label_itself t.faces t.steps k f h.numbered (λ q e. let same : p ≡ q = cc in omega arith) in
+    record { label = own; live = top_live t k f h.numbered h.live inside made own }

@@ -1,5 +1,5 @@
 -- The steps at which a face is live: from the one that makes it to before the one that merges it.
-use Rattle.std.proofs.Common.{◌≡◌, ◌<◌, ◌≤◌, ◌⊎◌, inl, inr, ℕ, zero, suc, ◌+◌, ◌-◌, Bool, true, ◌==◌, List, [], ◌∷◌, ◌++◌, length, get_or, take, drop, Option, Some, None, refl, sym, ap, ◌∙◌, subst, arith, append_assoc, eq-eqb}
+use Rattle.std.proofs.Common.{◌≡◌, ◌<◌, ◌≤◌, ◌⊎◌, inl, inr, ℕ, zero, suc, ◌+◌, ◌-◌, Bool, true, false, ◌==◌, List, [], ◌∷◌, ◌++◌, length, get_or, take, drop, Option, Some, None, refl, sym, ap, ◌∙◌, subst, arith, append_assoc, eq-eqb}
 use Rattle.std.specs.Prelude.{IsTrue, ◌↔◌}
 use Rattle.std.specs.List.{list_any, range_with_len}
 use Rattle.std.proofs.lemmas.Bool.{cases_eq, or_cases, or_left, or_right, eqb-true}
@@ -7,8 +7,8 @@ use Rattle.std.proofs.lemmas.Bool.Decides.{leb_tells}
 use Rattle.tgap_model.specs.declared.merge.MergeStep.{MergeStep}
 use Rattle.tgap_model.specs.History.{relabel, label_after, AreNumbered}
 use Rattle.map_laws.proofs.MergeSteps.{numbered_at, relabel_loser, label_next, label_bounded}
-use Rattle.face_tree.specs.Tree.{FaceHistory, IsFace, MergesLive, last_face, is_live, parent_by, parent_of, low_step, high_step, high_by, step_after}
-use Rattle.face_tree.proofs.Ways.{label_up, high_parent, high_root, label_itself, label_late}
+use Rattle.face_tree.specs.Tree.{FaceHistory, IsFace, IsParent, MergesLive, is_live, merges, parent_by, parent_of, low_step, high_step, high_by, step_after}
+use Rattle.face_tree.proofs.Ways.{label_up, merges_or_leaves, parent_left, high_parent, high_root, label_itself, label_late}
 
 -- ---- a test of some numbers in a row
 
@@ -100,9 +100,6 @@ live_in_range t k f h live inside some low early = elim (leb_tells f t.faces) [
       | inr gt ↦ made (f - t.faces - 1) (omega (arith, gt.1))
     ]
   where
-    no_step : MergeStep
-    no_step = record { loser = 0; winner = 0; made = 0 }
-
     made : (i : ℕ) → f ≡ t.faces + suc i → IsLabel t.faces (take k t.steps) f
     made i e =
         let place : i < length t.steps = omega (arith, low, inside) in
@@ -131,3 +128,74 @@ live_range t k f h live inside face = (
       (λ e. in_range t k f h inside (live_to t k f e)),
       (λ r. live_from t k f (live_in_range t k f h live inside face.above r.0 r.1)),
     )
+
+-- ---- the end of the way up
+
+-- a face that is its own label is live
+pub top_live : (t : FaceHistory) (k f : ℕ) → AreNumbered t.faces t.steps → MergesLive t → k ≤ length t.steps → f ≤ t.faces + k → label_up t.faces t.steps k f ≡ f
+    → 0 < f → is_live t k f ≡ true
+top_live t k f h live inside made own some = live_from t k f (live_in_range t k f h live inside some (omega arith) (early (parent_of t f) refl))
+  where
+    early : (o : Option ℕ) → parent_of t f ≡ o → k < high_step t f
+    early None e = omega (arith, high_root t.steps f e)
+    early (Some p) e = omega (arith, high_parent t.faces t.steps f p h e, label_late t.faces t.steps k f f h own p e)
+
+-- ---- the step that merges a face
+
+-- a step that merges a face is none before the first one
+high_within : (steps : List MergeStep) (j f : ℕ) (d : MergeStep) → j < length steps → merges (get_or steps j d) f ≡ true → high_by steps f ≤ j + 1
+high_within [] j f d lt e = absurd (omega arith)
+high_within (s ∷ steps) zero f d lt e =
+    let high : high_by (s ∷ steps) f ≡ 1 = rw e refl in
+    omega (arith, high)
+high_within (s ∷ steps) (suc j) f d lt e = elim (merges_or_leaves s f) [
+      | inl m ↦ let high : high_by (s ∷ steps) f ≡ 1 = rw m refl in omega (arith, high)
+      | inr m ↦
+          let high : high_by (s ∷ steps) f ≡ 1 + high_by steps f = rw m refl in
+          omega (arith, high, high_within steps j f d (omega arith) e)
+    ]
+
+-- none is before step 1
+high_some : (steps : List MergeStep) (f : ℕ) → 0 < high_by steps f
+high_some [] f = omega arith
+high_some (s ∷ steps) f = elim (merges_or_leaves s f) [
+      | inl m ↦ let high : high_by (s ∷ steps) f ≡ 1 = rw m refl in omega (arith, high)
+      | inr m ↦ let high : high_by (s ∷ steps) f ≡ 1 + high_by steps f = rw m refl in omega (arith, high)
+    ]
+
+-- the first one makes the parent
+parent_made : (steps : List MergeStep) (j f : ℕ) (d : MergeStep) → j < length steps → high_by steps f ≡ j + 1 → parent_by steps f ≡ Some (get_or steps j d).made
+parent_made [] j f d lt e = absurd (omega arith)
+parent_made (s ∷ steps) zero f d lt e = elim (merges_or_leaves s f) [
+      | inl m ↦ rw m refl
+      | inr m ↦
+          let high : high_by (s ∷ steps) f ≡ 1 + high_by steps f = rw m refl in
+          absurd (omega (arith, high, high_some steps f))
+    ]
+parent_made (s ∷ steps) (suc j) f d lt e = elim (merges_or_leaves s f) [
+      | inl m ↦ let high : high_by (s ∷ steps) f ≡ 1 = rw m refl in absurd (omega (arith, high))
+      | inr m ↦
+          let high : high_by (s ∷ steps) f ≡ 1 + high_by steps f = rw m refl in
+          parent_left s steps f m ∙ parent_made steps j f d (omega arith) (omega (arith, high))
+    ]
+
+-- a face that no step merges has none
+parent_none : (steps : List MergeStep) (f : ℕ) (d : MergeStep) → ((j : ℕ) → j < length steps → merges (get_or steps j d) f ≡ false) → parent_by steps f ≡ None
+parent_none [] f d none = refl
+parent_none (s ∷ steps) f d none = parent_left s steps f (none 0 (omega arith)) ∙ parent_none steps f d (λ j lt. none (suc j) (omega arith))
+
+-- a face is merged while it is live, so by one step alone
+pub parent_is : (t : FaceHistory) (f : ℕ) → AreNumbered t.faces t.steps → MergesLive t → IsParent t f (parent_of t f)
+parent_is t f h live = record { merged = merged; root = parent_none t.steps f (record { loser = 0; winner = 0; made = 0 }) }
+  where
+    lives : (j : ℕ) → j < length t.steps → merges (step_after t j) f ≡ true → is_live t j f ≡ true
+    lives j lt e = elim (or_cases (f == (step_after t j).loser) (f == (step_after t j).winner) e) [
+      | inl l ↦ rw (eqb-true f (step_after t j).loser l) (live.loser j lt)
+      | inr w ↦ rw (eqb-true f (step_after t j).winner w) (live.winner j lt)
+    ]
+
+    merged : (j : ℕ) → j < length t.steps → IsTrue (merges (step_after t j) f) → parent_of t f ≡ Some (step_after t j).made
+    merged j lt e =
+        let range = in_range t j f h (omega arith) (live_to t j f (lives j lt e)) in
+        let within = high_within t.steps j f (record { loser = 0; winner = 0; made = 0 }) lt e in
+        parent_made t.steps j f (record { loser = 0; winner = 0; made = 0 }) lt (omega (arith, range.1))

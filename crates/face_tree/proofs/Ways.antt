@@ -22,7 +22,7 @@ merged_below n s f h e = below (or_cases (f == s.loser) (f == s.winner) e)
     below (inr e) = omega (arith, eqb-true f s.winner e, h.winner)
 
 -- it merges a face or leaves it
-merges_or_leaves : (s : MergeStep) (f : ℕ) → (merges s f ≡ true) ⊎ (merges s f ≡ false)
+pub merges_or_leaves : (s : MergeStep) (f : ℕ) → (merges s f ≡ true) ⊎ (merges s f ≡ false)
 merges_or_leaves s f = by (merges s f) refl
   where
     by : (b : Bool) → merges s f ≡ b → (merges s f ≡ true) ⊎ (merges s f ≡ false)
@@ -90,7 +90,7 @@ parent_merged s steps f p e m =
     let made : parent_by (s ∷ steps) f ≡ Some s.made = rw m refl in
     cc
 
-parent_left : (s : MergeStep) (steps : List MergeStep) (f : ℕ) → merges s f ≡ false → parent_by (s ∷ steps) f ≡ parent_by steps f
+pub parent_left : (s : MergeStep) (steps : List MergeStep) (f : ℕ) → merges s f ≡ false → parent_by (s ∷ steps) f ≡ parent_by steps f
 parent_left s steps f m = rw m refl
 
 -- a parent is made by a step, and has a greater number than its child

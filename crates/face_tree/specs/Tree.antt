@@ -1,5 +1,5 @@
 -- The tree of all faces of a map while it is merged: a step makes one face of two, which are its children.
-use Rattle.std.specs.Prelude.{◌≡◌, ◌<◌, ◌≤◌, ◌^◌, ℕ, ◌+◌, ◌-◌, Bool, ◌||◌, ◌==◌, List, [], ◌∷◌, length, take, drop, slice_index, slice_index_or, Option, Some, None, if◌then◌else◌, IsTrue}
+use Rattle.std.specs.Prelude.{◌≡◌, ◌<◌, ◌≤◌, ◌^◌, ℕ, ◌+◌, ◌-◌, Bool, ◌||◌, ◌==◌, List, [], ◌∷◌, length, take, drop, slice_index, slice_index_or, Option, Some, None, if◌then◌else◌, IsTrue, IsFalse}
 use Rattle.std.specs.List.{list_any, range_with_len}
 use Rattle.tgap_model.specs.declared.merge.MergeStep.{MergeStep}
 use Rattle.tgap_model.specs.History.{label_after, AreNumbered}
@@ -29,6 +29,10 @@ pub record IsFace (t : FaceHistory) (f : ℕ) : Type 0 where
 abbrev pub is_live : FaceHistory → ℕ → ℕ → Bool
 is_live t k f = list_any (λ g. label_after (take k t.steps) g == f) (range_with_len 1 t.faces)
 
+-- the step that follows the first j
+abbrev pub step_after : FaceHistory → ℕ → MergeStep
+step_after t j = slice_index_or t.steps j (record { loser = 0; winner = 0; made = 0 })
+
 -- the step merges the face
 abbrev pub merges : MergeStep → ℕ → Bool
 merges s f = (f == s.loser) || (f == s.winner)
@@ -40,6 +44,11 @@ parent_by (s ∷ steps) f = if merges s f then Some s.made else parent_by steps 
 
 abbrev pub parent_of : FaceHistory → ℕ → Option ℕ
 parent_of t f = parent_by t.steps f
+
+-- Of a face that a step merges the parent is the face that the step makes, and a face that no step merges has none.
+pub record IsParent (t : FaceHistory) (f : ℕ) (parent : Option ℕ) : Type 0 where
+  pub merged : (j : ℕ) → j < length t.steps → IsTrue (merges (step_after t j) f) → parent ≡ Some (step_after t j).made
+  pub root : ((j : ℕ) → j < length t.steps → IsFalse (merges (step_after t j) f)) → parent ≡ None
 
 -- the number of the step that makes the face: 0 for a face of the base map
 abbrev pub low_step : FaceHistory → ℕ → ℕ
@@ -56,10 +65,6 @@ high_step t f = high_by t.steps f
 -- the label after k steps of a face that is made by one of them, by the steps after that one
 abbrev pub label_from : FaceHistory → ℕ → ℕ → ℕ
 label_from t k f = label_after (drop (low_step t f) (take k t.steps)) f
-
--- the step that follows the first j
-abbrev pub step_after : FaceHistory → ℕ → MergeStep
-step_after t j = slice_index_or t.steps j (record { loser = 0; winner = 0; made = 0 })
 
 -- each step merges two live faces
 pub record MergesLive (t : FaceHistory) : Type 0 where
@@ -95,6 +100,11 @@ pub record IsUp (t : FaceHistory) (k f u : ℕ) : Type 0 where
   pub above : f < u
   pub below : u ≤ t.faces + k
   pub label : label_from t k f ≡ label_from t k u
+
+-- the end of that way: the face is its own label, and live
+pub record IsTop (t : FaceHistory) (k f : ℕ) : Type 0 where
+  pub label : label_from t k f ≡ f
+  pub live : 0 < f → IsTrue (is_live t k f)
 
 -- what is known of a tree
 pub record IsTree (t : FaceHistory) (parents : List (Option ℕ)) (jumps : List ℕ) : Type 0 where

@@ -2,7 +2,7 @@
 
 ghost use Rattle.std.specs.Prelude.{◌≡◌, ◌≤◌, ◌<◌, ◌+◌, ◌↔◌, ℕ, length, take, slice_index, IfOk, IsTrue, MatchOption};
 ghost use Rattle.tgap_model.specs.History.{IsHistory, label_after, class_of};
-ghost use Rattle.face_tree.specs.Tree.{IsFace, IsUp, face_history, is_live, label_from, parent_of, low_step, high_step, last_face};
+ghost use Rattle.face_tree.specs.Tree.{IsFace, IsParent, IsTop, IsUp, face_history, is_live, label_from, parent_of, low_step, high_step, last_face};
 
 use crate::build::{classes_of, jumps_of, parents_of};
 use crate::labels::labels_after;
@@ -73,7 +73,8 @@ impl FaceTree {
     /// The face made by the step that merges this one; None exactly for a root.
     pub fn parent(&self, face: u32) -> Option<u32>
         requires { IsFace self.now face }
-        ensures { result ≡ parent_of self.now face }
+        ensures value { result ≡ parent_of self.now face }
+        ensures parent { IsParent self.now face result }
     {
         self.parents[face as usize]
     }
@@ -105,7 +106,7 @@ impl FaceTree {
     fn next_up(&self, face: u32, k: u32) -> Option<u32>
         requires face { face ≤ self.now.faces + k }
         requires steps { k ≤ length self.now.steps }
-        ensures { MatchOption result (label_from self.now k face ≡ face) (λ next. IsUp self.now k face next) }
+        ensures { MatchOption result (IsTop self.now k face) (IsUp self.now k face) }
     {
         let last = self.faces + k;
         let parent = self.parents[face as usize]?;
@@ -125,6 +126,7 @@ impl FaceTree {
         requires steps { k ≤ length self.now.steps }
         ensures label { result ≡ label_from self.now k face }
         ensures base { face ≤ self.now.faces → result ≡ label_after (take k self.now.steps) face }
+        ensures live { 0 < face → IsTrue (is_live self.now k result) }
     {
         let mut label = face;
         while let Some(next) = self.next_up(label, k) {
