@@ -1,0 +1,6 @@
+pub mod Ways
+pub mod Live
+pub mod Climb
+pub mod Merged
+pub mod Backwards
+pub mod Jumps
