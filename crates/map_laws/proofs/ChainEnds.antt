@@ -1,10 +1,10 @@
 -- The ends of border arcs at a node: where the degree is two, a link that ends there has one way on at most.
 use Rattle.std.proofs.Common.{◌≡◌, ◌⊎◌, inl, inr, ℕ, zero, suc, ◌+◌, ◌<◌, ◌≤◌, Bool, true, false, not, cond, ◌&&◌, nat_lt, int_lt, ℤ, List, [], ◌∷◌, length, get_or, refl, sym, ap, ◌∙◌, arith, if◌then◌else◌}
 use Rattle.std.specs.Prelude.{count_by, sum_by}
-use Rattle.std.specs.Ordering.{int_eq, is_eq}
+use Rattle.std.specs.Ordering.{is_eq}
 use Rattle.std.specs.declared.cmp.Ordering.TheVariants.{Less, Equal, Greater}
 use Rattle.std.proofs.lemmas.List.{get_or_default}
-use Rattle.std.proofs.lemmas.Bool.{and_parts, and_from, or_parts, cases_eq, ltb-false, eq-eqb}
+use Rattle.std.proofs.lemmas.Bool.{and_from, or_parts, cases_eq, ltb-false, eq-eqb}
 use Rattle.std.proofs.lemmas.Bool.Decides.{Decides-int_eq}
 use Rattle.std.proofs.lemmas.List.Sums.{sum_by-cons}
 use Rattle.tgap_model.specs.declared.geometry.Point.{Point}
@@ -13,7 +13,7 @@ use Rattle.tgap_model.specs.Base.{same_point}
 use Rattle.tgap_model.specs.Segment.{point_before}
 use Rattle.tgap_model.specs.Merged.{MergedMap, is_border}
 use Rattle.tgap_model.specs.Chains.{first_point, last_point, arc_number, ends_at, degree, step_of_two, joins_before, Link, link_start, link_end}
-use Rattle.tgap_model.proofs.Points.{point_same, same_point-true, same_point-from}
+use Rattle.tgap_model.proofs.Points.{point_same, same_point-from}
 use Rattle.map_laws.proofs.ChainMembers.{Among, two_pass}
 
 -- ---- points

@@ -1,5 +1,5 @@
 -- The first fault that a search finds in a list: the member that has it, and that none before it has any.
-use Rattle.std.proofs.Common.{◌≡◌, ◌⊎◌, inl, inr, Bool, true, false, List, [], ◌∷◌, All, Contains, Option, Some, None, refl, sym, ap, ◌∙◌, subst, true≢false}
+use Rattle.std.proofs.Common.{◌≡◌, inl, inr, Bool, true, false, List, [], ◌∷◌, All, Contains, Option, Some, None, refl, sym, ap, ◌∙◌, subst, true≢false}
 use Rattle.std.proofs.lemmas.List.Elements.{All-nil, All-cons, All-head, All-tail, All-contains}
 use Rattle.lemmas.specs.Sorting.{is_sorted_by, IsStrictOrderOn}
 use Rattle.lemmas.proofs.Sorting.{sorted_head, sorted_tail}

@@ -1,5 +1,5 @@
 -- Points as their coordinates, and within the limits.
-use Rattle.std.proofs.Common.{◌≡◌, ◌≤◌, ℤ, pos, neg_ℤ, unsigned_abs, int_le, ◌&&◌, true, ap, arith}
+use Rattle.std.proofs.Common.{◌≡◌, ◌≤◌, ℤ, neg_ℤ, unsigned_abs, int_le, true, ap, arith}
 use Rattle.std.specs.Ordering.{int_eq}
 use Rattle.std.proofs.lemmas.Bool.{and_parts, and_from}
 use Rattle.std.proofs.lemmas.Bool.Decides.{Decides-int_eq}
