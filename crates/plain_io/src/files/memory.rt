@@ -69,7 +69,8 @@ impl Files for MemoryFiles {
 
 /// The bytes of the first file of that name.
 fn find<'a>(files: &'a [MemoryFile], name: &[u8]) -> Option<&'a [u8]>
-    ensures { let file = file_of files.now name.now in MatchOption result (file ≡ Missing) (λ bytes. file ≡ Holds bytes.now) }
+    ensures { let file = file_of files.now name.now in
+        MatchOption result (file ≡ Missing) (λ bytes. file ≡ Holds bytes.now) }
 {
     for file in files {
         if file.name.as_slice() == name {
