@@ -1,5 +1,5 @@
 -- A base map is a planar partition exactly where it has no fault.
-use Rattle.std.proofs.Common.{◌≡◌, ℕ, ◌+◌, ◌==◌, true, false, List, [], ◌∷◌, All, Option, Some, None, get_or, refl, ap, ◌∙◌, subst₂}
+use Rattle.std.proofs.Common.{◌≡◌, ℕ, ◌+◌, ◌==◌, true, false, List, [], ◌∷◌, All, Option, Some, None, get_or, ap, ◌∙◌, subst₂}
 use Rattle.std.specs.List.{list_all}
 use Rattle.std.proofs.lemmas.Bool.{and_parts}
 use Rattle.std.proofs.lemmas.List.Elements.{All-nil, All-cons, All-append}
@@ -8,7 +8,7 @@ use Rattle.tgap_model.specs.declared.base.BaseArc.{BaseArc}
 use Rattle.tgap_model.specs.declared.segment.LabelledSegment.{LabelledSegment}
 use Rattle.tgap_model.specs.declared.fault.MapFault.{MapFault}
 use Rattle.tgap_model.specs.Base.{BaseMap, is_arc, is_base}
-use Rattle.tgap_model.specs.Partition.{AreApart, AgreesAtNodes, path_segments, arc_segments, base_segments, node_fault, nodes, first_fault, or_else, meeting_fault, ring_fault_of, stack_fault_of, arc_fault, map_fault}
+use Rattle.tgap_model.specs.Partition.{AreApart, AgreesAtNodes, path_segments, arc_segments, base_segments, node_fault, nodes, or_else, meeting_fault, ring_fault_of, stack_fault_of, arc_fault, map_fault}
 use Rattle.tgap_model.specs.declared.geometry.Fraction.{Fraction}
 use Rattle.tgap_model.specs.Evidence.{IsFirstMeeting}
 use Rattle.std.proofs.lemmas.Option.{slice_get_within, get_or_from_slice_get}

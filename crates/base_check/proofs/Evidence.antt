@@ -2,7 +2,7 @@
 -- and no lesser node.
 use Rattle.std.proofs.Common.{◌≡◌, ◌≢◌, ◌⊎◌, inl, inr, ℕ, zero, suc, ◌+◌, ◌<◌, ◌==◌, Bool, true, false, if◌then◌else◌, List, [], ◌∷◌, length, Option, Some, None, refl, sym, ap, ◌∙◌, subst, arith}
 use Rattle.std.specs.List.{slice_get}
-use Rattle.std.proofs.lemmas.Bool.Decides.{nat_tests}
+use Rattle.std.proofs.lemmas.Bool.Decides.{Decides-eqb, not_from_Decides}
 use Rattle.std.proofs.lemmas.Option.{slice_get_within}
 use Rattle.tgap_model.specs.declared.geometry.Point.{Point}
 use Rattle.tgap_model.specs.declared.segment.LabelledSegment.{LabelledSegment}
@@ -14,13 +14,7 @@ use Rattle.tgap_model.specs.Evidence.{next_spoke, AgreesAtSpoke, IsFirstNodeGap}
 use Rattle.tgap_model.proofs.FirstFault.{first_found}
 use Rattle.grid_geo.proofs.PointOrder.{points}
 use Rattle.base_check.proofs.Nodes.{nodes_sorted}
-use Rattle.base_check.proofs.Faults.{at_each_point}
-
-same_face : (m n : ℕ) → (m == n) ≡ true → m ≡ n
-same_face m n e = grind (arith, nat_tests)
-
-other_face : (m n : ℕ) → (m == n) ≡ false → m ≢ n
-other_face m n e f = grind (arith, nat_tests)
+use Rattle.base_check.proofs.Faults.{fault_of, at_each_point}
 
 -- ---- round one node
 
@@ -56,7 +50,7 @@ first_difference v first i (p ∷ []) fault e = by (p.left == first.right) refl 
           at_here = refl;
           next = record { cases = inl (refl, refl, refl) };
           fault_is = sym same ∙ ap (λ (k : ℕ). NodeDisagrees v k 0 p.left first.right) (omega arith);
-          differ = other_face p.left first.right t;
+          differ = not_from_Decides (p.left == first.right) (Decides-eqb p.left first.right) t;
           earlier = λ k x y l. absurd (omega (arith, l));
         }
 first_difference v first i (p ∷ q ∷ ps) fault e = by (p.left == q.right) refl e (first_difference v first (i + 1) (q ∷ ps) fault)
@@ -90,7 +84,7 @@ first_difference v first i (p ∷ q ∷ ps) fault e = by (p.left == q.right) ref
         earlier n h zero x y l a b =
             let first_is : p ≡ x = cc in
             let second_is : q ≡ y = cc in
-            ap (λ (z : Spoke). z.left) (sym first_is) ∙ same_face p.left q.right t ∙ ap (λ (z : Spoke). z.right) second_is
+            ap (λ (z : Spoke). z.left) (sym first_is) ∙ (Decides-eqb p.left q.right).0 t ∙ ap (λ (z : Spoke). z.right) second_is
         earlier n h (suc k) x y l a b =
             let e : suc k + 1 ≡ suc (k + 1) = omega arith in
             h k x y (omega (arith, l)) a (subst (λ (m : ℕ). slice_get (p ∷ q ∷ ps) m ≡ Some y) e b)
@@ -104,7 +98,7 @@ first_difference v first i (p ∷ q ∷ ps) fault e = by (p.left == q.right) ref
           at_here = refl;
           next = record { cases = inr (omega arith, omega arith, refl) };
           fault_is = sym same ∙ ap (λ (k : ℕ). NodeDisagrees v k (i + 1) p.left q.right) (omega arith);
-          differ = other_face p.left q.right t;
+          differ = not_from_Decides (p.left == q.right) (Decides-eqb p.left q.right) t;
           earlier = λ k x y l. absurd (omega (arith, l));
         }
 
@@ -118,7 +112,7 @@ no_difference v first i (p ∷ []) e zero x y a b = by (p.left == first.right) r
         → ((0 + 1 ≡ length (p ∷ [])) × (y ≡ first)) ⊎ (slice_get (p ∷ []) (0 + 1) ≡ Some y) → x.left ≡ y.right
     by true t h (inl c) =
         let here : p ≡ x = cc in
-        ap (λ (z : Spoke). z.left) (sym here) ∙ same_face p.left first.right t ∙ ap (λ (z : Spoke). z.right) (sym c.1)
+        ap (λ (z : Spoke). z.left) (sym here) ∙ (Decides-eqb p.left first.right).0 t ∙ ap (λ (z : Spoke). z.right) (sym c.1)
     by true t h (inr c) = absurd cc
     by false t h c = absurd cc
 no_difference v first i (p ∷ []) e (suc k) x y a b = absurd cc
@@ -132,7 +126,7 @@ no_difference v first i (p ∷ q ∷ ps) e k x y a b = by (p.left == q.right) re
     by true t h rest zero a (inr c) =
         let here : p ≡ x = cc in
         let there : q ≡ y = cc in
-        ap (λ (z : Spoke). z.left) (sym here) ∙ same_face p.left q.right t ∙ ap (λ (z : Spoke). z.right) there
+        ap (λ (z : Spoke). z.left) (sym here) ∙ (Decides-eqb p.left q.right).0 t ∙ ap (λ (z : Spoke). z.right) there
     by true t h rest (suc k) a (inl c) = rest h k x y a (inl (omega (arith, c.0), c.1))
     by true t h rest (suc k) a (inr c) =
         let e : suc k + 1 ≡ suc (k + 1) = omega arith in
@@ -140,10 +134,6 @@ no_difference v first i (p ∷ q ∷ ps) e k x y a b = by (p.left == q.right) re
     by false t h rest k a b = absurd cc
 
 -- ---- from node to node
-
--- the fault of the spokes of a node
-abbrev fault_of : Point → List Spoke → Option MapFault
-fault_of v ps = elim ps [ [] ↦ None | p ∷ rest ↦ ring_fault v p 0 (p ∷ rest) ]
 
 -- without a fault the faces agree at each spoke
 agrees : (v : Point) (ps : List Spoke) → fault_of v ps ≡ None → (k : ℕ) → AgreesAtSpoke ps k
@@ -153,7 +143,7 @@ agrees v (first ∷ rest) e k p q a b = by (k + 1 == length (first ∷ rest)) re
     by : (t : Bool) → (k + 1 == length (first ∷ rest)) ≡ t → slice_get (first ∷ rest) (if t then 0 else k + 1) ≡ Some q → p.left ≡ q.right
     by true t c =
         let last : q ≡ first = cc in
-        no_difference v first 0 (first ∷ rest) e k p q a (inl (same_face (k + 1) (length (first ∷ rest)) t, last))
+        no_difference v first 0 (first ∷ rest) e k p q a (inl ((Decides-eqb (k + 1) (length (first ∷ rest))).0 t, last))
     by false t c = no_difference v first 0 (first ∷ rest) e k p q a (inr c)
 
 -- a fault is at two spokes, and the faces agree at each earlier one
@@ -170,17 +160,20 @@ record IsGapOf (v : Point) (ps : List Spoke) (i j left right : ℕ) : Type 0 whe
 
 gap_of_fault : (v u : Point) (ps : List Spoke) (i j left right : ℕ) → fault_of v ps ≡ Some (NodeDisagrees u i j left right) → (v ≡ u) × IsGapOf v ps i j left right
 gap_of_fault v u [] i j left right e = absurd cc
-gap_of_fault v u (first ∷ rest) i j left right e = (node_is, record {
-  next = number_is ∙ next_is d.next.cases ∙ ap (next_spoke (length ps)) place_is;
-  spoke = d.here;
-  next_one = d.after;
-  at_spoke = subst (λ (k : ℕ). slice_get ps k ≡ Some d.here) place_is d.at_here;
-  at_next = subst (λ (k : ℕ). slice_get ps k ≡ Some d.after) (sym number_is) (after_is d.next.cases);
-  left_face = left_is;
-  right_face = right_is;
-  differ = λ same. d.differ (sym left_is ∙ same ∙ right_is);
-  earlier = λ k l p q a b. d.earlier k p q (omega (arith, l, place_is)) a (not_last k l b);
-})
+gap_of_fault v u (first ∷ rest) i j left right e = (
+  node_is,
+  record {
+    next = number_is ∙ next_is d.next.cases ∙ ap (next_spoke (length ps)) place_is;
+    spoke = d.here;
+    next_one = d.after;
+    at_spoke = subst (λ (k : ℕ). slice_get ps k ≡ Some d.here) place_is d.at_here;
+    at_next = subst (λ (k : ℕ). slice_get ps k ≡ Some d.after) (sym number_is) (after_is d.next.cases);
+    left_face = left_is;
+    right_face = right_is;
+    differ = λ same. d.differ (sym left_is ∙ same ∙ right_is);
+    earlier = λ k l p q a b. d.earlier k p q (omega (arith, l, place_is)) a (not_last k l b);
+  },
+)
   where
     ps : List Spoke
     ps = first ∷ rest
@@ -209,11 +202,11 @@ gap_of_fault v u (first ∷ rest) i j left right e = (node_is, record {
       where
         by : (t : Bool) → (d.place + 1 == length ps) ≡ t → 0 ≡ (if t then 0 else d.place + 1)
         by true t = refl
-        by false t = absurd (other_face (d.place + 1) (length ps) t c.0)
+        by false t = absurd (not_from_Decides ((d.place + 1) == (length ps)) (Decides-eqb (d.place + 1) (length ps)) t c.0)
     next_is (inr c) = c.1 ∙ by (d.place + 1 == length ps) refl
       where
         by : (t : Bool) → (d.place + 1 == length ps) ≡ t → 0 + d.place + 1 ≡ (if t then 0 else d.place + 1)
-        by true t = absurd (omega (arith, c.0, same_face (d.place + 1) (length ps) t))
+        by true t = absurd (omega (arith, c.0, (Decides-eqb (d.place + 1) (length ps)).0 t))
         by false t = omega arith
 
     after_is : ((d.place + 1 ≡ length ps) × (d.number ≡ 0) × (d.after ≡ first)) ⊎ ((d.place + 1 < length ps) × (d.number ≡ 0 + d.place + 1) × (slice_get ps (d.place + 1) ≡ Some d.after))
@@ -228,7 +221,7 @@ gap_of_fault v u (first ∷ rest) i j left right e = (node_is, record {
         within = slice_get_within ps d.place d.here d.at_here
 
         by : (t : Bool) → (k + 1 == length ps) ≡ t → slice_get ps (if t then 0 else k + 1) ≡ Some q → slice_get ps (k + 1) ≡ Some q
-        by true t c = absurd (omega (arith, l, place_is, within, same_face (k + 1) (length ps) t))
+        by true t c = absurd (omega (arith, l, place_is, within, (Decides-eqb (k + 1) (length ps)).0 t))
         by false t c = c
 
 -- the first fault is the first gap

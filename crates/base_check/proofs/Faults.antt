@@ -2,10 +2,10 @@
 use Rattle.std.proofs.Common.{◌≡◌, ◌≢◌, inl, inr, ℕ, ◌+◌, Bool, true, false, ◌&&◌, ◌||◌, ◌==◌, if◌then◌else◌, List, [], ◌∷◌, map, filter, flat_map, get_or, All, AllPairs, Contains, Option, Some, None, option_map, refl, sym, ap, ◌∙◌, subst, subst₂, true≢false, arith}
 use Rattle.std.specs.List.{list_all}
 use Rattle.std.specs.List.Sorted.{IsSortedBy}
-use Rattle.std.proofs.lemmas.Bool.{or_left, or_right, and_from}
+use Rattle.std.proofs.lemmas.Bool.{or_left}
 use Rattle.std.proofs.lemmas.List.Elements.{All-head, All-tail, All-weaker, All-contains}
 use Rattle.std.proofs.lemmas.List.Sums.{AllPass-from_list_all}
-use Rattle.lemmas.specs.Sorting.{is_sorted_by, sort_by}
+use Rattle.lemmas.specs.Sorting.{is_sorted_by}
 use Rattle.lemmas.proofs.Sorting.{sorted_from_adjacent, sort_by-permuted, filter-is_sorted, map-is_sorted, AllPairs-permutation, Contains-from_sort_by}
 use Rattle.lemmas.proofs.Orders.{order_by_key}
 use Rattle.lemmas.proofs.Members.{in_head, All-flat_map, AllPairs-from_map, AllPairs-from_classes}
@@ -21,7 +21,6 @@ use Rattle.tgap_model.proofs.FirstFault.{faults_none}
 use Rattle.grid_geo.proofs.PointOrder.{points}
 use Rattle.grid_geo.proofs.Turns.{turns_strict}
 use Rattle.base_check.specs.declared.spoke.NodeSpoke.{NodeSpoke}
-use Rattle.base_check.specs.declared.ring.NodeGap.{NodeGap}
 use Rattle.base_check.specs.Spokes.{disagrees, spoke, is_at_node, spokes_in, before, AreSpokesOf, or_gap, gap_of}
 use Rattle.base_check.proofs.Order.{before_strict}
 use Rattle.base_check.proofs.Rings.{ring_from, ring_of, through_all, first_fault-first_of}
@@ -55,7 +54,7 @@ ring_fault-ring_from v first i (p ∷ q ∷ ps) at = by (p.left == q.right) (rin
     by false e = ap (λ (u : Point). Some (NodeDisagrees u i (i + 1) p.left q.right)) (sym node)
 
 -- the fault of the spokes of a node
-abbrev fault_of : Point → List Spoke → Option MapFault
+abbrev pub fault_of : Point → List Spoke → Option MapFault
 fault_of v ps = elim ps [ [] ↦ None | p ∷ rest ↦ ring_fault v p 0 (p ∷ rest) ]
 
 fault_of-ring : (v : Point) (ps : List NodeSpoke) → All (λ (p : NodeSpoke). p.node ≡ v) ps → fault_of v (map spoke ps) ≡ option_map disagrees (ring_of ps)

@@ -30,10 +30,8 @@ pub fn first_node_gap(alloc: Global, base: &Base) -> Result<Option<NodeGap>, Mem
     // It is the least node by the definition.
     ensures exact { IfOk result (λ found. option_map disagrees found ≡ ring_fault_of base.now) }
     // The two faces differ, those at the spokes before it agree, and those round each lesser node.
-    ensures found {
-        (g : NodeGap) → result ≡ Ok (Some g)
-        → IsFirstNodeGap (base_segments base.now) g.node g.spoke g.next g.left g.right
-    }
+    ensures found { (g : NodeGap) → result ≡ Ok (Some g)
+        → IsFirstNodeGap (base_segments base.now) g.node g.spoke g.next g.left g.right }
     // There is none only where the faces agree round each node.
     ensures agree { result ≡ Ok None → (v : Place) → node_fault (base_segments base.now) v ≡ None }
 {

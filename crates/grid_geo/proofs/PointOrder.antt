@@ -1,5 +1,5 @@
 -- The order of points, by x and then by y.
-use Rattle.std.proofs.Common.{◌≡◌, ◌⊎◌, inl, inr, Bool, true, false, ◌&&◌, ◌||◌, ℤ, ◌<ℤ◌, int_lt, refl, ◌∙◌, subst, sym}
+use Rattle.std.proofs.Common.{◌≡◌, ◌⊎◌, inl, inr, true, false, ◌&&◌, ℤ, ◌<ℤ◌, int_lt, refl, ◌∙◌, subst, sym}
 use Rattle.std.specs.Int.Signed.{≤ℤ_refl}
 use Rattle.std.specs.Ordering.{int_eq}
 use Rattle.std.proofs.lemmas.Bool.{or_left, or_right, or_from, or_cases, and_from, and_parts, and_right}

@@ -1,10 +1,9 @@
-use Rattle.std.proofs.Common.{rules, ◌≡◌, ◌+◌, ◌*◌, ◌≤◌, [], ◌++◌, List, flat_map, length, take, map, filter, get_or, IsPermutation, sym, ap, ◌∙◌, subst, arith}
+use Rattle.std.proofs.Common.{rules, [], ◌++◌, List, flat_map, length, take, filter, get_or, IsPermutation, sym, ap, ◌∙◌, subst, arith}
 use Rattle.std.proofs.lemmas.Fn.{always_returns_same}
 use Rattle.std.proofs.lemmas.List.{take_all, take_more, flat_map_more}
 use Rattle.std.proofs.lemmas.List.Sorted.{length_permutation, IsPermutation-map}
 use Rattle.std.proofs.lemmas.List.Sums.{AllPass-from_list_all}
 use Rattle.lemmas.proofs.Permutations.{IsPermutation-filter}
-use Rattle.tgap_model.specs.declared.segment.LabelledSegment.{LabelledSegment}
 use Rattle.tgap_model.specs.Partition.{Spoke, is_proper, spokes_of}
 use Rattle.tgap_model.proofs.Proper.{no_segment}
 use Rattle.base_check.specs.Spokes.{spoke, is_at_node, spokes_in, before}
