@@ -7,4 +7,3 @@ mod labels;
 mod tree;
 
 pub use tree::FaceTree;
-
