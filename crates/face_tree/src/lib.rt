@@ -7,3 +7,6 @@ mod labels;
 mod tree;
 
 pub use tree::FaceTree;
+
+#[cfg(test)]
+mod tests;
