@@ -5,7 +5,7 @@ use Rattle.std.proofs.lemmas.Bool.{cases_eq}
 use Rattle.std.proofs.lemmas.List.{get_or-set_same, get_or-set_other, length-set}
 use Rattle.std.proofs.lemmas.List.Elements.{All-set, All-get_or}
 use Rattle.tgap_model.specs.History.{AreNumbered}
-use Rattle.face_tree.specs.Tree.{FaceHistory, last_face, parent_of, AreParents, AreAscending, IsJump}
+use Rattle.face_tree.specs.Tree.{FaceHistory, last_face, parent_of, AreParents, IsJump}
 use Rattle.face_tree.proofs.Ways.{parent_above, label_parent}
 
 -- the parent is a jump

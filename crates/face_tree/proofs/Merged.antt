@@ -1,5 +1,5 @@
 -- The history of a base map: its steps are numbered and few, and each merges two live faces.
-use Rattle.std.proofs.Common.{◌≡◌, ◌<◌, ◌≤◌, ◌⊎◌, inl, inr, ℕ, zero, suc, ◌+◌, ◌^◌, true, false, ◌==◌, Option, Some, None, List, [], ◌∷◌, ◌++◌, length, map, get_or, take, refl, sym, ap, ◌∙◌, subst, arith, append_assoc, fold, ne_eqb}
+use Rattle.std.proofs.Common.{◌≡◌, ◌<◌, ◌≤◌, ◌⊎◌, inl, inr, ℕ, zero, suc, ◌+◌, ◌^◌, true, false, ◌==◌, Option, None, List, [], ◌∷◌, ◌++◌, length, map, get_or, take, refl, sym, ap, ◌∙◌, subst, arith, append_assoc, fold, ne_eqb}
 use Rattle.std.specs.Prelude.{IsTrue}
 use Rattle.std.specs.List.{AllByRecursion, list_any}
 use Rattle.std.proofs.lemmas.Bool.{or_cases, and_parts}
@@ -10,8 +10,7 @@ use Rattle.tgap_model.specs.declared.base.BaseArc.{BaseArc}
 use Rattle.tgap_model.specs.declared.merge.MergeStep.{MergeStep}
 use Rattle.tgap_model.specs.declared.merge.LabelledArc.{LabelledArc}
 use Rattle.tgap_model.specs.Base.{BaseMap, is_base}
-use Rattle.tgap_model.specs.History.{relabel, label_after, labelled, relabel_arc, classes_after, class_of, is_between, AreSteps, IsHistory, AreNumbered, IsNumberedStep, IsNextStep, history_of}
-use Rattle.tgap_model.specs.Merged.{MergedMap}
+use Rattle.tgap_model.specs.History.{relabel, labelled, relabel_arc, classes_after, class_of, is_between, AreSteps, IsHistory, AreNumbered, IsNumberedStep, history_of}
 use Rattle.tgap_model.proofs.BaseFacts.{ArcFacts, base_facts, each_arc}
 use Rattle.face_merge.proofs.Neighbours.{is_pair, between_labels}
 use Rattle.face_merge.proofs.Start.{history_numbered}

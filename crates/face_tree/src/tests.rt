@@ -27,30 +27,25 @@ fn arc(
 /// The arcs of the squares, 10 wide and 10 high, face 1 at the left.
 fn arcs_of_squares(alloc: Global) -> Result<List<BaseArc>, Memory> {
     let mut arcs = List::new(alloc);
-    for (left, right, x) in [
-        (1, 0, 0),
-        (1, 2, 10),
-        (2, 3, 20),
-        (3, 4, 30),
-        (4, 5, 40),
-        (5, 0, 50),
+    for (left, right, a, b) in [
+        (1, 0, (0, 10), (0, 0)),
+        (1, 0, (0, 0), (10, 0)),
+        (1, 0, (10, 10), (0, 10)),
+        (1, 2, (10, 0), (10, 10)),
+        (2, 0, (10, 0), (20, 0)),
+        (2, 0, (20, 10), (10, 10)),
+        (2, 3, (20, 0), (20, 10)),
+        (3, 0, (20, 0), (30, 0)),
+        (3, 0, (30, 10), (20, 10)),
+        (3, 4, (30, 0), (30, 10)),
+        (4, 0, (30, 0), (40, 0)),
+        (4, 0, (40, 10), (30, 10)),
+        (4, 5, (40, 0), (40, 10)),
+        (5, 0, (40, 0), (50, 0)),
+        (5, 0, (50, 10), (40, 10)),
+        (5, 0, (50, 0), (50, 10)),
     ] {
-        let (low, high) = if left == 1 && right == 0 {
-            (10, 0)
-        } else {
-            (0, 10)
-        };
-        arcs.push(arc(alloc, left, right, (x, low), (x, high))?)?;
-    }
-    for (face, x0, x1) in [
-        (1, 0, 10),
-        (2, 10, 20),
-        (3, 20, 30),
-        (4, 30, 40),
-        (5, 40, 50),
-    ] {
-        arcs.push(arc(alloc, face, 0, (x0, 0), (x1, 0))?)?;
-        arcs.push(arc(alloc, face, 0, (x1, 10), (x0, 10))?)?;
+        arcs.push(arc(alloc, left, right, a, b)?)?;
     }
     Ok(arcs)
 }

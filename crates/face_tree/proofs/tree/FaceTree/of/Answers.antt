@@ -1,7 +1,6 @@
 -- What is built is the tree of the history.
 use Rattle.std.proofs.Common.{arith, ◌≡◌, ◌+◌, ◌∙◌, refl, ap, sym, subst, ℕ, List, Option, None, length, slice_index_or}
 use Rattle.tgap_model.specs.declared.merge.MergeStep.{MergeStep}
-use Rattle.tgap_model.specs.History.{AreNumbered}
 use Rattle.face_tree.specs.Tree.{FaceHistory, AreJumpsBy, face_history, parent_by}
 use Rattle.face_tree.proofs.Merged.{history_facts, handed_over, parents_ascend, tree_is}
 use Rattle.face_tree.proofs.tree.FaceTree.of.Goals as goal
