@@ -1,7 +1,7 @@
 -- The way up by parents and jumps, from face to face.
-use Rattle.std.proofs.Common.{◌≡◌, ◌<◌, ◌≤◌, ℕ, ◌+◌, List, length, get_or, Option, Some, None, sym, ap, ◌∙◌, subst, arith}
+use Rattle.std.proofs.Common.{◌≡◌, ◌<◌, ◌≤◌, ℕ, ◌+◌, List, length, get_or, Option, Some, None, sym, ◌∙◌, subst, arith}
 use Rattle.std.proofs.lemmas.List.{get_or_read}
-use Rattle.face_tree.specs.Tree.{FaceHistory, last_face, parent_of, label_from, IsJump, IsUp, IsTop, IsTree}
+use Rattle.face_tree.specs.Tree.{FaceHistory, last_face, parent_of, IsJump, IsUp, IsTop, IsTree}
 use Rattle.face_tree.proofs.Ways.{parent_above, label_parent, label_itself}
 use Rattle.face_tree.proofs.Live.{top_live}
 

@@ -5,7 +5,7 @@ use Rattle.std.proofs.lemmas.Bool.{cases_eq}
 use Rattle.std.proofs.lemmas.List.{get_or-set_same, get_or-set_other, length-set}
 use Rattle.std.proofs.lemmas.List.Elements.{All-set, All-get_or}
 use Rattle.tgap_model.specs.History.{AreNumbered}
-use Rattle.face_tree.specs.Tree.{FaceHistory, last_face, parent_of, AreParents, AreAscending, IsJump}
+use Rattle.face_tree.specs.Tree.{FaceHistory, last_face, parent_of, AreParents, IsJump}
 use Rattle.face_tree.proofs.Ways.{parent_above, label_parent}
 
 -- the parent is a jump
@@ -45,21 +45,21 @@ pub jumps_before : (t : FaceHistory) (parents : List (Option ℕ)) (jumps : List
     → ((g : ℕ) → i ≤ g → g ≤ last_face t → IsJump t g (get_or jumps g 0)) → (u ≡ p) ⊎ (u ≡ get_or jumps (get_or jumps p 0) 0)
     → (f : ℕ) → i - 1 ≤ f → f ≤ last_face t → IsJump t f (get_or (set jumps (i - 1) u) f 0)
 jumps_before t parents jumps i p u h stored some inside count e known jump f low high = elim (cases_eq f (i - 1)) [
-      | inl same ↦
-          let parent : parent_of t f ≡ Some p = sym (stored.value f high) ∙ (ap (λ (g : ℕ). get_or parents g None) same ∙ e) in
-          let own = jump_of t jumps f p u h parent (λ g above below. known g (omega arith) below) jump in
-          rw (same, get_or-set_same jumps (i - 1) u 0 (omega arith)) (subst (λ (g : ℕ). IsJump t g u) same own)
-      | inr other ↦ rw (get_or-set_other jumps (i - 1) f u 0 other) (known f (omega arith) high)
-    ]
+  | inl same ↦
+      let parent : parent_of t f ≡ Some p = sym (stored.value f high) ∙ (ap (λ (g : ℕ). get_or parents g None) same ∙ e) in
+      let own = jump_of t jumps f p u h parent (λ g above below. known g (omega arith) below) jump in
+      rw (same, get_or-set_same jumps (i - 1) u 0 (omega arith)) (subst (λ (g : ℕ). IsJump t g u) same own)
+  | inr other ↦ rw (get_or-set_other jumps (i - 1) f u 0 other) (known f (omega arith) high)
+]
 
 -- a face is less deep than there are faces from it on, one deeper than its parent
 pub shallow_before : (depths : List ℕ) (n i p d : ℕ) → length depths ≡ n → 0 < i → i ≤ n → i - 1 < p → p < n
     → ((f : ℕ) → f < n → get_or depths f 0 + f ≤ n) → d ≡ get_or depths p 0
     → (f : ℕ) → f < n → get_or (set depths (i - 1) (d + 1)) f 0 + f ≤ n
 shallow_before depths n i p d count some inside above below known e f lt = elim (cases_eq f (i - 1)) [
-      | inl same ↦ rw (same, get_or-set_same depths (i - 1) (d + 1) 0 (omega arith)) (omega (arith, known p below))
-      | inr other ↦ rw (get_or-set_other depths (i - 1) f (d + 1) 0 other) (known f lt)
-    ]
+  | inl same ↦ rw (same, get_or-set_same depths (i - 1) (d + 1) 0 (omega arith)) (omega (arith, known p below))
+  | inr other ↦ rw (get_or-set_other depths (i - 1) f (d + 1) 0 other) (known f lt)
+]
 
 -- a face before it has itself
 pub own_before : (jumps : List ℕ) (i u : ℕ) → 0 < i → ((f : ℕ) → f < i → get_or jumps f 0 ≡ f)

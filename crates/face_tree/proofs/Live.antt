@@ -1,13 +1,13 @@
 -- The steps at which a face is live: from the one that makes it to before the one that merges it.
-use Rattle.std.proofs.Common.{◌≡◌, ◌<◌, ◌≤◌, ◌⊎◌, inl, inr, ℕ, zero, suc, ◌+◌, ◌-◌, Bool, true, false, ◌==◌, List, [], ◌∷◌, ◌++◌, length, get_or, take, drop, Option, Some, None, refl, sym, ap, ◌∙◌, subst, arith, append_assoc, eq-eqb}
-use Rattle.std.specs.Prelude.{IsTrue, ◌↔◌}
+use Rattle.std.proofs.Common.{◌≡◌, ◌<◌, ◌≤◌, inl, inr, ℕ, zero, suc, ◌+◌, ◌-◌, Bool, true, false, ◌==◌, List, [], ◌∷◌, ◌++◌, length, get_or, take, drop, Option, Some, None, refl, sym, ap, ◌∙◌, subst, arith, eq-eqb}
+use Rattle.std.specs.Prelude.{IsTrue}
 use Rattle.std.specs.List.{list_any, range_with_len}
 use Rattle.std.proofs.lemmas.Bool.{cases_eq, or_cases, or_left, or_right, eqb-true}
 use Rattle.std.proofs.lemmas.Bool.Decides.{leb_tells}
 use Rattle.tgap_model.specs.declared.merge.MergeStep.{MergeStep}
 use Rattle.tgap_model.specs.History.{relabel, label_after, AreNumbered}
 use Rattle.map_laws.proofs.MergeSteps.{numbered_at, relabel_loser, label_next, label_bounded}
-use Rattle.face_tree.specs.Tree.{FaceHistory, IsFace, IsParent, MergesLive, is_live, merges, parent_by, parent_of, low_step, high_step, high_by, step_after}
+use Rattle.face_tree.specs.Tree.{FaceHistory, IsFace, IsLiveFrom, IsParent, MergesLive, is_live, merges, parent_by, parent_of, low_step, high_step, high_by, step_after}
 use Rattle.face_tree.proofs.Ways.{label_up, merges_or_leaves, parent_left, high_parent, high_root, label_itself, label_late}
 
 -- ---- a test of some numbers in a row
@@ -16,9 +16,9 @@ use Rattle.face_tree.proofs.Ways.{label_up, merges_or_leaves, parent_left, high_
 some_passes : (p : ℕ → Bool) (a n g : ℕ) → a ≤ g → g < a + n → p g ≡ true → list_any p (range_with_len a n) ≡ true
 some_passes p a zero g low high e = absurd (omega arith)
 some_passes p a (suc n) g low high e = elim (cases_eq g a) [
-      | inl same ↦ or_left (p a) _ (subst (λ (x : ℕ). p x ≡ true) same e)
-      | inr other ↦ or_right (p a) _ (some_passes p (a + 1) n g (omega arith) (omega arith) e)
-    ]
+  | inl same ↦ or_left (p a) _ (subst (λ (x : ℕ). p x ≡ true) same e)
+  | inr other ↦ or_right (p a) _ (some_passes p (a + 1) n g (omega arith) (omega arith) e)
+]
 
 -- the one that passes
 record Passes (p : ℕ → Bool) (a n : ℕ) : Type 0 where
@@ -30,11 +30,11 @@ record Passes (p : ℕ → Bool) (a n : ℕ) : Type 0 where
 which_passes : (p : ℕ → Bool) (a n : ℕ) → list_any p (range_with_len a n) ≡ true → Passes p a n
 which_passes p a zero e = absurd cc
 which_passes p a (suc n) e = elim (or_cases (p a) (list_any p (range_with_len (a + 1) n)) e) [
-      | inl here ↦ record { number = a; low = omega arith; high = omega arith; pass = here }
-      | inr later ↦
-          let h = which_passes p (a + 1) n later in
-          record { number = h.number; low = omega (arith, h.low); high = omega (arith, h.high); pass = h.pass }
-    ]
+  | inl here ↦ record { number = a; low = omega arith; high = omega arith; pass = here }
+  | inr later ↦
+      let h = which_passes p (a + 1) n later in
+      record { number = h.number; low = omega (arith, h.low); high = omega (arith, h.high); pass = h.pass }
+]
 
 -- ---- live faces
 
@@ -96,9 +96,9 @@ itself t k f h early = label_itself t.faces t.steps k f h (λ p e. omega (arith,
 live_in_range : (t : FaceHistory) (k f : ℕ) → AreNumbered t.faces t.steps → MergesLive t → k ≤ length t.steps → 0 < f → low_step t f ≤ k → k < high_step t f
     → IsLabel t.faces (take k t.steps) f
 live_in_range t k f h live inside some low early = elim (leb_tells f t.faces) [
-      | inl le ↦ record { base = f; above = some; below = le.1; label = up_base t k f le.1 ∙ itself t k f h early }
-      | inr gt ↦ made (f - t.faces - 1) (omega (arith, gt.1))
-    ]
+  | inl le ↦ record { base = f; above = some; below = le.1; label = up_base t k f le.1 ∙ itself t k f h early }
+  | inr gt ↦ made (f - t.faces - 1) (omega (arith, gt.1))
+]
   where
     made : (i : ℕ) → f ≡ t.faces + suc i → IsLabel t.faces (take k t.steps) f
     made i e =
@@ -122,12 +122,11 @@ live_in_range t k f h live inside some low early = elim (leb_tells f t.faces) [
         }
 
 -- a face is live exactly in its range
-pub live_range : (t : FaceHistory) (k f : ℕ) → AreNumbered t.faces t.steps → MergesLive t → k ≤ length t.steps → IsFace t f
-    → IsTrue (is_live t k f) ↔ ((low_step t f ≤ k) × (k < high_step t f))
-live_range t k f h live inside face = (
-      (λ e. in_range t k f h inside (live_to t k f e)),
-      (λ r. live_from t k f (live_in_range t k f h live inside face.above r.0 r.1)),
-    )
+pub live_range : (t : FaceHistory) (f : ℕ) → AreNumbered t.faces t.steps → MergesLive t → IsFace t f → IsLiveFrom t f (low_step t f) (high_step t f)
+live_range t f h live face = λ k inside. (
+  (λ e. in_range t k f h inside (live_to t k f e)),
+  (λ r. live_from t k f (live_in_range t k f h live inside face.above r.0 r.1)),
+)
 
 -- ---- the end of the way up
 
@@ -149,35 +148,35 @@ high_within (s ∷ steps) zero f d lt e =
     let high : high_by (s ∷ steps) f ≡ 1 = rw e refl in
     omega (arith, high)
 high_within (s ∷ steps) (suc j) f d lt e = elim (merges_or_leaves s f) [
-      | inl m ↦ let high : high_by (s ∷ steps) f ≡ 1 = rw m refl in omega (arith, high)
-      | inr m ↦
-          let high : high_by (s ∷ steps) f ≡ 1 + high_by steps f = rw m refl in
-          omega (arith, high, high_within steps j f d (omega arith) e)
-    ]
+  | inl m ↦ let high : high_by (s ∷ steps) f ≡ 1 = rw m refl in omega (arith, high)
+  | inr m ↦
+      let high : high_by (s ∷ steps) f ≡ 1 + high_by steps f = rw m refl in
+      omega (arith, high, high_within steps j f d (omega arith) e)
+]
 
 -- none is before step 1
 high_some : (steps : List MergeStep) (f : ℕ) → 0 < high_by steps f
 high_some [] f = omega arith
 high_some (s ∷ steps) f = elim (merges_or_leaves s f) [
-      | inl m ↦ let high : high_by (s ∷ steps) f ≡ 1 = rw m refl in omega (arith, high)
-      | inr m ↦ let high : high_by (s ∷ steps) f ≡ 1 + high_by steps f = rw m refl in omega (arith, high)
-    ]
+  | inl m ↦ let high : high_by (s ∷ steps) f ≡ 1 = rw m refl in omega (arith, high)
+  | inr m ↦ let high : high_by (s ∷ steps) f ≡ 1 + high_by steps f = rw m refl in omega (arith, high)
+]
 
 -- the first one makes the parent
 parent_made : (steps : List MergeStep) (j f : ℕ) (d : MergeStep) → j < length steps → high_by steps f ≡ j + 1 → parent_by steps f ≡ Some (get_or steps j d).made
 parent_made [] j f d lt e = absurd (omega arith)
 parent_made (s ∷ steps) zero f d lt e = elim (merges_or_leaves s f) [
-      | inl m ↦ rw m refl
-      | inr m ↦
-          let high : high_by (s ∷ steps) f ≡ 1 + high_by steps f = rw m refl in
-          absurd (omega (arith, high, high_some steps f))
-    ]
+  | inl m ↦ rw m refl
+  | inr m ↦
+      let high : high_by (s ∷ steps) f ≡ 1 + high_by steps f = rw m refl in
+      absurd (omega (arith, high, high_some steps f))
+]
 parent_made (s ∷ steps) (suc j) f d lt e = elim (merges_or_leaves s f) [
-      | inl m ↦ let high : high_by (s ∷ steps) f ≡ 1 = rw m refl in absurd (omega (arith, high))
-      | inr m ↦
-          let high : high_by (s ∷ steps) f ≡ 1 + high_by steps f = rw m refl in
-          parent_left s steps f m ∙ parent_made steps j f d (omega arith) (omega (arith, high))
-    ]
+  | inl m ↦ let high : high_by (s ∷ steps) f ≡ 1 = rw m refl in absurd (omega (arith, high))
+  | inr m ↦
+      let high : high_by (s ∷ steps) f ≡ 1 + high_by steps f = rw m refl in
+      parent_left s steps f m ∙ parent_made steps j f d (omega arith) (omega (arith, high))
+]
 
 -- a face that no step merges has none
 parent_none : (steps : List MergeStep) (f : ℕ) (d : MergeStep) → ((j : ℕ) → j < length steps → merges (get_or steps j d) f ≡ false) → parent_by steps f ≡ None

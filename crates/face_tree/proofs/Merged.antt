@@ -1,5 +1,5 @@
 -- The history of a base map: its steps are numbered and few, and each merges two live faces.
-use Rattle.std.proofs.Common.{◌≡◌, ◌<◌, ◌≤◌, ◌⊎◌, inl, inr, ℕ, zero, suc, ◌+◌, ◌^◌, true, false, ◌==◌, Option, Some, None, List, [], ◌∷◌, ◌++◌, length, map, get_or, take, refl, sym, ap, ◌∙◌, subst, arith, append_assoc, fold, ne_eqb}
+use Rattle.std.proofs.Common.{◌≡◌, ◌<◌, ◌≤◌, ◌⊎◌, inl, inr, ℕ, zero, suc, ◌+◌, ◌^◌, true, false, ◌==◌, Option, None, List, [], ◌∷◌, ◌++◌, length, map, get_or, take, refl, sym, ap, ◌∙◌, subst, arith, append_assoc, fold, ne_eqb}
 use Rattle.std.specs.Prelude.{IsTrue}
 use Rattle.std.specs.List.{AllByRecursion, list_any}
 use Rattle.std.proofs.lemmas.Bool.{or_cases, and_parts}
@@ -10,13 +10,12 @@ use Rattle.tgap_model.specs.declared.base.BaseArc.{BaseArc}
 use Rattle.tgap_model.specs.declared.merge.MergeStep.{MergeStep}
 use Rattle.tgap_model.specs.declared.merge.LabelledArc.{LabelledArc}
 use Rattle.tgap_model.specs.Base.{BaseMap, is_base}
-use Rattle.tgap_model.specs.History.{relabel, label_after, labelled, relabel_arc, classes_after, class_of, is_between, AreSteps, IsHistory, AreNumbered, IsNumberedStep, IsNextStep, history_of}
-use Rattle.tgap_model.specs.Merged.{MergedMap}
+use Rattle.tgap_model.specs.History.{relabel, labelled, relabel_arc, classes_after, class_of, is_between, AreSteps, IsHistory, AreNumbered, IsNumberedStep, history_of}
 use Rattle.tgap_model.proofs.BaseFacts.{ArcFacts, base_facts, each_arc}
 use Rattle.face_merge.proofs.Neighbours.{is_pair, between_labels}
 use Rattle.face_merge.proofs.Start.{history_numbered}
 use Rattle.face_merge.proofs.Steps.{history_is, one_history, length-history_of}
-use Rattle.face_tree.specs.Tree.{FaceHistory, MergesLive, AreParents, AreJumps, AreAscending, IsTree, face_history, step_after, merges, parent_by}
+use Rattle.face_tree.specs.Tree.{FaceHistory, MergesLive, AreParents, AreJumpsBy, AreAscending, IsTree, face_history, step_after, merges, parent_by}
 use Rattle.face_tree.proofs.Ways.{relabel_unmerged, parent_above}
 use Rattle.face_tree.proofs.Live.{IsLabel, live_from, label_append}
 
@@ -73,12 +72,12 @@ sides_first n (a ∷ arcs) each = ((side_first n a.left each.0.left, side_first 
 of_neighbours : (P : ℕ → Type 0) (f g : ℕ) (arcs : List LabelledArc) → AllByRecursion (λ a. P a.left × P a.right) arcs → list_any (is_between f g) arcs ≡ true → P f × P g
 of_neighbours P f g [] each e = absurd cc
 of_neighbours P f g (a ∷ arcs) each e = elim (or_cases (is_between f g a) _ e) [
-      | inl here ↦ elim (between_labels f g a.left a.right here) [
-        | inl at ↦ (subst P at.0 each.0.0, subst P at.1 each.0.1)
-        | inr at ↦ (subst P at.1 each.0.1, subst P at.0 each.0.0)
-      ]
-      | inr later ↦ of_neighbours P f g arcs each.1 later
-    ]
+  | inl here ↦ elim (between_labels f g a.left a.right here) [
+    | inl at ↦ (subst P at.0 each.0.0, subst P at.1 each.0.1)
+    | inr at ↦ (subst P at.1 each.0.1, subst P at.0 each.0.0)
+  ]
+  | inr later ↦ of_neighbours P f g arcs each.1 later
+]
 
 -- a side that is a face is a label
 side_label : (n : ℕ) (steps : List MergeStep) (x : ℕ) → 0 < x → IsSide n steps x → IsLabel n steps x
@@ -104,7 +103,7 @@ merges_labels n m rules classes arcs before (s ∷ steps) are h each zero lt =
     rw none (side_label n before s.loser h.0.loser.0 sides.0, side_label n before s.winner h.0.winner.0 sides.1)
 merges_labels n m rules classes arcs before (s ∷ steps) are h each (suc j) lt =
     let rest = merges_labels n (m + 1) rules (classes_after s classes) (map (relabel_arc s) arcs) (before ++ s ∷ []) steps are.1 h.1
-        (sides_after n m before s arcs h.0 each) j (omega arith) in
+    (sides_after n m before s arcs h.0 each) j (omega arith) in
     let e : (before ++ s ∷ []) ++ take j steps ≡ before ++ (s ∷ take j steps) = append_assoc before (s ∷ []) (take j steps) in
     rw (← e) rest
 
@@ -158,7 +157,7 @@ parents_ascend n steps parents h count value = record {
 -- what is stored is a tree
 pub tree_is : (m : BaseMap) (steps : List MergeStep) (t : FaceHistory) (parents : List (Option ℕ)) (jumps : List ℕ) → HistoryFacts m steps
     → t ≡ face_history (record { base = m; steps = steps }) → length parents ≡ t.faces + length t.steps + 1 → ((f : ℕ) → get_or parents f None ≡ parent_by t.steps f)
-    → ((u : FaceHistory) → AreNumbered u.faces u.steps → AreParents u parents → AreJumps u jumps) → IsTree t parents jumps
+    → AreJumpsBy parents jumps → IsTree t parents jumps
 tree_is m steps t parents jumps facts e count value known =
     let stored : AreParents t parents = record { count = count; value = λ f _. value f } in
     let numbered : AreNumbered t.faces t.steps = rw e facts.numbered in

@@ -1,5 +1,5 @@
 -- The way from a face up to its label: the label by the steps after the one that makes the face, step by step.
-use Rattle.std.proofs.Common.{◌≡◌, ◌≢◌, ◌<◌, ◌≤◌, ◌⊎◌, inl, inr, ℕ, zero, suc, ◌+◌, ◌-◌, Bool, true, false, ◌||◌, ◌==◌, cond, List, [], ◌∷◌, length, take, drop, Option, Some, None, refl, sym, ap, ◌∙◌, subst, arith}
+use Rattle.std.proofs.Common.{◌≡◌, ◌<◌, ◌≤◌, ◌⊎◌, inl, inr, ℕ, zero, suc, ◌+◌, ◌-◌, Bool, true, false, ◌==◌, List, [], ◌∷◌, length, take, drop, Some, None, refl, sym, ap, ◌∙◌, arith}
 use Rattle.std.proofs.lemmas.Bool.{or_cases, eqb-true}
 use Rattle.std.proofs.lemmas.Bool.Decides.{leb_tells}
 use Rattle.std.proofs.Math.Seq.{take-nil, drop-nil}
@@ -32,9 +32,9 @@ merges_or_leaves s f = by (merges s f) refl
 -- it leaves a later face
 pub unmerged_above : (n : ℕ) (s : MergeStep) (f : ℕ) → IsNumberedStep n s → n < f → merges s f ≡ false
 unmerged_above n s f h lt = elim (merges_or_leaves s f) [
-      | inl e ↦ absurd (omega (arith, merged_below n s f h e))
-      | inr e ↦ e
-    ]
+  | inl e ↦ absurd (omega (arith, merged_below n s f h e))
+  | inr e ↦ e
+]
 
 pub relabel_merged : (s : MergeStep) (f : ℕ) → merges s f ≡ true → relabel s f ≡ s.made
 relabel_merged s f e = rw e refl
@@ -46,14 +46,14 @@ relabel_unmerged s f e = rw e refl
 pub label_front : (n : ℕ) (s : MergeStep) (steps : List MergeStep) (k f : ℕ) → IsNumberedStep n s
     → label_up n (s ∷ steps) (suc k) f ≡ label_up (n + 1) steps k (relabel s f)
 label_front n s steps k f h = elim (merges_or_leaves s f) [
-      | inl e ↦
-          let made = relabel_merged s f e in
-          here (merged_below n s f h e) ∙ sym (early (relabel s f) (omega (arith, made, h.made)))
-      | inr e ↦ elim (leb_tells f n) [
-        | inl le ↦ here le.1 ∙ sym (early (relabel s f) (omega (arith, relabel_unmerged s f e, le.1)))
-        | inr lt ↦ later lt.1 ∙ ap (label_up (n + 1) steps k) (sym (relabel_unmerged s f e))
-      ]
-    ]
+  | inl e ↦
+      let made = relabel_merged s f e in
+      here (merged_below n s f h e) ∙ sym (early (relabel s f) (omega (arith, made, h.made)))
+  | inr e ↦ elim (leb_tells f n) [
+    | inl le ↦ here le.1 ∙ sym (early (relabel s f) (omega (arith, relabel_unmerged s f e, le.1)))
+    | inr lt ↦ later lt.1 ∙ ap (label_up (n + 1) steps k) (sym (relabel_unmerged s f e))
+  ]
+]
   where
     early : (g : ℕ) → g ≤ n + 1 → label_up (n + 1) steps k g ≡ label_after (take k steps) g
     early g le = let e : g - (n + 1) ≡ 0 = omega arith in ap (λ (j : ℕ). label_after (drop j (take k steps)) g) e
@@ -97,41 +97,41 @@ parent_left s steps f m = rw m refl
 pub parent_above : (n : ℕ) (steps : List MergeStep) (f p : ℕ) → AreNumbered n steps → parent_by steps f ≡ Some p → (f < p) × (n < p) × (p ≤ n + length steps)
 parent_above n [] f p h e = absurd cc
 parent_above n (s ∷ steps) f p h e = elim (merges_or_leaves s f) [
-      | inl m ↦
-          let made = parent_merged s steps f p e m in
-          let below = merged_below n s f h.0 m in
-          (omega (arith, h.0.made), omega (arith, h.0.made), omega (arith, h.0.made))
-      | inr m ↦
-          let rest = parent_above (n + 1) steps f p h.1 (sym (parent_left s steps f m) ∙ e) in
-          (rest.0, omega (arith, rest.1), omega (arith, rest.2))
-    ]
+  | inl m ↦
+      let made = parent_merged s steps f p e m in
+      let below = merged_below n s f h.0 m in
+      (omega (arith, h.0.made), omega (arith, h.0.made), omega (arith, h.0.made))
+  | inr m ↦
+      let rest = parent_above (n + 1) steps f p h.1 (sym (parent_left s steps f m) ∙ e) in
+      (rest.0, omega (arith, rest.1), omega (arith, rest.2))
+]
 
 -- the step that merges a face has the number of the parent among the faces that are made
 pub high_parent : (n : ℕ) (steps : List MergeStep) (f p : ℕ) → AreNumbered n steps → parent_by steps f ≡ Some p → p ≡ n + high_by steps f
 high_parent n [] f p h e = absurd cc
 high_parent n (s ∷ steps) f p h e = elim (merges_or_leaves s f) [
-      | inl m ↦
-          let made = parent_merged s steps f p e m in
-          let high : high_by (s ∷ steps) f ≡ 1 = rw m refl in
-          omega (arith, high, h.0.made)
-      | inr m ↦
-          let rest = high_parent (n + 1) steps f p h.1 (sym (parent_left s steps f m) ∙ e) in
-          let high : high_by (s ∷ steps) f ≡ 1 + high_by steps f = rw m refl in
-          omega (arith, high, rest)
-    ]
+  | inl m ↦
+      let made = parent_merged s steps f p e m in
+      let high : high_by (s ∷ steps) f ≡ 1 = rw m refl in
+      omega (arith, high, h.0.made)
+  | inr m ↦
+      let rest = high_parent (n + 1) steps f p h.1 (sym (parent_left s steps f m) ∙ e) in
+      let high : high_by (s ∷ steps) f ≡ 1 + high_by steps f = rw m refl in
+      omega (arith, high, rest)
+]
 
 -- that of a root is after all steps
 pub high_root : (steps : List MergeStep) (f : ℕ) → parent_by steps f ≡ None → high_by steps f ≡ length steps + 1
 high_root [] f e = refl
 high_root (s ∷ steps) f e = elim (merges_or_leaves s f) [
-      | inl m ↦
-          let made : parent_by (s ∷ steps) f ≡ Some s.made = rw m refl in
-          absurd cc
-      | inr m ↦
-          let rest = high_root steps f (sym (parent_left s steps f m) ∙ e) in
-          let high : high_by (s ∷ steps) f ≡ 1 + high_by steps f = rw m refl in
-          omega (arith, high, rest)
-    ]
+  | inl m ↦
+      let made : parent_by (s ∷ steps) f ≡ Some s.made = rw m refl in
+      absurd cc
+  | inr m ↦
+      let rest = high_root steps f (sym (parent_left s steps f m) ∙ e) in
+      let high : high_by (s ∷ steps) f ≡ 1 + high_by steps f = rw m refl in
+      omega (arith, high, rest)
+]
 
 -- a face has the label of its parent, where that is made by then
 pub label_parent : (n : ℕ) (steps : List MergeStep) (k f p : ℕ) → AreNumbered n steps → parent_by steps f ≡ Some p → p ≤ n + k
@@ -153,13 +153,13 @@ pub label_itself : (n : ℕ) (steps : List MergeStep) (k f : ℕ) → AreNumbere
 label_itself n steps zero f h late = label_none n steps f
 label_itself n [] (suc k) f h late = label_empty n (suc k) f
 label_itself n (s ∷ steps) (suc k) f h late = elim (merges_or_leaves s f) [
-      | inl m ↦
-          let made : parent_by (s ∷ steps) f ≡ Some s.made = rw m refl in
-          absurd (omega (arith, late s.made made, h.0.made))
-      | inr m ↦
-          let later : (p : ℕ) → parent_by steps f ≡ Some p → n + 1 + k < p = λ p e. omega (arith, late p (parent_left s steps f m ∙ e)) in
-          label_left n s steps k f h.0 m ∙ label_itself (n + 1) steps k f h.1 later
-    ]
+  | inl m ↦
+      let made : parent_by (s ∷ steps) f ≡ Some s.made = rw m refl in
+      absurd (omega (arith, late s.made made, h.0.made))
+  | inr m ↦
+      let later : (p : ℕ) → parent_by steps f ≡ Some p → n + 1 + k < p = λ p e. omega (arith, late p (parent_left s steps f m ∙ e)) in
+      label_left n s steps k f h.0 m ∙ label_itself (n + 1) steps k f h.1 later
+]
 
 -- ---- a label is not merged by then
 
@@ -168,9 +168,9 @@ label_made : (n : ℕ) (steps : List MergeStep) (k f : ℕ) → AreNumbered n st
 label_made n steps zero f h = inl (label_none n steps f)
 label_made n [] (suc k) f h = inl (label_empty n (suc k) f)
 label_made n (s ∷ steps) (suc k) f h = elim (merges_or_leaves s f) [
-      | inl m ↦ inr (above (label_made (n + 1) steps k s.made h.1) (label_merged n s steps k f h.0 m))
-      | inr m ↦ same (label_made (n + 1) steps k f h.1) (label_left n s steps k f h.0 m)
-    ]
+  | inl m ↦ inr (above (label_made (n + 1) steps k s.made h.1) (label_merged n s steps k f h.0 m))
+  | inr m ↦ same (label_made (n + 1) steps k f h.1) (label_left n s steps k f h.0 m)
+]
   where
     label : ℕ
     label = label_up n (s ∷ steps) (suc k) f
@@ -186,9 +186,9 @@ label_made n (s ∷ steps) (suc k) f h = elim (merges_or_leaves s f) [
 -- a step does not merge what it relabels to
 relabelled_unmerged : (n : ℕ) (s : MergeStep) (f : ℕ) → IsNumberedStep n s → merges s (relabel s f) ≡ false
 relabelled_unmerged n s f h = elim (merges_or_leaves s f) [
-      | inl m ↦ ap (merges s) (relabel_merged s f m) ∙ unmerged_above n s s.made h (omega (arith, h.made))
-      | inr m ↦ ap (merges s) (relabel_unmerged s f m) ∙ m
-    ]
+  | inl m ↦ ap (merges s) (relabel_merged s f m) ∙ unmerged_above n s s.made h (omega (arith, h.made))
+  | inr m ↦ ap (merges s) (relabel_unmerged s f m) ∙ m
+]
 
 pub label_late : (n : ℕ) (steps : List MergeStep) (k f g : ℕ) → AreNumbered n steps → label_up n steps k f ≡ g → (p : ℕ) → parent_by steps g ≡ Some p → n + k < p
 label_late n steps zero f g h e p parent = omega (arith, (parent_above n steps g p h parent).1)

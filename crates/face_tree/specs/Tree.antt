@@ -1,5 +1,5 @@
 -- The tree of all faces of a map while it is merged: a step makes one face of two, which are its children.
-use Rattle.std.specs.Prelude.{◌≡◌, ◌<◌, ◌≤◌, ◌^◌, ℕ, ◌+◌, ◌-◌, Bool, ◌||◌, ◌==◌, List, [], ◌∷◌, length, take, drop, slice_index, slice_index_or, Option, Some, None, if◌then◌else◌, IsTrue, IsFalse}
+use Rattle.std.specs.Prelude.{◌≡◌, ◌<◌, ◌≤◌, ◌↔◌, ◌^◌, ℕ, ◌+◌, ◌-◌, Bool, ◌||◌, ◌==◌, List, [], ◌∷◌, length, take, drop, slice_index, slice_index_or, Option, Some, None, if◌then◌else◌, IsTrue, IsFalse}
 use Rattle.std.specs.List.{list_any, range_with_len}
 use Rattle.tgap_model.specs.declared.merge.MergeStep.{MergeStep}
 use Rattle.tgap_model.specs.History.{label_after, AreNumbered}
@@ -11,6 +11,9 @@ pub record FaceHistory : Type 0 where
   pub faces : ℕ
   pub classes : List ℕ
   pub steps : List MergeStep
+
+abbrev pub history_from : ℕ → List ℕ → List MergeStep → FaceHistory
+history_from faces classes steps = record { faces = faces; classes = classes; steps = steps }
 
 -- those of a base map and its history
 abbrev pub face_history : MergedMap → FaceHistory
@@ -62,6 +65,10 @@ high_by (s ∷ steps) f = if merges s f then 1 else 1 + high_by steps f
 abbrev pub high_step : FaceHistory → ℕ → ℕ
 high_step t f = high_by t.steps f
 
+-- the face is live after any number of steps from low to before high, and after no other
+abbrev pub IsLiveFrom : FaceHistory → ℕ → ℕ → ℕ → Type 0
+IsLiveFrom t f low high = (k : ℕ) → k ≤ length t.steps → IsTrue (is_live t k f) ↔ ((low ≤ k) × (k < high))
+
 -- the label after k steps of a face that is made by one of them, by the steps after that one
 abbrev pub label_from : FaceHistory → ℕ → ℕ → ℕ
 label_from t k f = label_after (drop (low_step t f) (take k t.steps)) f
@@ -70,6 +77,11 @@ label_from t k f = label_after (drop (low_step t f) (take k t.steps)) f
 pub record MergesLive (t : FaceHistory) : Type 0 where
   pub loser : (j : ℕ) → j < length t.steps → IsTrue (is_live t j (step_after t j).loser)
   pub winner : (j : ℕ) → j < length t.steps → IsTrue (is_live t j (step_after t j).winner)
+
+-- the label after these steps of each face from 1 to n, by its number, and of the outside, 0
+pub record AreLabels (n : ℕ) (steps : List MergeStep) (labels : List ℕ) : Type 0 where
+  pub count : length labels ≡ n + 1
+  pub value : (f : ℕ) → f ≤ n → slice_index labels f ≡ label_after steps f
 
 -- ---- what the tree stores
 
@@ -94,6 +106,10 @@ pub record IsJump (t : FaceHistory) (f u : ℕ) : Type 0 where
 pub record AreJumps (t : FaceHistory) (jumps : List ℕ) : Type 0 where
   pub count : length jumps ≡ last_face t + 1
   pub value : (f : ℕ) → f ≤ last_face t → IsJump t f (slice_index jumps f)
+
+-- the jumps are those of each history that has these parents
+abbrev pub AreJumpsBy : List (Option ℕ) → List ℕ → Type 0
+AreJumpsBy parents jumps = (t : FaceHistory) → AreNumbered t.faces t.steps → AreParents t parents → AreJumps t jumps
 
 -- a step on the way from f up to its label after k steps
 pub record IsUp (t : FaceHistory) (k f u : ℕ) : Type 0 where

@@ -3,7 +3,7 @@
 ghost use Rattle.std.specs.Prelude.{◌≡◌, ◌≤◌, ◌<◌, ◌+◌, ◌^◌, ◌⊎◌, ℕ, None, length, fold, slice_index, slice_index_or, IfOk};
 ghost use Rattle.std.specs.List.{All};
 ghost use Rattle.tgap_model.specs.History.{AreNumbered, classes_after};
-ghost use Rattle.face_tree.specs.Tree.{FaceHistory, AreParents, AreJumps, AreAscending, parent_by};
+ghost use Rattle.face_tree.specs.Tree.{AreAscending, AreJumpsBy, parent_by};
 
 use crate::labels::numbers_below;
 use std::alloc::Global;
@@ -24,7 +24,11 @@ pub fn classes_of(alloc: Global, classes: &[u32], steps: &[MergeStep]) -> Result
 }
 
 /// The parent of each face, by its number; the outside has none. It goes back from the last step.
-pub fn parents_of(alloc: Global, faces: u32, steps: &[MergeStep]) -> Result<Vec<Option<u32>>, Memory>
+pub fn parents_of(
+    alloc: Global,
+    faces: u32,
+    steps: &[MergeStep],
+) -> Result<Vec<Option<u32>>, Memory>
     requires numbered { AreNumbered faces steps.now }
     requires small { faces + length steps.now + 1 < 2 ^ 32 }
     ensures count { IfOk result (λ found. length found.items ≡ faces + length steps.now + 1) }
@@ -63,7 +67,7 @@ fn jump_over(face: u32, jumps: &[u32], depths: &[u32]) -> u32
 pub fn jumps_of(alloc: Global, parents: &[Option<u32>]) -> Result<Vec<u32>, Memory>
     requires ascending { AreAscending parents.now }
     requires small { length parents.now < 2 ^ 32 }
-    ensures { IfOk result (λ jumps. (t : FaceHistory) → AreNumbered t.faces t.steps → AreParents t parents.now → AreJumps t jumps.items) }
+    ensures { IfOk result (λ jumps. AreJumpsBy parents.now jumps.items) }
 {
     let mut jumps = numbers_below(alloc, parents.len() as u32)?;
     let mut depths = vec![in alloc; 0u32; parents.len()]?;

@@ -24,7 +24,7 @@ pub fn labels_after(alloc: Global, faces: u32, steps: &[MergeStep]) -> Result<Ve
     requires numbered { AreNumbered faces steps.now }
     requires small { faces + length steps.now + 1 < 2 ^ 32 }
     ensures count { IfOk result (λ labels. length labels.items ≡ faces + length steps.now + 1) }
-    ensures labels { IfOk result (λ labels. (f : ℕ) → f ≤ faces → slice_index labels.items f ≡ label_after steps.now f) }
+    ensures value { IfOk result (λ labels. (f : ℕ) → f ≤ faces → slice_index labels.items f ≡ label_after steps.now f) }
 {
     let mut labels = numbers_below(alloc, faces + steps.len() as u32 + 1)?;
     for i in (0..steps.len()).rev() {

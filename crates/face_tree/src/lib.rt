@@ -8,3 +8,5 @@ mod tree;
 
 pub use tree::FaceTree;
 
+#[cfg(test)]
+mod tests;

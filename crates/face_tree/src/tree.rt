@@ -1,8 +1,8 @@
 //! The tree, and the way up in it.
 
-ghost use Rattle.std.specs.Prelude.{◌≡◌, ◌≤◌, ◌<◌, ◌+◌, ◌↔◌, ℕ, length, take, slice_index, IfOk, IsTrue, MatchOption};
+ghost use Rattle.std.specs.Prelude.{◌≡◌, ◌≤◌, ◌<◌, ◌+◌, length, take, IfOk, IsTrue, MatchOption};
 ghost use Rattle.tgap_model.specs.History.{IsHistory, label_after, class_of};
-ghost use Rattle.face_tree.specs.Tree.{IsFace, IsParent, IsTop, IsUp, face_history, is_live, label_from, parent_of, low_step, high_step, last_face};
+ghost use Rattle.face_tree.specs.Tree.{AreLabels, IsFace, IsLiveFrom, IsParent, IsTop, IsUp, face_history, is_live, label_from, parent_of, low_step, high_step};
 
 use crate::build::{classes_of, jumps_of, parents_of};
 use crate::labels::labels_after;
@@ -26,13 +26,13 @@ pub struct FaceTree {
 }
 
 impl Model for FaceTree {
-    ghost use Rattle.face_tree.specs.Tree.{FaceHistory, IsTree};
+    ghost use Rattle.face_tree.specs.Tree.{FaceHistory, IsTree, history_from};
 
     ghost Value = { FaceHistory };
 
-    ghost view = { λ t. record { faces = t.faces; classes = t.classes.items; steps = t.steps.items } };
+    ghost view = { λ t. history_from t.faces t.classes.items t.steps.items };
 
-    ghost invariant = { λ t. IsTree (record { faces = t.faces; classes = t.classes.items; steps = t.steps.items }) t.parents.items t.jumps.items };
+    ghost invariant = { λ t. IsTree (history_from t.faces t.classes.items t.steps.items) t.parents.items t.jumps.items };
 }
 
 impl FaceTree {
@@ -90,19 +90,19 @@ impl FaceTree {
         }
     }
 
-    /// The number of the step that makes a face, 0 for a face of the base map, and that of the step that merges it, S + 1
-    /// for a root. The face is live after as many steps as the first, and until before the second.
+    /// The number of the step that makes a face, 0 for a face of the base map, and that of the step that merges it,
+    /// S + 1 for a root. The face is live after as many steps as the first says, and until before the second.
     pub fn range(&self, face: u32) -> (u32, u32)
         requires { IsFace self.now face }
         ensures low { result.0 ≡ low_step self.now face }
         ensures high { result.1 ≡ high_step self.now face }
-        ensures live { (k : ℕ) → k ≤ length self.now.steps → IsTrue (is_live self.now k face) ↔ ((result.0 ≤ k) × (k < result.1)) }
+        ensures live { IsLiveFrom self.now face result.0 result.1 }
     {
         (face.saturating_sub(self.faces), self.merged_at(face))
     }
 
-    /// The next face on the way up to those that are live after some steps, of which the last made face `last`: the jump
-    /// where it is none too far, else the parent.
+    /// The next face on the way up to the face that is live after k steps: the jump where that is made by then, else the
+    /// parent; none where the parent is made later.
     fn next_up(&self, face: u32, k: u32) -> Option<u32>
         requires face { face ≤ self.now.faces + k }
         requires steps { k ≤ length self.now.steps }
@@ -138,8 +138,7 @@ impl FaceTree {
     /// The label after k steps of each face of the base map, by its number; that of the outside, 0, stands first.
     pub fn labels_at(&self, alloc: Global, k: u32) -> Result<Vec<u32>, Memory>
         requires { k ≤ length self.now.steps }
-        ensures count { IfOk result (λ labels. length labels.items ≡ self.now.faces + 1) }
-        ensures labels { IfOk result (λ labels. (f : ℕ) → f ≤ self.now.faces → slice_index labels.items f ≡ label_after (take k self.now.steps) f) }
+        ensures { IfOk result (λ labels. AreLabels self.now.faces (take k self.now.steps) labels.items) }
     {
         let mut labels = labels_after(alloc, self.faces, &self.steps[..k as usize])?;
         labels.truncate(self.faces as usize + 1);

@@ -1,5 +1,5 @@
 -- The winner of each step is one of the faces so far.
-use Rattle.std.proofs.Common.{arith, ◌≡◌, ◌+◌, ◌-◌, ◌∙◌, ap, sym, List, [], ◌∷◌, ◌++◌, ℕ, fold, take, length, slice_index_or}
+use Rattle.std.proofs.Common.{arith, ◌≡◌, ◌+◌, ◌-◌, ◌∙◌, ap, sym, [], ◌∷◌, ◌++◌, ℕ, length, slice_index_or}
 use Rattle.std.proofs.lemmas.List.{get_or_read, length_push}
 use Rattle.std.proofs.lemmas.List.Sums.{fold_more}
 use Rattle.tgap_model.specs.declared.merge.MergeStep.{MergeStep}

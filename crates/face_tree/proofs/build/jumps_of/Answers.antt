@@ -1,8 +1,6 @@
 -- One more face has its jump.
-use Rattle.std.proofs.Common.{arith, ◌≡◌, ◌<◌, ◌⊎◌, ℕ, ◌-◌, ◌+◌, ◌∙◌, sym, ap, subst, ◌≤◌, List, length, Option, Some, None, slice_index, slice_index_or}
-use Rattle.std.specs.List.{All}
+use Rattle.std.proofs.Common.{arith, ◌≡◌, ◌<◌, ◌⊎◌, ℕ, ◌-◌, ◌+◌, ◌∙◌, subst, ◌≤◌, List, length, Some, None, slice_index, slice_index_or}
 use Rattle.std.proofs.lemmas.List.{length-set, get_or_read}
-use Rattle.std.proofs.lemmas.List.Elements.{All-set, All-get_or}
 use Rattle.face_tree.proofs.Jumps.{jumps_before, jumps_inside, shallow_before, own_before}
 use Rattle.face_tree.proofs.build.jumps_of.Goals as goal
 

@@ -1,6 +1,6 @@
 -- The step that merges a face has the number of its parent among the faces that are made.
-use Rattle.std.proofs.Common.{arith, ◌≡◌, ◌+◌, ap, sym, subst, ℕ, Some, None, length}
-use Rattle.face_tree.specs.Tree.{FaceHistory, IsTree, high_step}
+use Rattle.std.proofs.Common.{arith, ap, sym, subst, length}
+use Rattle.face_tree.specs.Tree.{FaceHistory, IsTree}
 use Rattle.face_tree.proofs.Ways.{high_parent, high_root}
 use Rattle.face_tree.proofs.tree.FaceTree.merged_at.Goals as goal
 

@@ -1,5 +1,5 @@
 -- A jump that is none too far, and otherwise the parent, leads up; where there is none, the face is its own label.
-use Rattle.std.proofs.Common.{arith, ◌≡◌, ◌≤◌, ◌<◌, ◌+◌, ap, sym, subst, ◌∙◌, ℕ, Option, MatchOption}
+use Rattle.std.proofs.Common.{arith, ◌≤◌, ◌<◌, ◌+◌, ap, sym, subst, ◌∙◌, ℕ, Option, MatchOption}
 use Rattle.face_tree.specs.Tree.{FaceHistory, IsTree, IsTop, IsUp, last_face}
 use Rattle.face_tree.proofs.Climb.{read_parent, read_jump, up_jump, up_parent, up_root, up_late}
 use Rattle.face_tree.proofs.tree.FaceTree.next_up.Goals as goal

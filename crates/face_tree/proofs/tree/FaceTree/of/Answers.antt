@@ -1,8 +1,7 @@
 -- What is built is the tree of the history.
 use Rattle.std.proofs.Common.{arith, ◌≡◌, ◌+◌, ◌∙◌, refl, ap, sym, subst, ℕ, List, Option, None, length, slice_index_or}
 use Rattle.tgap_model.specs.declared.merge.MergeStep.{MergeStep}
-use Rattle.tgap_model.specs.History.{AreNumbered}
-use Rattle.face_tree.specs.Tree.{FaceHistory, AreParents, AreJumps, face_history, parent_by}
+use Rattle.face_tree.specs.Tree.{FaceHistory, AreJumpsBy, face_history, parent_by}
 use Rattle.face_tree.proofs.Merged.{history_facts, handed_over, parents_ascend, tree_is}
 use Rattle.face_tree.proofs.tree.FaceTree.of.Goals as goal
 
@@ -58,5 +57,5 @@ invariant_of-result c =
     let back = sym c.in_ok-from_slice.ensures.items in
     let count = subst (λ (ss : List MergeStep). length parents ≡ t.faces + length ss + 1) back c.in_ok-parents.ensures.count in
     let value = subst (λ (ss : List MergeStep). (f : ℕ) → slice_index_or parents f None ≡ parent_by ss f) back c.in_ok-parents.ensures.value in
-    let jumps = subst (λ (ps : List (Option ℕ)). (u : FaceHistory) → AreNumbered u.faces u.steps → AreParents u ps → AreJumps u c.in_ok-jumps.jumps.items) c.as_slice.ensures.value c.in_ok-jumps.ensures in
+    let jumps = subst (λ (ps : List (Option ℕ)). AreJumpsBy ps c.in_ok-jumps.jumps.items) c.as_slice.ensures.value c.in_ok-jumps.ensures in
     tree_is m steps t parents c.in_ok-jumps.jumps.items facts same count value jumps

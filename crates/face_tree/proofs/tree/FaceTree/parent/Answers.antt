@@ -1,5 +1,5 @@
 -- What is read is the parent.
-use Rattle.std.proofs.Common.{subst, sym, ℕ, Option}
+use Rattle.std.proofs.Common.{subst, sym}
 use Rattle.face_tree.specs.Tree.{FaceHistory, IsParent, IsTree}
 use Rattle.face_tree.proofs.Climb.{read_parent}
 use Rattle.face_tree.proofs.Live.{parent_is}
