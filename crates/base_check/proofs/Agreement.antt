@@ -1,5 +1,5 @@
 -- A base map is a planar partition exactly where it has no fault.
-use Rattle.std.proofs.Common.{◌≡◌, ℕ, ◌+◌, ◌==◌, true, false, List, [], ◌∷◌, All, Option, Some, None, refl, ap, ◌∙◌}
+use Rattle.std.proofs.Common.{◌≡◌, ℕ, ◌+◌, ◌==◌, true, false, List, [], ◌∷◌, All, Option, Some, None, get_or, ap, ◌∙◌, subst₂}
 use Rattle.std.specs.List.{list_all}
 use Rattle.std.proofs.lemmas.Bool.{and_parts}
 use Rattle.std.proofs.lemmas.List.Elements.{All-nil, All-cons, All-append}
@@ -8,11 +8,15 @@ use Rattle.tgap_model.specs.declared.base.BaseArc.{BaseArc}
 use Rattle.tgap_model.specs.declared.segment.LabelledSegment.{LabelledSegment}
 use Rattle.tgap_model.specs.declared.fault.MapFault.{MapFault}
 use Rattle.tgap_model.specs.Base.{BaseMap, is_arc, is_base}
-use Rattle.tgap_model.specs.Partition.{AgreesAtNodes, path_segments, arc_segments, base_segments, node_fault, nodes, first_fault, or_else, meeting_fault, ring_fault_of, stack_fault_of, arc_fault, map_fault}
+use Rattle.tgap_model.specs.Partition.{AreApart, AgreesAtNodes, path_segments, arc_segments, base_segments, node_fault, nodes, or_else, meeting_fault, ring_fault_of, stack_fault_of, arc_fault, map_fault}
+use Rattle.tgap_model.specs.declared.geometry.Fraction.{Fraction}
+use Rattle.tgap_model.specs.Evidence.{IsFirstMeeting}
+use Rattle.std.proofs.lemmas.Option.{slice_get_within, get_or_from_slice_get}
 use Rattle.tgap_model.proofs.BaseFacts.{arc_facts, base_facts}
+use Rattle.tgap_model.proofs.Proper.{no_segment}
+use Rattle.tgap_model.proofs.FirstFault.{none_from_faults}
 use Rattle.planar_apart.specs.declared.meeting.Meeting.{Meeting}
-use Rattle.planar_apart.specs.Meetings.{meets, IsMeeting}
-use Rattle.planar_apart.proofs.Pairs.{no_segment}
+use Rattle.planar_apart.specs.Meetings.{meets}
 use Rattle.base_check.specs.declared.ring.NodeGap.{NodeGap}
 use Rattle.base_check.specs.Spokes.{disagrees}
 
@@ -47,15 +51,18 @@ node_is_fault m o e f = ap (λ (p : Option MapFault). or_else p (ring_fault_of m
 
 -- ---- maps that agree have none
 
-pub no_meeting : (m : BaseMap) (found : Meeting) → AgreesAtNodes (base_segments m) → IsMeeting (base_segments m) found → ⊥
-no_meeting m found agrees h = agrees.apart found.i found.j no_segment h.order h.inside found.at (h.common no_segment)
-
-none_of : {A : Type 0} (find : A → Option MapFault) (xs : List A) → ((x : A) → find x ≡ None) → first_fault find xs ≡ None
-none_of find [] h = refl
-none_of find (x ∷ xs) h = ap (λ (o : Option MapFault). elim o [ None ↦ first_fault find xs | Some fault ↦ Some fault ]) (h x) ∙ none_of find xs h
+pub no_meeting : (m : BaseMap) (i j : ℕ) (at : Fraction) → AgreesAtNodes (base_segments m) → IsFirstMeeting (base_segments m) i j at → ⊥
+no_meeting m i j at agrees h =
+    let segments = base_segments m in
+    let apart = agrees.apart i j no_segment h.order (slice_get_within segments j h.second h.at_second) in
+    let first : get_or segments i no_segment ≡ h.first = get_or_from_slice_get segments i h.first no_segment h.at_first in
+    let second : get_or segments j no_segment ≡ h.second = get_or_from_slice_get segments j h.second no_segment h.at_second in
+    subst₂ AreApart first second apart at h.common
 
 pub no_node_gap : (m : BaseMap) (gap : NodeGap) → AgreesAtNodes (base_segments m) → Some (disagrees gap) ≡ ring_fault_of m → ⊥
-no_node_gap m gap agrees e = let none = e ∙ none_of (node_fault (base_segments m)) (nodes (base_segments m)) agrees.nodes in absurd cc
+no_node_gap m gap agrees e =
+    let none = e ∙ none_from_faults (node_fault (base_segments m)) (nodes (base_segments m)) (λ k d l. agrees.nodes (get_or (nodes (base_segments m)) k d)) in
+    absurd cc
 
 -- ---- stacks after arcs
 

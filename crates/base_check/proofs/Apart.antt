@@ -1,26 +1,26 @@
--- Two spokes of segments that are apart stand in one order or the other: two of one node and one direction would have a point in
+-- Two spokes of one node, of segments that are apart, stand in one order or the other: two of one direction would have a point in
 -- common, the middle between the node and the nearer one of the two far ends.
-use Rattle.std.proofs.Common.{◌≡◌, ◌≢◌, ◌⊎◌, inl, inr, ⊎_elim, ℕ, zero, suc, Bool, true, false, ◌||◌, cond, ℤ, pos, ◌+ℤ◌, ◌-ℤ◌, ◌*ℤ◌, neg_ℤ, ◌<ℤ◌, ◌≤ℤ◌, List, [], ◌∷◌, ◌++◌, get_or, flat_map, All, AllPairs, refl, sym, ap, ◌∙◌, subst, arith}
-use Rattle.std.proofs.lemmas.Bool.{or_left, or_right, or_from, and_right, false_from_ne_true}
+use Rattle.std.proofs.Common.{◌≡◌, ◌≢◌, ◌⊎◌, inl, inr, ⊎_elim, ℕ, zero, suc, Bool, true, false, ◌&&◌, ◌||◌, if◌then◌else◌, ℤ, pos, ◌+ℤ◌, ◌-ℤ◌, ◌*ℤ◌, neg_ℤ, ◌<ℤ◌, ◌≤ℤ◌, List, [], ◌∷◌, get_or, flat_map, All, AllPairs, refl, sym, ap, ◌∙◌, subst, arith}
+use Rattle.std.proofs.lemmas.Bool.{or_from, and_right, false_from_ne_true}
 use Rattle.std.proofs.lemmas.Int.{ints}
-use Rattle.std.proofs.lemmas.List.Elements.{All-nil, All-cons, All-append, All-head, All-tail}
+use Rattle.std.proofs.lemmas.List.Elements.{All-nil, All-head, All-tail, All-weaker}
+use Rattle.std.proofs.lemmas.List.Kept.{AllPairs-cons}
 use Rattle.lemmas.proofs.Polynomials.{same_value, var, number, minus, ◌⊕◌, ◌⊖◌, ◌⊗◌, x_of, y_of, x_step, y_step, cross}
 use Rattle.lemmas.proofs.Signs.{by_order, le_by, le_from_lt, le_from_same, same_from_le, same_from_sub, sub_not_negative, mul_positive, mul_not_negative, not_negative_from_mul, square_not_negative, square_positive, apart_from_lt, int_lt-false}
+use Rattle.lemmas.proofs.Members.{All-flat_map, AllPairs-nil, AllPairs-head, AllPairs-tail, AllPairs-append}
 use Rattle.tgap_model.specs.declared.geometry.Point.{Point}
 use Rattle.tgap_model.specs.declared.geometry.Seg.{Seg}
 use Rattle.tgap_model.specs.declared.geometry.Shared.{Shared}
 use Rattle.tgap_model.specs.declared.segment.LabelledSegment.{LabelledSegment}
+use Rattle.tgap_model.specs.Base.{same_point}
 use Rattle.tgap_model.specs.Point.{cross as cross_of}
-use Rattle.tgap_model.specs.Segment.{middle, is_at, is_permitted}
-use Rattle.tgap_model.specs.Partition.{AreApart, is_proper, shared_ends}
-use Rattle.grid_geo.proofs.Places.{IsOn, on_from_facts, at_facts, one_point}
-use Rattle.planar_apart.proofs.Boxes.{proper_parts}
-use Rattle.base_check.specs.declared.direction.Direction.{Direction}
-use Rattle.base_check.specs.declared.spoke.Spoke.{Spoke}
-use Rattle.base_check.specs.Spokes.{half, turn, spoke, spokes_from, before}
-use Rattle.base_check.proofs.Order.{IsUpper, HalfCase, half_case, points, turns_tied, before_tied}
-use Rattle.std.proofs.lemmas.List.Kept.{AllPairs-cons}
-use Rattle.lemmas.proofs.Members.{All-flat_map, AllPairs-nil, AllPairs-head, AllPairs-tail, AllPairs-append}
+use Rattle.tgap_model.specs.Segment.{middle, is_at, is_permitted, half_turn, turns_before}
+use Rattle.tgap_model.specs.Partition.{AreApart, Spoke, is_proper, shared_ends, spokes_of}
+use Rattle.tgap_model.proofs.Points.{point_same}
+use Rattle.tgap_model.proofs.Proper.{proper_parts}
+use Rattle.grid_geo.proofs.Places.{IsOn, on_from_facts, at_facts}
+use Rattle.grid_geo.proofs.Turns.{IsUpper, HalfCase, half_case, turns_tied}
+use Rattle.base_check.proofs.Spokes.{first_spoke, last_spoke, at_first, at_last, of_end, each_spoke}
 
 -- ---- parts of steps
 
@@ -82,13 +82,12 @@ opposite_part a b c d h = record { x = same a c h.x; y = same b d h.y }
     same : (a c : ℤ) → pos 0 ≤ℤ (neg_ℤ a *ℤ (neg_ℤ c -ℤ neg_ℤ a)) → pos 0 ≤ℤ (a *ℤ (c -ℤ a))
     same a c h = subst (λ (z : ℤ). pos 0 ≤ℤ z) (same_value (a ∷ c ∷ []) (minus (var 0) ⊗ (minus (var 1) ⊖ minus (var 0))) (var 0 ⊗ (var 1 ⊖ var 0)) refl) h
 
--- of two directions that do not turn, in one half, one is part of the other
-parts : (n : ℕ) (d e : Direction) → HalfCase d n → HalfCase e n → turn d e ≡ pos 0 → IsPart d.dx d.dy e.dx e.dy ⊎ IsPart e.dx e.dy d.dx d.dy
-parts zero d e x y h = upper_parts d.dx d.dy e.dx e.dy x y h
-parts (suc zero) d e x y h = ⊎_elim (λ p. inl (opposite_part d.dx d.dy e.dx e.dy p)) (λ p. inr (opposite_part e.dx e.dy d.dx d.dy p))
-    (upper_parts (neg_ℤ d.dx) (neg_ℤ d.dy) (neg_ℤ e.dx) (neg_ℤ e.dy) x y
-    (same_value (d.dx ∷ d.dy ∷ e.dx ∷ e.dy ∷ []) (minus (var 0) ⊗ minus (var 3) ⊖ minus (var 1) ⊗ minus (var 2)) (var 0 ⊗ var 3 ⊖ var 1 ⊗ var 2) refl ∙ h))
-parts (suc (suc n)) d e x y h = inl (record { x = part_of_any d.dx e.dx x.0; y = part_of_any d.dy e.dy x.1 })
+-- of two directions that do not turn, in one half turn, one is part of the other
+parts : (n : ℕ) (a b c d : ℤ) → HalfCase a b n → HalfCase c d n → a *ℤ d -ℤ b *ℤ c ≡ pos 0 → IsPart a b c d ⊎ IsPart c d a b
+parts zero a b c d x y h = upper_parts a b c d x y h
+parts (suc n) a b c d x y h = ⊎_elim (λ p. inl (opposite_part a b c d p)) (λ p. inr (opposite_part c d a b p))
+    (upper_parts (neg_ℤ a) (neg_ℤ b) (neg_ℤ c) (neg_ℤ d) x y
+    (same_value (a ∷ b ∷ c ∷ d ∷ []) (minus (var 0) ⊗ minus (var 3) ⊖ minus (var 1) ⊗ minus (var 2)) (var 0 ⊗ var 3 ⊖ var 1 ⊗ var 2) refl ∙ h))
 
 -- ---- the middle between a node and a point near it
 
@@ -131,13 +130,13 @@ module _ (v f h : Point) (line : cross_of v h f ≡ pos 0) (part : IsPart (h.x -
   -- and at no end of it
   module _ (near : v ≢ h) (far : v ≢ f) where
     not_at_node : is_at (middle v h) v ≡ false
-    not_at_node = false_from_ne_true (is_at (middle v h) v) (λ e. let at = at_facts (middle v h) v e in near (one_point v h (same v.x h.x at.x) (same v.y h.y at.y)))
+    not_at_node = false_from_ne_true (is_at (middle v h) v) (λ e. let at = at_facts (middle v h) v e in near (point_same v h (same v.x h.x at.x) (same v.y h.y at.y)))
       where
         same : (v h : ℤ) → (v +ℤ h) -ℤ pos 2 *ℤ v ≡ pos 0 → v ≡ h
         same v h e = omega (arith, ints)
 
     not_at_far : is_at (middle v h) f ≡ false
-    not_at_far = false_from_ne_true (is_at (middle v h) f) (λ e. let at = at_facts (middle v h) f e in far (one_point v f (same v.x f.x h.x at.x part.x) (same v.y f.y h.y at.y part.y)))
+    not_at_far = false_from_ne_true (is_at (middle v h) f) (λ e. let at = at_facts (middle v h) f e in far (point_same v f (same v.x f.x h.x at.x part.x) (same v.y f.y h.y at.y part.y)))
       where
         beyond : (v f h : ℤ) → (v +ℤ h) -ℤ pos 2 *ℤ f ≡ pos 0 → h ≡ pos 2 *ℤ f -ℤ v
         beyond v f h e = omega (arith, ints)
@@ -158,19 +157,29 @@ module _ (v f h : Point) (line : cross_of v h f ≡ pos 0) (part : IsPart (h.x -
     not_permitted shared s t (inl e) = or_from _ _ (and_right _ _ (ap (is_at (middle v h)) e.0 ∙ not_at_node)) (and_right _ _ (ap (is_at (middle v h)) e.1 ∙ not_at_far))
     not_permitted shared s t (inr e) = or_from _ _ (and_right _ _ (ap (is_at (middle v h)) e.0 ∙ not_at_far)) (and_right _ _ (ap (is_at (middle v h)) e.1 ∙ not_at_node))
 
--- ---- two spokes
+-- ---- two spokes of one node
 
 -- the two stand in one order or the other
-abbrev pub IsDecided : Spoke → Spoke → Type 0
-IsDecided p q = (before p q || before q p) ≡ true
+abbrev pub IsDecided : Point → Spoke → Spoke → Type 0
+IsDecided v p q = (turns_before v p.toward q.toward || turns_before v q.toward p.toward) ≡ true
 
-decided_by : (p q : Spoke) → (before p q ≡ false → before q p ≡ false → ⊥) → IsDecided p q
-decided_by p q never = by (before p q) (before q p) refl refl
+decided_by : (v : Point) (p q : Spoke) → (turns_before v p.toward q.toward ≡ false → turns_before v q.toward p.toward ≡ false → ⊥) → IsDecided v p q
+decided_by v p q never = by (turns_before v p.toward q.toward) (turns_before v q.toward p.toward) refl refl
   where
-    by : (b c : Bool) → before p q ≡ b → before q p ≡ c → (b || c) ≡ true
+    by : (b c : Bool) → turns_before v p.toward q.toward ≡ b → turns_before v q.toward p.toward ≡ c → (b || c) ≡ true
     by true c e f = refl
     by false true e f = refl
     by false false e f = absurd (never e f)
+
+-- the spoke leaves the point along the segment
+pub record GoesAlong (s : LabelledSegment) (v : Point) (q : Spoke) : Type 0 where
+  pub joins : Joins s.segment v q.toward
+  pub away : v ≢ q.toward
+
+pub all_along : (v : Point) (s : LabelledSegment) → s.segment.a ≢ s.segment.b → All (GoesAlong s v) (spokes_of v s)
+all_along v s apart = each_spoke v s (GoesAlong s v)
+    (λ b e. record { joins = inl (e, refl); away = λ f. apart (e ∙ f) })
+    (λ c e. record { joins = inr (refl, e); away = λ f. apart (sym (e ∙ f)) })
 
 module _ (s t : LabelledSegment) (apart : AreApart s t) where
   -- two of one node in one direction have the middle in common
@@ -184,83 +193,48 @@ module _ (s t : LabelledSegment) (apart : AreApart s t) where
     forbidden = not_permitted v f h line part near far (shared_ends s t) s.segment t.segment js;
   })
 
-  module _ (v f : Point) (l r : ℕ) (js : Joins s.segment v f) (far : v ≢ f) where
-    at_one_node : (g : Point) (m n : ℕ) → Joins t.segment v g → v ≢ g → IsDecided (spoke v f l r) (spoke v g m n)
-    at_one_node g m n jt farther = decided_by (spoke v f l r) (spoke v g m n) (λ i k.
-        let tie = before_tied (spoke v f l r) (spoke v g m n) i k in
-        let one = turns_tied d e tie.1.0 tie.1.1 in
-        let line = same_from_le (int_lt-false (pos 0) (turn d e) one.1.0) (le_by (int_lt-false (pos 0) (turn e d) one.1.1) back) in
-        ⊎_elim
-        (λ p. never_both v f g f js jt far far (flat f) (part_of_itself d.dx d.dy) line p)
-        (λ p. never_both v f g g js jt far farther (turned_zero d.dx d.dy e.dx e.dy line) p (flat g) (part_of_itself e.dx e.dy))
-        (parts (half d) d e (half_case d) (subst (HalfCase e) (sym one.0) (half_case e)) line))
-      where
-        d : Direction
-        d = record { dx = f.x -ℤ v.x; dy = f.y -ℤ v.y }
+  decided : (v : Point) (p q : Spoke) → GoesAlong s v p → GoesAlong t v q → IsDecided v p q
+  decided v p q x y = decided_by v p q (λ i k.
+      let f = p.toward in
+      let g = q.toward in
+      let one = turns_tied v f g i k in
+      let line = same_from_le (int_lt-false (pos 0) (cross_of v f g) one.1.0) (le_by (int_lt-false (pos 0) (cross_of v g f) one.1.1) (back v f g)) in
+      ⊎_elim
+      (λ h. never_both v f g f x.joins y.joins x.away x.away (flat v f) (part_of_itself (f.x -ℤ v.x) (f.y -ℤ v.y)) line h)
+      (λ h. never_both v f g g x.joins y.joins x.away y.away (turned_zero (f.x -ℤ v.x) (f.y -ℤ v.y) (g.x -ℤ v.x) (g.y -ℤ v.y) line) h (flat v g) (part_of_itself (g.x -ℤ v.x) (g.y -ℤ v.y)))
+      (parts (half_turn v f) (f.x -ℤ v.x) (f.y -ℤ v.y) (g.x -ℤ v.x) (g.y -ℤ v.y) (half_case v f x.away)
+      (subst (HalfCase (g.x -ℤ v.x) (g.y -ℤ v.y)) (sym one.0) (half_case v g y.away)) line))
+    where
+      back : (v f g : Point) → cross_of v f g -ℤ pos 0 ≡ pos 0 -ℤ cross_of v g f
+      back v f g = same_value (v.x ∷ v.y ∷ f.x ∷ f.y ∷ g.x ∷ g.y ∷ []) (cross 0 1 2 ⊖ number (pos 0)) (number (pos 0) ⊖ cross 0 2 1) refl
 
-        e : Direction
-        e = record { dx = g.x -ℤ v.x; dy = g.y -ℤ v.y }
+      flat : (v h : Point) → cross_of v h h ≡ pos 0
+      flat v h = same_value (v.x ∷ v.y ∷ h.x ∷ h.y ∷ []) (cross 0 1 1) (number (pos 0)) refl
 
-        back : turn d e -ℤ pos 0 ≡ pos 0 -ℤ turn e d
-        back = same_value (d.dx ∷ d.dy ∷ e.dx ∷ e.dy ∷ []) (var 0 ⊗ var 3 ⊖ var 1 ⊗ var 2 ⊖ number (pos 0)) (number (pos 0) ⊖ (var 2 ⊗ var 1 ⊖ var 3 ⊗ var 0)) refl
+-- ---- all spokes of one node
 
-        flat : (h : Point) → cross_of v h h ≡ pos 0
-        flat h = same_value (v.x ∷ v.y ∷ h.x ∷ h.y ∷ []) (cross 0 1 1) (number (pos 0)) refl
-
-    decided : (w g : Point) (m n : ℕ) → Joins t.segment w g → w ≢ g → IsDecided (spoke v f l r) (spoke w g m n)
-    decided w g m n jt farther = elim (points.cases v w) [
-      | inl first ↦ or_left _ _ (or_left _ _ first)
-      | inr (inl e) ↦ subst (λ (u : Point). Joins t.segment u g → u ≢ g → IsDecided (spoke v f l r) (spoke u g m n)) e (at_one_node g m n) jt farther
-      | inr (inr second) ↦ or_right _ _ (or_left _ _ second)
-    ]
-
--- what holds of both spokes of a segment holds of those that it has
-each_spoke : (P : Spoke → Type 0) (s : LabelledSegment) → P (spoke s.segment.a s.segment.b s.left s.right) → P (spoke s.segment.b s.segment.a s.right s.left) → All P (spokes_from s)
-each_spoke P s first second = All-append P _ _ (one s.starts first) (one s.ends second)
+-- a segment has two spokes at different points
+own_pairs : (v : Point) (s : LabelledSegment) → s.segment.a ≢ s.segment.b → AllPairs (IsDecided v) (spokes_of v s)
+own_pairs v s apart = AllPairs-append (IsDecided v) (at_first s v s.starts) (at_last s v s.ends)
+    (lone (s.starts && same_point s.segment.a v) (first_spoke s)) (lone (s.ends && same_point s.segment.b v) (last_spoke s))
+    (of_end v s.segment.a s.starts (first_spoke s) (λ p. All (IsDecided v p) (at_last s v s.ends)) (λ b e.
+    of_end v s.segment.b s.ends (last_spoke s) (IsDecided v (first_spoke s)) (λ c f. absurd (apart (e ∙ sym f)))))
   where
-    one : {p : Spoke} (b : Bool) → P p → All P (cond b (p ∷ []) [])
-    one {p} true h = All-cons P p [] h (All-nil P)
-    one {p} false h = All-nil P
+    lone : (b : Bool) (q : Spoke) → AllPairs (IsDecided v) (if b then q ∷ [] else [])
+    lone true q = AllPairs-cons (IsDecided v) q [] (All-nil (IsDecided v q)) (AllPairs-nil (IsDecided v))
+    lone false q = AllPairs-nil (IsDecided v)
 
-first_joins : (s : Seg) → Joins s s.a s.b
-first_joins s = inl (refl, refl)
-
-second_joins : (s : Seg) → Joins s s.b s.a
-second_joins s = inr (refl, refl)
-
--- ---- all spokes
-
-one_pair : {A : Type 0} (R : A → A → Type 0) (b c : Bool) (x y : A) → R x y → AllPairs R (cond b (x ∷ []) [] ++ cond c (y ∷ []) [])
-one_pair R true true x y h = AllPairs-cons R x (y ∷ []) (All-cons (R x) y [] h (All-nil (R x))) (AllPairs-cons R y [] (All-nil (R y)) (AllPairs-nil R))
-one_pair R true false x y h = AllPairs-cons R x [] (All-nil (R x)) (AllPairs-nil R)
-one_pair R false true x y h = AllPairs-cons R y [] (All-nil (R y)) (AllPairs-nil R)
-one_pair R false false x y h = AllPairs-nil R
-
--- the two spokes of one segment leave different nodes
-own_pair : (s : LabelledSegment) → s.segment.a ≢ s.segment.b → IsDecided (spoke s.segment.a s.segment.b s.left s.right) (spoke s.segment.b s.segment.a s.right s.left)
-own_pair s apart = elim (points.cases s.segment.a s.segment.b) [
-  | inl first ↦ or_left _ _ (or_left _ _ first)
-  | inr (inl e) ↦ absurd (apart e)
-  | inr (inr second) ↦ or_right _ _ (or_left _ _ second)
-]
-
-pub all_decided : (segments : List LabelledSegment) → All (λ (s : LabelledSegment). is_proper s ≡ true) segments → AllPairs AreApart segments → AllPairs IsDecided (flat_map spokes_from segments)
-all_decided [] proper apart = AllPairs-nil IsDecided
-all_decided (s ∷ segments) proper apart =
+pub all_decided : (v : Point) (segments : List LabelledSegment) → All (λ (s : LabelledSegment). is_proper s ≡ true) segments → AllPairs AreApart segments
+    → AllPairs (IsDecided v) (flat_map (spokes_of v) segments)
+all_decided v [] proper apart = AllPairs-nil (IsDecided v)
+all_decided v (s ∷ segments) proper apart =
     let own = (proper_parts s (All-head (λ (u : LabelledSegment). is_proper u ≡ true) s segments proper)).apart in
     let later = All-tail (λ (u : LabelledSegment). is_proper u ≡ true) s segments proper in
-    AllPairs-append IsDecided (spokes_from s) (flat_map spokes_from segments)
-    (one_pair IsDecided s.starts s.ends _ _ (own_pair s own))
-    (all_decided segments later (AllPairs-tail AreApart s segments apart))
-    (each_spoke (λ (p : Spoke). All (IsDecided p) (flat_map spokes_from segments)) s
-    (with_later s.segment.a s.segment.b s.left s.right (first_joins s.segment) own later)
-    (with_later s.segment.b s.segment.a s.right s.left (second_joins s.segment) (λ e. own (sym e)) later))
+    AllPairs-append (IsDecided v) (spokes_of v s) (flat_map (spokes_of v) segments) (own_pairs v s own) (all_decided v segments later (AllPairs-tail AreApart s segments apart))
+    (All-weaker (GoesAlong s v) (λ p. All (IsDecided v p) (flat_map (spokes_of v) segments)) (with_later later) (spokes_of v s) (all_along v s own))
   where
-    with_later : (v f : Point) (l r : ℕ) → Joins s.segment v f → v ≢ f → All (λ (u : LabelledSegment). is_proper u ≡ true) segments → All (IsDecided (spoke v f l r)) (flat_map spokes_from segments)
-    with_later v f l r js far later = All-flat_map (IsDecided (spoke v f l r)) spokes_from segments (λ k d lt.
+    with_later : All (λ (u : LabelledSegment). is_proper u ≡ true) segments → (p : Spoke) → GoesAlong s v p → All (IsDecided v p) (flat_map (spokes_of v) segments)
+    with_later later p along = All-flat_map (IsDecided v p) (spokes_of v) segments (λ k d lt.
         let t = get_or segments k d in
-        let other = (proper_parts t (later k d lt)).apart in
         let two = AllPairs-head AreApart s segments apart k d lt in
-        each_spoke (IsDecided (spoke v f l r)) t
-        (decided s t two v f l r js far t.segment.a t.segment.b t.left t.right (first_joins t.segment) other)
-        (decided s t two v f l r js far t.segment.b t.segment.a t.right t.left (second_joins t.segment) (λ e. other (sym e))))
+        All-weaker (GoesAlong t v) (IsDecided v p) (λ q other. decided s t two v p q along other) (spokes_of v t) (all_along v t (proper_parts t (later k d lt)).apart))

@@ -4,4 +4,5 @@ pub mod Rings
 pub mod Nodes
 pub mod Apart
 pub mod Faults
+pub mod Evidence
 pub mod Agreement

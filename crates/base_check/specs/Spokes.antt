@@ -1,58 +1,52 @@
--- Spokes with their nodes, their order, and the rings that they make: one list for all nodes, beside the definition, which takes
--- one node after the other.
-use Rattle.std.specs.Prelude.{◌≤◌, ℕ, ◌+◌, ◌^◌, Bool, ◌&&◌, ◌||◌, ℤ, pos, ◌-ℤ◌, ◌*ℤ◌, int_lt, nat_lt, ◌==◌, unsigned_abs, List, [], ◌∷◌, ◌++◌, Option, Some, None, if◌then◌else◌}
-use Rattle.std.specs.Ordering.{int_eq}
+-- Spokes with their nodes, their order, and the rings that they make: one list for all nodes, beside the definition, which
+-- takes one node after the other.
+use Rattle.std.specs.Prelude.{◌≡◌, ℕ, ◌+◌, Bool, ◌&&◌, ◌||◌, not, ◌==◌, List, [], ◌∷◌, ◌++◌, map, flat_map, filter, length, get_or, IsPermutation, Option, Some, None, if◌then◌else◌}
 use Rattle.tgap_model.specs.declared.geometry.Point.{Point}
 use Rattle.tgap_model.specs.declared.segment.LabelledSegment.{LabelledSegment}
 use Rattle.tgap_model.specs.declared.fault.MapFault.{MapFault}
 use Rattle.tgap_model.specs.declared.fault.MapFault.TheVariants.{NodeDisagrees}
 use Rattle.tgap_model.specs.Base.{same_point}
-use Rattle.tgap_model.specs.Segment.{point_before}
-use Rattle.base_check.specs.declared.direction.Direction.{Direction}
-use Rattle.base_check.specs.declared.spoke.Spoke.{Spoke}
+use Rattle.tgap_model.specs.Segment.{point_before, turns_before}
+use Rattle.tgap_model.specs.Partition.{Spoke, spokes_of}
+use Rattle.base_check.specs.declared.spoke.NodeSpoke.{NodeSpoke}
 use Rattle.base_check.specs.declared.ring.NodeGap.{NodeGap}
 
 -- a gap at a node as a fault of a map
 abbrev pub disagrees : NodeGap → MapFault
 disagrees g = NodeDisagrees g.node g.spoke g.next g.left g.right
 
--- a coordinate within the limits
-abbrev pub IsNear : ℤ → Type 0
-IsNear z = unsigned_abs z ≤ 2 ^ 28
-
--- ---- directions
-
--- 0 for a direction that goes up, or to positive x; 1 for the others; 2 for none
-abbrev pub half : Direction → ℕ
-half d =
-    if int_lt (pos 0) d.dy || (int_eq d.dy (pos 0) && int_lt (pos 0) d.dx) then 0
-    else if int_lt d.dy (pos 0) || int_lt d.dx (pos 0) then 1 else 2
-
--- the cross product of two directions
-abbrev pub turn : Direction → Direction → ℤ
-turn d e = d.dx *ℤ e.dy -ℤ d.dy *ℤ e.dx
-
--- the first comes before the second, counter-clockwise from the direction of positive x
-abbrev pub turns : Direction → Direction → Bool
-turns d e = nat_lt (half d) (half e) || ((half d == half e) && int_lt (pos 0) (turn d e))
-
 -- ---- spokes
 
--- the spoke from a node to a point
-abbrev pub spoke : Point → Point → ℕ → ℕ → Spoke
-spoke v p left right = record { node = v; direction = record { dx = p.x -ℤ v.x; dy = p.y -ℤ v.y }; left = left; right = right }
+-- the spoke, as the definition has it
+abbrev pub spoke : NodeSpoke → Spoke
+spoke p = record { toward = p.toward; left = p.left; right = p.right }
 
--- the spokes of a segment: an end of the arc is seen as leaving its node
-abbrev pub spokes_from : LabelledSegment → List Spoke
-spokes_from s =
-    (if s.starts then spoke s.segment.a s.segment.b s.left s.right ∷ [] else [])
-    ++ (if s.ends then spoke s.segment.b s.segment.a s.right s.left ∷ [] else [])
+-- the spokes of a list at one node
+abbrev pub is_at_node : Point → NodeSpoke → Bool
+is_at_node v p = same_point p.node v
+
+abbrev pub spokes_in : Point → List NodeSpoke → List Spoke
+spokes_in v spokes = map spoke (filter (is_at_node v) spokes)
+
+-- at each point they are those that the definition has of the segments, in some order
+abbrev pub AreSpokesOf : List LabelledSegment → List NodeSpoke → Type 0
+AreSpokesOf segments spokes = (v : Point) → IsPermutation (flat_map (spokes_of v) segments) (spokes_in v spokes)
+
+-- at each point those of the segment come after those that were there
+abbrev pub AddsSpokesOf : LabelledSegment → List NodeSpoke → List NodeSpoke → Type 0
+AddsSpokesOf s old new = (v : Point) → spokes_in v new ≡ spokes_in v old ++ spokes_of v s
 
 -- the order of spokes: by node, and then by direction
-abbrev pub before : Spoke → Spoke → Bool
-before p q = point_before p.node q.node || (same_point p.node q.node && turns p.direction q.direction)
+abbrev pub before : NodeSpoke → NodeSpoke → Bool
+before p q =
+    point_before p.node q.node || (same_point p.node q.node && turns_before p.node p.toward q.toward)
 
 -- ---- rings
+
+-- the ring of spoke number i ends with it: it is the last of all, or the next one is at another node
+abbrev pub ring_ends : List NodeSpoke → ℕ → NodeSpoke → Bool
+ring_ends spokes i d =
+    (i + 1 == length spokes) || not (same_point (get_or spokes i d).node (get_or spokes (i + 1) d).node)
 
 -- the first gap, or else the second
 abbrev pub or_gap : Option NodeGap → Option NodeGap → Option NodeGap
@@ -60,13 +54,14 @@ or_gap None later = later
 or_gap (Some gap) later = Some gap
 
 -- the gap between spoke number i of a node and the next one, number j, where the faces disagree
-abbrev pub gap_between : Spoke → ℕ → Spoke → ℕ → Option NodeGap
+abbrev pub gap_between : NodeSpoke → ℕ → NodeSpoke → ℕ → Option NodeGap
 gap_between p i q j =
-    if p.left == q.right then None else Some (record { node = p.node; spoke = i; next = j; left = p.left; right = q.right })
+    if p.left == q.right then None
+    else Some (record { node = p.node; spoke = i; next = j; left = p.left; right = q.right })
 
--- the first gap of these spokes, the first of them number i of the ring that begins with the spoke given; each ring is a run of
--- one node, and its first spoke comes next to its last one
-abbrev pub gap_from : Spoke → ℕ → List Spoke → Option NodeGap
+-- the first gap of these spokes, the first of them number i of the ring that begins with the spoke given; each ring is a run
+-- of one node, and its first spoke comes next to its last one
+abbrev pub gap_from : NodeSpoke → ℕ → List NodeSpoke → Option NodeGap
 gap_from first i [] = None
 gap_from first i (p ∷ []) = gap_between p i first 0
 gap_from first i (p ∷ q ∷ spokes) =
@@ -74,6 +69,6 @@ gap_from first i (p ∷ q ∷ spokes) =
     then or_gap (gap_between p i q (i + 1)) (gap_from first (i + 1) (q ∷ spokes))
     else or_gap (gap_between p i first 0) (gap_from q 0 (q ∷ spokes))
 
-abbrev pub gap_of : List Spoke → Option NodeGap
+abbrev pub gap_of : List NodeSpoke → Option NodeGap
 gap_of [] = None
 gap_of (p ∷ spokes) = gap_from p 0 (p ∷ spokes)

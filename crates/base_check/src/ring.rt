@@ -1,16 +1,14 @@
 //! Whether the faces agree round each node.
 
-ghost use Rattle.std.specs.Prelude.{◌≡◌, ◌<◌, ◌+◌, ◌^◌, ◌||◌, ◌==◌, not, length, get_or};
-ghost use Rattle.tgap_model.specs.Base.{same_point};
-ghost use Rattle.base_check.specs.declared.spoke.Spoke.{Spoke as Ray};
-ghost use Rattle.base_check.specs.Spokes.{disagrees, gap_between, gap_of};
+ghost use Rattle.std.specs.Prelude.{◌≡◌, ◌<◌, ◌^◌, length};
+ghost use Rattle.base_check.specs.Spokes.{disagrees, ring_ends, gap_between, gap_of};
 
-use crate::spoke::Spoke;
+use crate::spoke::NodeSpoke;
 use tgap_model::{MapFault, Point};
 
-/// Two spokes of a node, the second next to the first counter-clockwise, of which the first one's left face is not the second
-/// one's right face. The spokes are numbered counter-clockwise from 0, the first the one least turned from the direction of
-/// positive x.
+/// Two spokes of a node, the second next to the first counter-clockwise, of which the first one's left face is not the
+/// second one's right face. The spokes are numbered counter-clockwise from 0, the first the one least turned from the
+/// direction of positive x.
 #[derive(Clone, Copy, Debug, PartialEq, Eq)]
 pub struct NodeGap {
     pub node: Point,
@@ -36,7 +34,7 @@ impl NodeGap {
 }
 
 /// What is between spoke number `i` of a node and the next one, number `j`: a gap where the faces disagree.
-fn gap_between(p: &Spoke, i: usize, q: &Spoke, j: usize) -> Option<NodeGap>
+fn gap_between(p: &NodeSpoke, i: usize, q: &NodeSpoke, j: usize) -> Option<NodeGap>
     requires i { i < 2 ^ 32 }
     requires j { j < 2 ^ 32 }
     ensures { result ≡ gap_between p.now i q.now j }
@@ -54,15 +52,15 @@ fn gap_between(p: &Spoke, i: usize, q: &Spoke, j: usize) -> Option<NodeGap>
 }
 
 /// Whether the ring of spoke `i` ends with it.
-fn is_last(spokes: &[Spoke], i: usize) -> bool
+fn is_last(spokes: &[NodeSpoke], i: usize) -> bool
     requires inside { i < length spokes.now }
-    ensures { (d : Ray) → result ≡ ((i + 1 == length spokes.now) || not (same_point (get_or spokes.now i d).node (get_or spokes.now (i + 1) d).node)) }
+    ensures { (d : NodeSpoke) → result ≡ ring_ends spokes.now i d }
 {
     i + 1 == spokes.len() || spokes[i].node != spokes[i + 1].node
 }
 
-/// The first gap of all rings, in order. A ring is a run of spokes of one node; the first one comes next to its last one.
-pub fn first_gap(spokes: &[Spoke]) -> Option<NodeGap>
+/// The first gap of all rings, in order. A ring is a run of spokes of one node; its first one comes next to its last one.
+pub fn first_gap(spokes: &[NodeSpoke]) -> Option<NodeGap>
     requires few { length spokes.now < 2 ^ 32 }
     ensures { result ≡ gap_of spokes.now }
 {

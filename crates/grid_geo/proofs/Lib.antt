@@ -7,3 +7,5 @@ pub mod CommonPoint
 pub mod Directions
 pub mod Heights
 pub mod Disjoint
+pub mod PointOrder
+pub mod Turns

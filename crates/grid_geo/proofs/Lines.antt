@@ -14,7 +14,8 @@ use Rattle.tgap_model.specs.declared.geometry.Seg.{Seg}
 use Rattle.tgap_model.specs.Point.{cross as cross_of}
 use Rattle.tgap_model.specs.Segment.{cross_at, point_before, run, rise}
 use Rattle.lemmas.proofs.Products.{zero_from_mul_left, proportional_zero, proportional_between}
-use Rattle.grid_geo.proofs.Places.{x_gap, y_gap, IsOn, IsAt, one_point}
+use Rattle.tgap_model.proofs.Points.{point_same}
+use Rattle.grid_geo.proofs.Places.{x_gap, y_gap, IsOn, IsAt}
 
 -- the grid point is on the line of the segment
 pub record IsOnLine (s : Seg) (v : Point) : Type 0 where
@@ -132,7 +133,7 @@ graph_over_y s e n = record {
 -- the line of two different points is a graph over one of the axes
 pub line_is_graph : (s : Seg) → s.a ≢ s.b → (k : Axis) × IsGraph s k
 line_is_graph s apart = by_zero (run s)
-    (λ e. by_zero (rise s) (λ f. absurd (apart (one_point s.a s.b (same_from_sub s.a.x s.b.x e) (same_from_sub s.a.y s.b.y f)))) (λ n. (over_y, graph_over_y s e n)))
+    (λ e. by_zero (rise s) (λ f. absurd (apart (point_same s.a s.b (same_from_sub s.a.x s.b.x e) (same_from_sub s.a.y s.b.y f)))) (λ n. (over_y, graph_over_y s e n)))
     (λ n. (over_x, graph_over_x s n))
   where
     by_zero : {P : Type 0} (z : ℤ) → (z ≡ pos 0 → P) → (z ≢ pos 0 → P) → P

@@ -14,7 +14,8 @@ use Rattle.tgap_model.specs.Point.{cross as cross_of}
 use Rattle.tgap_model.specs.Segment.{cross_at, point_before, run, rise, turn, earlier_end, later_end, common_first, common_last, middle, overlap}
 use Rattle.lemmas.proofs.Products.{zero_from_square}
 use Rattle.lemmas.proofs.Intervals.{common_low, common_high, from_least, to_greatest, in_common_low, in_common_high, middle_in_first, middle_in_second, lone_first, lone_second, scaled_low, scaled_high}
-use Rattle.grid_geo.proofs.Places.{x_gap, y_gap, IsOn, IsAt, IsCommon, one_point}
+use Rattle.tgap_model.proofs.Points.{point_same}
+use Rattle.grid_geo.proofs.Places.{x_gap, y_gap, IsOn, IsAt, IsCommon}
 use Rattle.grid_geo.proofs.Lines.{IsOnLine, first_end_on_line, second_end_on_line, gaps_on_line, on_line_from_gaps, parallel_gaps, Axis, over_x, over_y, along, numerator, along_gap, IsGraph, line_is_graph, on_along, at_along, on_from_along, at_from_along}
 
 -- the common part of two segments, along an axis
@@ -204,7 +205,7 @@ module _ (s t : Seg) (apart : s.a ≢ s.b) (parallel : turn s t ≡ pos 0) where
   second_line : (p : Fraction) → cross_at s.a s.b p ≡ pos 0 → IsOnLine s t.a → cross_at t.a t.b p ≡ pos 0
   second_line p h l = elim (mul_zero_cases (run s) (cross_at t.a t.b p) products.0) [
     | inl e ↦ elim (mul_zero_cases (rise s) (cross_at t.a t.b p) products.1) [
-      | inl f ↦ absurd (apart (one_point s.a s.b (same_from_sub s.a.x s.b.x e) (same_from_sub s.a.y s.b.y f)))
+      | inl f ↦ absurd (apart (point_same s.a s.b (same_from_sub s.a.x s.b.x e) (same_from_sub s.a.y s.b.y f)))
       | inr z ↦ z
     ]
     | inr z ↦ z

@@ -12,13 +12,6 @@ use Rattle.tgap_model.specs.declared.geometry.Seg.{Seg}
 use Rattle.tgap_model.specs.Segment.{is_at, is_on, cross_at, lies_between}
 use Rattle.lemmas.proofs.Products.{not_positive_cases, mul_not_positive_left, proportional_zero, proportional_between}
 
--- two points with the same coordinates are one
-pub one_point : (u v : Point) → u.x ≡ v.x → u.y ≡ v.y → u ≡ v
-one_point u v e f = ap (λ (x : ℤ). point x u.y) e ∙ ap (λ (y : ℤ). point v.x y) f
-  where
-    point : ℤ → ℤ → Point
-    point x y = record { x = x; y = y }
-
 -- how far a rational point is from a grid point along each axis, times its denominator
 abbrev pub x_gap : Fraction → Point → ℤ
 x_gap p v = p.nx -ℤ p.d *ℤ v.x

@@ -1,7 +1,6 @@
 -- Orders by a key, and where the keys are equal by a second test.
 use Rattle.std.proofs.Common.{◌≡◌, ◌⊎◌, inl, inr, ℕ, Bool, true, false, ◌&&◌, ◌||◌, ◌==◌, nat_lt, refl, sym, ap, ◌∙◌, subst, true≢false, arith}
 use Rattle.std.specs.Prelude.{⊤}
-use Rattle.std.specs.Cmp.{IsStrictWeakOrder}
 use Rattle.std.proofs.lemmas.Bool.{or_left, or_from, and_left, false_from_ne_true}
 use Rattle.std.proofs.lemmas.Bool.Decides.{nat_tests}
 use Rattle.lemmas.specs.Sorting.{IsStrictOrderOn}
@@ -22,21 +21,19 @@ decided o x y e f = elim (o.cases x y) [
   | inr (inr g) ↦ absurd (true≢false (sym g ∙ f))
 ]
 
-module _ {A K : Type 0} (key : A → K) (lt eq : K → K → Bool) (by_key : IsKeyOrder lt eq) (second : A → A → Bool)
+module _ {A K : Type 0} (P : A → Type 0) (key : A → K) (lt eq : K → K → Bool) (by_key : IsKeyOrder lt eq) (second : A → A → Bool)
     (one_way : (x y : A) → key x ≡ key y → second x y ≡ true → second y x ≡ false)
-    (chain : (x y z : A) → key x ≡ key y → key y ≡ key z → second x y ≡ false → second y z ≡ false → second x z ≡ false) where
+    (chain : (x y z : A) → P x → P y → P z → key x ≡ key y → key y ≡ key z → second x y ≡ false → second y z ≡ false → second x z ≡ false) where
   abbrev joined : A → A → Bool
   joined x y = lt (key x) (key y) || (eq (key x) (key y) && second x y)
 
   not_back : (a b : K) → lt a b ≡ true → lt b a ≡ false
   not_back a b e = one_order by_key.order a b tt tt e
 
-  differ : (a b : K) → lt a b ≡ true → eq a b ≡ false
-  differ a b e = false_from_ne_true (eq a b) (λ f. true≢false (sym (subst (λ (k : K). lt a k ≡ true) (sym (by_key.same a b f)) e) ∙ by_key.order.itself a tt))
-
   -- what is before, is not after
   not_after : (x y : A) → lt (key x) (key y) ≡ true → joined y x ≡ false
-  not_after x y e = or_from _ _ (not_back (key x) (key y) e) (and_left _ _ (false_from_ne_true (eq (key y) (key x)) (λ f. true≢false (sym (subst (λ (k : K). lt (key x) k ≡ true) (by_key.same (key y) (key x) f) e) ∙ by_key.order.itself (key x) tt))))
+  not_after x y e = or_from _ _ (not_back (key x) (key y) e) (and_left _ _ (false_from_ne_true (eq (key y) (key x)) (λ f.
+      true≢false (sym (subst (λ (k : K). lt (key x) k ≡ true) (by_key.same (key y) (key x) f) e) ∙ by_key.order.itself (key x) tt))))
 
   -- with one key the second test decides
   with_one_key : (x y : A) → key x ≡ key y → joined x y ≡ second x y
@@ -52,33 +49,36 @@ module _ {A K : Type 0} (key : A → K) (lt eq : K → K → Bool) (by_key : IsK
     | inr (inr g) ↦ absurd (true≢false (sym (or_left _ _ g) ∙ f))
   ]
 
-  pub joined_order : IsStrictWeakOrder joined
-  joined_order = record {
-    one_way = λ x y e. elim (by_key.cases (key x) (key y)) [
-      | inl l ↦ not_after x y l
-      | inr (inl s) ↦ with_one_key y x (sym s) ∙ one_way x y s (sym (with_one_key x y s) ∙ e)
-      | inr (inr g) ↦ absurd (true≢false (sym e ∙ not_after y x g))
-    ];
-    chain = λ x y z e f. elim (by_key.cases (key x) (key y)) [
-      | inl l ↦ absurd (true≢false (sym (or_left _ _ l) ∙ e))
-      | inr (inl s) ↦ elim (by_key.cases (key y) (key z)) [
-        | inl l ↦ absurd (true≢false (sym (or_left _ _ l) ∙ f))
-        | inr (inl t) ↦ with_one_key x z (s ∙ t) ∙ chain x y z s t (sym (with_one_key x y s) ∙ e) (sym (with_one_key y z t) ∙ f)
-        | inr (inr g) ↦ not_after z x (subst (λ (k : K). lt (key z) k ≡ true) (sym s) g)
-      ]
-      | inr (inr g) ↦ elim (by_key.cases (key y) (key z)) [
-        | inl l ↦ absurd (true≢false (sym (or_left _ _ l) ∙ f))
-        | inr (inl t) ↦ not_after z x (subst (λ (k : K). lt k (key x) ≡ true) t g)
-        | inr (inr h) ↦ not_after z x (by_key.order.passes (key z) (key y) (key x) tt tt tt h g)
-      ]
-    ];
-  }
+  -- two elements stand in one order at most
+  pub joined_one_way : (x y : A) → joined x y ≡ true → joined y x ≡ false
+  joined_one_way x y e = elim (by_key.cases (key x) (key y)) [
+    | inl l ↦ not_after x y l
+    | inr (inl s) ↦ with_one_key y x (sym s) ∙ one_way x y s (sym (with_one_key x y s) ∙ e)
+    | inr (inr g) ↦ absurd (true≢false (sym e ∙ not_after y x g))
+  ]
 
--- a strict weak order is a strict order
-pub strict_from_weak : {A : Type 0} (lt : A → A → Bool) → IsStrictWeakOrder lt → IsStrictOrderOn (λ (x : A). ⊤) lt
-strict_from_weak lt o = record {
-  itself = λ x p. false_from_ne_true (lt x x) (λ e. true≢false (sym e ∙ o.one_way x x e));
-  passes = λ x y z p q r e f. true_unless (lt x z) (λ g. true≢false (sym e ∙ o.chain x z y g (o.one_way y z f)));
+  -- and what is not before another one, which is not before a third one, is not before that
+  pub joined_chain : (x y z : A) → P x → P y → P z → joined x y ≡ false → joined y z ≡ false → joined x z ≡ false
+  joined_chain x y z p q r e f = elim (by_key.cases (key x) (key y)) [
+    | inl l ↦ absurd (true≢false (sym (or_left _ _ l) ∙ e))
+    | inr (inl s) ↦ elim (by_key.cases (key y) (key z)) [
+      | inl l ↦ absurd (true≢false (sym (or_left _ _ l) ∙ f))
+      | inr (inl t) ↦ with_one_key x z (s ∙ t) ∙ chain x y z p q r s t (sym (with_one_key x y s) ∙ e) (sym (with_one_key y z t) ∙ f)
+      | inr (inr g) ↦ not_after z x (subst (λ (k : K). lt (key z) k ≡ true) (sym s) g)
+    ]
+    | inr (inr g) ↦ elim (by_key.cases (key y) (key z)) [
+      | inl l ↦ absurd (true≢false (sym (or_left _ _ l) ∙ f))
+      | inr (inl t) ↦ not_after z x (subst (λ (k : K). lt k (key x) ≡ true) t g)
+      | inr (inr h) ↦ not_after z x (by_key.order.passes (key z) (key y) (key x) tt tt tt h g)
+    ]
+  ]
+
+-- an order in which any two compare is a strict order
+pub strict_from_weak : {A : Type 0} (P : A → Type 0) (lt : A → A → Bool) → ((x y : A) → lt x y ≡ true → lt y x ≡ false)
+    → ((x y z : A) → P x → P y → P z → lt x y ≡ false → lt y z ≡ false → lt x z ≡ false) → IsStrictOrderOn P lt
+strict_from_weak P lt one_way chain = record {
+  itself = λ x p. false_from_ne_true (lt x x) (λ e. true≢false (sym e ∙ one_way x x e));
+  passes = λ x y z p q r e f. true_unless (lt x z) (λ g. true≢false (sym e ∙ chain x z y p r q g (one_way y z f)));
 }
   where
     true_unless : (b : Bool) → (b ≡ false → ⊥) → b ≡ true

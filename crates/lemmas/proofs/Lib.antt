@@ -6,6 +6,7 @@ pub mod Intervals
 pub mod Fractions
 pub mod Members
 pub mod Sorting
+pub mod Permutations
 pub mod Placing
 pub mod Orders
 pub mod Keys

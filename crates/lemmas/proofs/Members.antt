@@ -1,8 +1,8 @@
 -- The members of a list: of one with a head, of a filter, of a front, of the values of a function; and the pairs of its members.
 use Rattle.std.proofs.Common.{◌≡◌, ◌⊎◌, inl, inr, ⊎_elim, ℕ, zero, suc, ◌+◌, ◌-◌, ◌<◌, ◌≤◌, Bool, true, false, cond, List, [], ◌∷◌, ◌++◌, map, flat_map, filter, length, take, drop, get_or, All, AllPairs, Contains, refl, sym, ap, ap₂, ◌∙◌, subst, subst₂, true≢false, arith}
 use Rattle.std.proofs.lemmas.Bool.{cases_order}
-use Rattle.std.proofs.lemmas.List.{get_or_default, get_or-take, get_or-drop, length-drop, length-take-le, take-append-drop}
-use Rattle.std.proofs.lemmas.List.Elements.{All-nil, All-head, All-tail, All-append, All-contains, All-contains_itself, All-filter, Contains-append_left, Contains-append_right, Contains-get_or, filter_passes}
+use Rattle.std.proofs.lemmas.List.{get_or_default, get_or-take, get_or-drop, get_or-map, length-map, length-drop, length-take-le, take-append-drop}
+use Rattle.std.proofs.lemmas.List.Elements.{All-nil, All-head, All-tail, All-append, All-contains, All-contains_itself, All-filter, Contains-append_left, Contains-append_right, Contains-append_cases, Contains-get_or, filter_passes}
 use Rattle.std.proofs.lemmas.List.Kept.{AllPairs-cons}
 
 -- ---- of a list with a head
@@ -87,6 +87,13 @@ Contains-flat_map f (z ∷ zs) x y c d = elim (in_cases z zs x c) [
   | inr r ↦ Contains-append_right (f z) (flat_map f zs) y (Contains-flat_map f zs x y r d)
 ]
 
+pub Contains-from_flat_map : {A B : Type 0} (f : A → List B) (xs : List A) (y : B) → Contains (flat_map f xs) y → (x : A) × (Contains xs x) × (Contains (f x) y)
+Contains-from_flat_map f [] y c = absurd (in_none y c)
+Contains-from_flat_map f (x ∷ xs) y c = elim (Contains-append_cases (f x) (flat_map f xs) y c) [
+  | inl d ↦ (x, in_head x xs, d)
+  | inr d ↦ let r = Contains-from_flat_map f xs y d in (r.0, in_tail x xs r.0 r.1, r.2)
+]
+
 pub All-flat_map : {A B : Type 0} (P : B → Type 0) (f : A → List B) (xs : List A) → All (λ x. All P (f x)) xs → All P (flat_map f xs)
 All-flat_map P f [] h = All-nil P
 All-flat_map P f (x ∷ xs) h =
@@ -127,3 +134,30 @@ module _ {A : Type 0} (R : A → A → Type 0) where
   related_to_next xs n d x pairs short (k, l, e) =
       let less : k < n = omega (arith, length-take-le n xs (omega arith)) in
       subst (λ y. R y (get_or xs n d)) (get_or_default xs k d x (omega arith) ∙ sym (get_or-take n xs k x less) ∙ e) (pairs k n d less short)
+
+  -- what holds of pairs of values holds of the pairs that have them
+  pub AllPairs-from_map : {B : Type 0} (f : B → A) (xs : List B) → AllPairs R (map f xs) → AllPairs (λ x y. R (f x) (f y)) xs
+  AllPairs-from_map f xs h i j d less short =
+      let long : j < length (map f xs) = omega (arith, short, length-map xs f) in
+      subst₂ R (get_or-map f xs i d (f d) (omega (arith, less, short))) (get_or-map f xs j d (f d) short) (h i j (f d) less long)
+
+  -- what holds of the pairs of each class holds of all pairs of one class
+  pub AllPairs-from_classes : {K : Type 0} (key : A → K) (is_of : K → A → Bool) → ((x : A) → is_of (key x) x ≡ true) → (xs : List A)
+      → ((k : K) → AllPairs R (filter (is_of k) xs)) → AllPairs (λ x y. key x ≡ key y → R x y) xs
+  AllPairs-from_classes key is_of own [] h = λ i j d less short. absurd (omega (arith, short))
+  AllPairs-from_classes {K} key is_of own (x ∷ xs) h = AllPairs-cons (λ y z. key y ≡ key z → R y z) x xs first (AllPairs-from_classes key is_of own xs later)
+    where
+      of_class : (k : K) (b : Bool) → is_of k x ≡ b → AllPairs R (cond b (x ∷ filter (is_of k) xs) (filter (is_of k) xs))
+      of_class k b e = subst (λ (c : Bool). AllPairs R (cond c (x ∷ filter (is_of k) xs) (filter (is_of k) xs))) e (h k)
+
+      later : (k : K) → AllPairs R (filter (is_of k) xs)
+      later k = by (is_of k x) refl
+        where
+          by : (b : Bool) → is_of k x ≡ b → AllPairs R (filter (is_of k) xs)
+          by true e = AllPairs-tail x (filter (is_of k) xs) (of_class k true e)
+          by false e = of_class k false e
+
+      first : All (λ y. key x ≡ key y → R x y) xs
+      first = All-from_members (λ y. key x ≡ key y → R x y) xs (λ y c e.
+          All-contains (R x) (filter (is_of (key x)) xs) y (AllPairs-head x (filter (is_of (key x)) xs) (of_class (key x) true (own x)))
+          (Contains-filter (is_of (key x)) xs y c (subst (λ (k : K). is_of k y ≡ true) (sym e) (own y))))

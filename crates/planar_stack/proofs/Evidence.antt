@@ -1,7 +1,7 @@
 -- What the search for the first stack that disagrees shows: two faces that differ, none that do above them, and no line before.
 use Rattle.std.proofs.Common.{◌≡◌, ◌≢◌, ℕ, zero, suc, ◌+◌, ◌<◌, ◌≤◌, ◌==◌, Bool, true, false, cond, List, [], ◌∷◌, length, ℤ, int_lt, Contains, Option, Some, None, refl, sym, ap, ◌∙◌, subst, arith}
 use Rattle.std.specs.Cmp.Derive.{both_true}
-use Rattle.std.proofs.lemmas.Bool.Decides.{nat_tests}
+use Rattle.std.proofs.lemmas.Bool.Decides.{Decides-eqb, not_from_Decides}
 use Rattle.lemmas.specs.Sorting.{is_before_first, is_sorted_by}
 use Rattle.lemmas.proofs.Sorting.{sorted_tail, sorted_next}
 use Rattle.lemmas.proofs.Signs.{Decides-int_lt}
@@ -15,12 +15,6 @@ use Rattle.tgap_model.specs.Evidence.{faces_down, face_reached, face_above, face
 use Rattle.tgap_model.proofs.FirstFault.{first_found}
 use Rattle.planar_stack.specs.Sweep.{first_stack_fault}
 use Rattle.planar_stack.proofs.Slabs.{end_abscissas}
-
-same_face : (m n : ℕ) → (m == n) ≡ true → m ≡ n
-same_face m n e = grind (arith, nat_tests)
-
-other_face : (m n : ℕ) → (m == n) ≡ false → m ≢ n
-other_face m n e f = grind (arith, nat_tests)
 
 -- ---- down one line
 
@@ -43,7 +37,7 @@ first_difference v i u [] fault e = by (u == 0) refl e
           place = 0;
           inside = omega arith;
           fault_is = sym same ∙ ap (λ (k : ℕ). StackDisagrees v k u 0) (omega arith);
-          differ = other_face u 0 t;
+          differ = not_from_Decides (u == 0) (Decides-eqb u 0) t;
           higher = λ k l. absurd (omega (arith, l));
         }
 first_difference v i u (s ∷ ss) fault e = by (s.upper == u) refl e (first_difference v (i + 1) s.lower ss fault)
@@ -61,7 +55,7 @@ first_difference v i u (s ∷ ss) fault e = by (s.upper == u) refl e (first_diff
         }
       where
         higher : (n : ℕ) → ((k : ℕ) → k < n → face_reached s.lower ss k ≡ face_below ss k) → (k : ℕ) → k < suc n → face_reached u (s ∷ ss) k ≡ face_below (s ∷ ss) k
-        higher n h zero l = sym (same_face s.upper u t)
+        higher n h zero l = sym ((Decides-eqb s.upper u).0 t)
         higher n h (suc k) l = h k (omega (arith, l))
     by false t h rest =
         let same : StackDisagrees v i u s.upper ≡ fault = cc in
@@ -69,7 +63,7 @@ first_difference v i u (s ∷ ss) fault e = by (s.upper == u) refl e (first_diff
           place = 0;
           inside = omega arith;
           fault_is = sym same ∙ ap (λ (k : ℕ). StackDisagrees v k u s.upper) (omega arith);
-          differ = λ f. other_face s.upper u t (sym f);
+          differ = λ f. not_from_Decides (s.upper == u) (Decides-eqb s.upper u) t (sym f);
           higher = λ k l. absurd (omega (arith, l));
         }
 
@@ -78,7 +72,7 @@ no_difference : (v : ℤ) (i u : ℕ) (ss : List Sides) → stack_fault_from v i
 no_difference v i u [] e zero l = by (u == 0) refl e
   where
     by : (b : Bool) → (u == 0) ≡ b → cond b None (Some (StackDisagrees v i u 0)) ≡ None → u ≡ 0
-    by true t h = same_face u 0 t
+    by true t h = (Decides-eqb u 0).0 t
     by false t h = absurd cc
 no_difference v i u [] e (suc k) l = absurd (omega (arith, l))
 no_difference v i u (s ∷ ss) e k l = by (s.upper == u) refl e (λ h. no_difference v (i + 1) s.lower ss h) k l
@@ -86,7 +80,7 @@ no_difference v i u (s ∷ ss) e k l = by (s.upper == u) refl e (λ h. no_differ
     by : (b : Bool) → (s.upper == u) ≡ b → ◌≡◌ {A = Option MapFault} (elim b [ true ↦ stack_fault_from v (i + 1) s.lower ss | false ↦ Some (StackDisagrees v i u s.upper) ]) None
         → (stack_fault_from v (i + 1) s.lower ss ≡ None → (k : ℕ) → k ≤ length ss → face_reached s.lower ss k ≡ face_below ss k)
         → (k : ℕ) → k ≤ length (s ∷ ss) → face_reached u (s ∷ ss) k ≡ face_below (s ∷ ss) k
-    by true t h rest zero l = sym (same_face s.upper u t)
+    by true t h rest zero l = sym ((Decides-eqb s.upper u).0 t)
     by true t h rest (suc k) l = rest h k (omega (arith, l))
     by false t h rest k l = absurd cc
 

@@ -1,5 +1,6 @@
-use Rattle.std.proofs.Common.{◌≡◌, Ok, Some, None, option_map, sym, ap, ◌∙◌}
-use Rattle.tgap_model.specs.Partition.{meeting_fault, ring_fault_of}
+use Rattle.std.proofs.Common.{◌≡◌, Ok, Some, None, option_map, sym, ap, ◌∙◌, subst}
+use Rattle.tgap_model.specs.Partition.{base_segments, meeting_fault, ring_fault_of}
+use Rattle.tgap_model.specs.Evidence.{IsShownBy}
 use Rattle.planar_apart.specs.Meetings.{meets}
 use Rattle.base_check.specs.Spokes.{disagrees}
 use Rattle.base_check.proofs.Agreement.{meeting_is_fault, node_is_fault, no_meeting, no_node_gap}
@@ -11,7 +12,15 @@ returns-in-Some-clause-fault g c = λ f e.
     meeting_is_fault c.args.base.now c.in-Some.field-0 (sym c.in_ok-i.ensures.exact ∙ ap (option_map meets) c.in-Some.is) ∙ ap Some same
 
 pub returns-in-Some-clause-agrees : goal.returns-in-Some-clause-agrees
-returns-in-Some-clause-agrees g c = λ agrees f e. no_meeting c.args.base.now c.in-Some.field-0 agrees (c.in_ok-i.ensures.found c.in-Some.field-0 (ap Ok c.in-Some.is))
+returns-in-Some-clause-agrees g c = λ agrees f e.
+    let m = c.in-Some.field-0 in
+    no_meeting c.args.base.now m.i m.j m.at agrees (c.in_ok-i.ensures.found m (ap Ok c.in-Some.is))
+
+pub returns-in-Some-clause-shown : goal.returns-in-Some-clause-shown
+returns-in-Some-clause-shown g c = λ f e.
+    let m = c.in-Some.field-0 in
+    let same : meets m ≡ f = cc in
+    subst (IsShownBy (base_segments c.args.base.now)) same (c.in_ok-i.ensures.found m (ap Ok c.in-Some.is))
 
 pub returns-in-Some-2-clause-fault : goal.returns-in-Some-2-clause-fault
 returns-in-Some-2-clause-fault g c = λ f e.
@@ -20,6 +29,13 @@ returns-in-Some-2-clause-fault g c = λ f e.
     let meeting : meeting_fault c.args.base.now ≡ None = sym c.in_ok-i.ensures.exact ∙ ap (option_map meets) none in
     let gap : ring_fault_of c.args.base.now ≡ Some (disagrees c.in-Some-2.gap) = sym c.in_ok-gap.ensures.exact ∙ ap (option_map disagrees) c.in-Some-2.is in
     node_is_fault c.args.base.now (Some (disagrees c.in-Some-2.gap)) meeting gap ∙ ap Some (sym c.fault.ensures ∙ same)
+
+pub returns-in-Some-2-clause-shown : goal.returns-in-Some-2-clause-shown
+returns-in-Some-2-clause-shown g c = λ f e.
+    let none : c.in_ok-i.field-0 ≡ None = c.in_default.is in
+    let same : c.fault.result ≡ f = cc in
+    subst (IsShownBy (base_segments c.args.base.now)) (sym c.fault.ensures ∙ same)
+    (c.in_ok-i.ensures.apart (ap Ok none), c.in_ok-gap.ensures.found c.in-Some-2.gap (ap Ok c.in-Some-2.is))
 
 pub returns-in-Some-2-clause-agrees : goal.returns-in-Some-2-clause-agrees
 returns-in-Some-2-clause-agrees g c = λ agrees f e. no_node_gap c.args.base.now c.in-Some-2.gap agrees (sym (ap (option_map disagrees) c.in-Some-2.is) ∙ c.in_ok-gap.ensures.exact)
