@@ -86,6 +86,7 @@ not_fetched name told rose o (inr (inr long)) = by (told Map name) refl long.1
     refused : (bytes : List ℕ) → MAX_MAP_BYTES < length bytes → OfFile (told Map name) (λ held. bytes ≡ held) → ReadsMap (Listing name) told rose (Err o)
     refused bytes more held =
         inr (inr ((λ kind. bytes), (held, tt), (InputLong MAX_MAP_BYTES, long.0, inl (more, refl), rw (lt-ltb MAX_MAP_BYTES (length bytes) more) refl)))
+
     by : (t : Told) → told Map name ≡ t → OfFile t (λ bytes. MAX_MAP_BYTES < length bytes) → ReadsMap (Listing name) told rose (Err o)
     by Untold e h =
         let some = list_of (MAX_MAP_BYTES + 1) in

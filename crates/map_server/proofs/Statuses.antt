@@ -152,9 +152,19 @@ module _ {words : List (List ℕ)} {told : Which → List ℕ → Told} {rose : 
         | inl none ↦ absurd (not_two (sym is ∙ ap status_of none.1))
         | inr (c, asked, inl load) ↦ absurd (not_three (sym is ∙ ap status_of load.2))
         | inr (c, asked, inr (inl memory)) ↦ absurd (omega (arith, low, sym is ∙ ap status_of memory))
-        | inr (c, asked, inr (inr held)) ↦
-            (c, asked, (held.0, held.1, (x, subst (λ (o : Outcome). Says c held.0 o) e held.2,
-            subst (λ (o : Outcome). Appends old new (text_of o)) e (whole (λ six. omega (arith, s, six))).1)))
+        | inr (c, asked, inr (inr held)) ↦ (
+          c,
+          asked,
+          (
+            held.0,
+            held.1,
+            (
+              x,
+              subst (λ (o : Outcome). Says c held.0 o) e held.2,
+              subst (λ (o : Outcome). Appends old new (text_of o)) e (whole (λ six. omega (arith, s, six))).1,
+            ),
+          ),
+        )
       ]
 
   pub zero_says : status ≡ 0 → PutsAnswer words told old new Done

@@ -54,11 +54,7 @@ fn load_listing<F: Files>(alloc: Global, name: &str, files: &mut F) -> Result<Ba
 }
 
 /// The base map that is read from its source, or what comes where none is.
-pub fn load_map<F: Files>(
-    alloc: Global,
-    source: Source<'_>,
-    files: &mut F,
-) -> Result<Base, Outcome>
+pub fn load_map<F: Files>(alloc: Global, source: Source<'_>, files: &mut F) -> Result<Base, Outcome>
     ensures read { ReadsMap (source_of source.entry) (F.told files.old) (λ kind. Rose (F.faults files.old kind) (F.faults files.new kind)) result }
     ensures counts { KeepCounts (files_of_map (source_of source.entry)) (F.faults files.old) (F.faults files.new)
         (λ kind. result ≡ Err (outcome.LoadFault kind)) }
