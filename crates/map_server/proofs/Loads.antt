@@ -9,17 +9,15 @@ use Rattle.tgap_model.specs.Base.{BaseMap}
 use Rattle.tgap_model.specs.Listing.{IsListing, listing}
 use Rattle.plain_io.specs.declared.files.Which.{Which}
 use Rattle.plain_io.specs.declared.files.Which.TheVariants.{Map, Rules, Slice, Packet}
-use Rattle.plain_io.specs.declared.files.LoadFail.{LoadFail}
-use Rattle.plain_io.specs.declared.files.LoadFail.TheVariants.{Failed, TooLong}
-use Rattle.plain_io.specs.Loads.{Told, Untold, Missing, Holds, OfFile, CountsLoad, OthersStay}
+use Rattle.plain_io.specs.Loads.{Told, Untold, Missing, Holds, OfFile, OthersStay}
 use Rattle.map_server.specs.declared.outcome.Outcome.{Outcome}
-use Rattle.map_server.specs.declared.outcome.Outcome.TheVariants.{LoadFault, Refused, OutOfMemory}
+use Rattle.map_server.specs.declared.outcome.Outcome.TheVariants.{LoadFault, OutOfMemory}
 use Rattle.plain_io.specs.Taking.{Refuses}
 use Rattle.std.specs.Result.{IsErrAnd}
 use Rattle.map_server.specs.Outcomes.{IsOfFiles, refusal}
 use Rattle.map_server.specs.Command.{Source, Listing}
-use Rattle.map_server.specs.MapFile.{Contents, FileName, files_of_map, IsMapFile, IsRefusedFile, read_map, OfMap, of_map}
-use Rattle.map_server.specs.Answers.{Answering, Fetches, KeepCounts, MayHold, ReadsListing, ReadsMap}
+use Rattle.map_server.specs.MapFile.{FileName, files_of_map, OfMap, of_map}
+use Rattle.map_server.specs.Answers.{Answering, Fetches, KeepCounts, ReadsListing, ReadsMap}
 
 -- there are lists of each length
 list_of : (n : ℕ) → (xs : List ℕ) × (length xs ≡ n)

@@ -1,5 +1,5 @@
 -- What comes of a base map, command by command, as its definition says it and computes it.
-use Rattle.std.proofs.Common.{◌≡◌, ℕ, ◌≤◌, ◌⊎◌, inl, inr, List, length, take, Some, Result, Ok, Err, refl, ap, ◌∙◌, sym, le-ltb, subst, arith, lt-ltb, ◌<◌}
+use Rattle.std.proofs.Common.{◌≡◌, ℕ, ◌≤◌, ◌⊎◌, inl, inr, List, length, take, Some, Result, Ok, Err, refl, ap, ◌∙◌, le-ltb, subst}
 use Rattle.std.specs.Result.{IsErrAnd}
 use Rattle.tgap_model.specs.declared.merge.MergeStep.{MergeStep}
 use Rattle.tgap_model.specs.declared.failure.Or.{Or}
@@ -12,7 +12,7 @@ use Rattle.tgap_model.specs.Partition.{IsPartition, base_segments, map_fault}
 use Rattle.tgap_model.specs.Evidence.{IsShownBy}
 use Rattle.tgap_model.specs.Texts.{borders_text}
 use Rattle.map_server.specs.declared.outcome.Outcome.{Outcome}
-use Rattle.map_server.specs.declared.outcome.Outcome.TheVariants.{Done, Refused, OutOfMemory}
+use Rattle.map_server.specs.declared.outcome.Outcome.TheVariants.{Done, OutOfMemory}
 use Rattle.map_server.specs.Outcomes.{IsOfFiles, refusal}
 use Rattle.map_server.specs.Answers.{outcome_from}
 use Rattle.map_server.specs.Borders.{SaysBorders, borders_outcome}

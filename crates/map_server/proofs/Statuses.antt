@@ -1,7 +1,7 @@
 -- What each status says, from the outcome that was put. Nothing here depends on which commands there are.
 use Rattle.std.proofs.Common.{◌≡◌, ◌≢◌, ℕ, zero, suc, ◌<◌, ◌⊎◌, inl, inr, List, [], ◌∷◌, length, get_or, Option, Some, None, Contains, refl, sym, ap, ◌∙◌, subst, arith}
 use Rattle.plain_io.specs.declared.files.Which.{Which}
-use Rattle.plain_io.specs.Loads.{Told, Missing, OfFile}
+use Rattle.plain_io.specs.Loads.{Told, OfFile}
 use Rattle.plain_io.specs.Puts.{Appends}
 use Rattle.plain_io.specs.Faults.{Rises}
 use Rattle.tgap_model.specs.declared.fault.MapFault.{MapFault}

@@ -5,6 +5,7 @@ use Rattle.tgap_model.specs.declared.fault.MapFault.TheVariants.{InputLong}
 use Rattle.tgap_model.specs.Base.{BaseMap}
 use Rattle.tgap_model.specs.Listing.{IsListing, listing}
 use Rattle.plain_io.specs.declared.files.Which.{Which}
+use Rattle.plain_io.specs.Faults.{Rose}
 use Rattle.plain_io.specs.Loads.{Told, Missing, OfFile}
 use Rattle.plain_io.specs.Puts.{Appends}
 use Rattle.map_server.specs.declared.outcome.Outcome.{Outcome}
@@ -27,6 +28,10 @@ MissesOne told names = (n : FileName) × Contains names n × (told n.which n.nam
 
 -- ---- the outcomes of a command
 
+-- the count of a kind of file rose between two moments: a load of it failed
+abbrev pub Failed : (Which → ℕ) → (Which → ℕ) → Which → Type 0
+Failed before now kind = Rose (before kind) (now kind)
+
 -- a load of one of the named files failed, which the count of its kind shows
 abbrev pub FailsToLoad : List FileName → (Which → Type 0) → Outcome → Type 0
 FailsToLoad names rose outcome = (n : FileName) × Contains names n × (outcome ≡ LoadFault n.which) × rose n.which
@@ -38,6 +43,10 @@ Answering names P f told rose outcome =
     FailsToLoad names rose outcome
     ⊎ ((outcome ≡ OutOfMemory)
     ⊎ ((files : Contents) × MayHold told names files × P files outcome × (outcome ≡ f files) × IsOfFiles outcome))
+
+-- The outcome of what has been read: memory is wanting, or what P says of it, which is the one that is computed.
+abbrev pub IsEither : (Outcome → Type 0) → Outcome → Outcome → Type 0
+IsEither P computed outcome = (outcome ≡ OutOfMemory) ⊎ (P outcome × (outcome ≡ computed) × IsOfFiles outcome)
 
 -- the outcomes of a command
 abbrev pub AnswersCommand : Command → (Which → List ℕ → Told) → (Which → Type 0) → Outcome → Type 0

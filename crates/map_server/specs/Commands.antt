@@ -1,5 +1,5 @@
 -- All commands: which words ask for one, which files it reads, and what comes of it.
-use Rattle.std.specs.Prelude.{◌≡◌, ℕ, List, [], ◌∷◌, codes, bytes_eq, Option, None, if◌then◌else◌}
+use Rattle.std.specs.Prelude.{ℕ, List, [], ◌∷◌, codes, bytes_eq, Option, None, if◌then◌else◌}
 use Rattle.map_server.specs.declared.outcome.Outcome.{Outcome}
 use Rattle.map_server.specs.Command.{Command, Borders, Check}
 use Rattle.map_server.specs.MapFile.{Contents, FileName, files_of_map, OfMap, of_map}

@@ -15,7 +15,6 @@ DeliversText text own old new before now status =
 abbrev pub Delivers : Outcome → Option (List ℕ) → Option (List ℕ) → ℕ → ℕ → ℕ → Type 0
 Delivers outcome = DeliversText (text_of outcome) (status_of outcome)
 
--- the outcome is put whole, or a load, the put or memory failed
-abbrev pub GivesOutcome : Outcome → Option (List ℕ) → Option (List ℕ) → ℕ → Type 0
-GivesOutcome outcome old new status =
-    ((status ≡ status_of outcome) × Appends old new (text_of outcome)) ⊎ ((status ≡ 3) ⊎ ((status ≡ 6) ⊎ (status ≡ 7)))
+-- the text of the outcome is put, and the status is its own
+abbrev pub PutsWhole : Outcome → Option (List ℕ) → Option (List ℕ) → ℕ → Type 0
+PutsWhole outcome old new status = (status ≡ status_of outcome) × Appends old new (text_of outcome)

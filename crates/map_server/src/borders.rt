@@ -1,13 +1,11 @@
 //! The command that tells the borders of a map after a step of its history.
 
-ghost use Rattle.std.specs.Prelude.{◌≡◌, ◌⊎◌, string_bytes, map};
-ghost use Rattle.plain_io.specs.Faults.{Rose};
+ghost use Rattle.std.specs.Prelude.{◌≡◌, string_bytes, map};
 ghost use Rattle.map_server.specs.declared.outcome.Outcome.TheVariants as outcome;
-ghost use Rattle.map_server.specs.Outcomes.{IsOfFiles};
 ghost use Rattle.map_server.specs.Command as spec;
 ghost use Rattle.map_server.specs.MapFile.{files_of_map};
 ghost use Rattle.map_server.specs.Asked.{asked, source_of};
-ghost use Rattle.map_server.specs.Answers.{AnswersCommand, KeepCounts, outcome_from};
+ghost use Rattle.map_server.specs.Answers.{AnswersCommand, Failed, KeepCounts, IsEither, outcome_from};
 ghost use Rattle.map_server.specs.Borders.{borders_command, SaysBorders, borders_outcome};
 
 use crate::border_rows::border_rows;
@@ -42,7 +40,7 @@ pub fn answer<F: Files>(
     files: &mut F,
 ) -> Result<Text, Outcome>
     ensures answers { AnswersCommand (spec.Borders (source_of map.entry) step) (F.told files.old)
-        (λ kind. Rose (F.faults files.old kind) (F.faults files.new kind)) (outcome_from result) }
+        (Failed (F.faults files.old) (F.faults files.new)) (outcome_from result) }
     ensures counts { KeepCounts (files_of_map (source_of map.entry)) (F.faults files.old) (F.faults files.new)
         (λ kind. outcome_from result ≡ outcome.LoadFault kind) }
 {
@@ -53,8 +51,7 @@ pub fn answer<F: Files>(
 /// The borders text of a base map after this step; or the step is above the last one.
 #[tactic(auto, unfolding(crate::specs::Borders::borders_outcome))]
 fn borders_of(alloc: Global, base: &Base, step: u32) -> Result<Text, Outcome>
-    ensures { (outcome_from result ≡ outcome.OutOfMemory)
-        ⊎ (SaysBorders step base.now (outcome_from result) × (outcome_from result ≡ borders_outcome step base.now) × IsOfFiles (outcome_from result)) }
+    ensures { IsEither (SaysBorders step base.now) (borders_outcome step base.now) (outcome_from result) }
 {
     let steps = history(alloc, base)?;
     let steps = steps.as_slice();

@@ -1,11 +1,10 @@
 //! Files, and the maps that are read from them.
 
 ghost use Rattle.std.specs.Prelude.{◌≡◌, ◌≤◌, [], ◌∷◌, length, Err};
-ghost use Rattle.plain_io.specs.Faults.{Rose};
 ghost use Rattle.map_server.specs.declared.outcome.Outcome.TheVariants as outcome;
 ghost use Rattle.map_server.specs.Asked.{source_of};
 ghost use Rattle.map_server.specs.Command as spec;
-ghost use Rattle.map_server.specs.Answers.{Fetches, ReadsListing, ReadsMap, KeepCounts};
+ghost use Rattle.map_server.specs.Answers.{Failed, Fetches, ReadsListing, ReadsMap, KeepCounts};
 ghost use Rattle.map_server.specs.MapFile.{files_of_map};
 
 use crate::command::Source;
@@ -23,9 +22,10 @@ fn load<F: Files>(
     max: u64,
     files: &mut F,
 ) -> Result<Text, Outcome>
-    ensures fetched { Fetches (F.told files.old which name.now) max which (Rose (F.faults files.old which) (F.faults files.new which)) result }
-    ensures counts { KeepCounts (record { which = which; name = name.now } ∷ []) (F.faults files.old) (F.faults files.new)
-        (λ kind. result ≡ Err (outcome.LoadFault kind)) }
+    ensures fetched { Fetches (F.told files.old which name.now) max which
+        (Failed (F.faults files.old) (F.faults files.new) which) result }
+    ensures counts { KeepCounts (record { which = which; name = name.now } ∷ []) (F.faults files.old)
+        (F.faults files.new) (λ kind. result ≡ Err (outcome.LoadFault kind)) }
 {
     match files.load(alloc, which, name, max) {
         Ok(text) => Ok(text),
@@ -45,7 +45,8 @@ fn read_base(alloc: Global, bytes: &[u8]) -> Result<Base, Outcome>
 
 /// The base map that the listing in a file spells, or what comes where none does.
 fn load_listing<F: Files>(alloc: Global, name: &str, files: &mut F) -> Result<Base, Outcome>
-    ensures read { ReadsMap (spec.Listing name.now) (F.told files.old) (λ kind. Rose (F.faults files.old kind) (F.faults files.new kind)) result }
+    ensures read { ReadsMap (spec.Listing name.now) (F.told files.old)
+        (Failed (F.faults files.old) (F.faults files.new)) result }
     ensures counts { KeepCounts (files_of_map (spec.Listing name.now)) (F.faults files.old) (F.faults files.new)
         (λ kind. result ≡ Err (outcome.LoadFault kind)) }
 {
@@ -55,7 +56,8 @@ fn load_listing<F: Files>(alloc: Global, name: &str, files: &mut F) -> Result<Ba
 
 /// The base map that is read from its source, or what comes where none is.
 pub fn load_map<F: Files>(alloc: Global, source: Source<'_>, files: &mut F) -> Result<Base, Outcome>
-    ensures read { ReadsMap (source_of source.entry) (F.told files.old) (λ kind. Rose (F.faults files.old kind) (F.faults files.new kind)) result }
+    ensures read { ReadsMap (source_of source.entry) (F.told files.old)
+        (Failed (F.faults files.old) (F.faults files.new)) result }
     ensures counts { KeepCounts (files_of_map (source_of source.entry)) (F.faults files.old) (F.faults files.new)
         (λ kind. result ≡ Err (outcome.LoadFault kind)) }
 {

@@ -131,7 +131,8 @@ impl Outcome {
     /// wanting for the text, the outcome is that memory is wanting.
     pub fn put<K: Sink>(self, alloc: Global, out: &mut K) -> u8
         ensures { Delivers self (K.told out.old) (K.told out.new) (K.faults out.old) (K.faults out.new) result
-            ⊎ (TakesMemory self × Delivers outcome.OutOfMemory (K.told out.old) (K.told out.new) (K.faults out.old) (K.faults out.new) result) }
+            ⊎ (TakesMemory self
+            × Delivers outcome.OutOfMemory (K.told out.old) (K.told out.new) (K.faults out.old) (K.faults out.new) result) }
     {
         let status = self.status();
         match self.into_text(alloc) {

@@ -1,17 +1,17 @@
 //! The top call.
 
 ghost use Rattle.std.specs.Prelude.{◌≡◌, ◌≢◌, ◌⊎◌, ℕ, List, map, string_bytes, Contains, Some, None};
-ghost use Rattle.plain_io.specs.Faults.{Rose, Rises};
+ghost use Rattle.plain_io.specs.Faults.{Rises};
 ghost use Rattle.plain_io.specs.Puts.{Appends};
 ghost use Rattle.plain_io.specs.declared.files.Which.{Which as Kind};
 ghost use Rattle.map_server.specs.declared.outcome.Outcome.{Outcome as AnOutcome};
 ghost use Rattle.map_server.specs.declared.outcome.Outcome.TheVariants as outcome;
-ghost use Rattle.map_server.specs.Outcomes.{status_of, text_of, load_fault_text, not_coarser};
-ghost use Rattle.map_server.specs.Delivery.{Delivers};
+ghost use Rattle.map_server.specs.Outcomes.{load_fault_text, not_coarser};
+ghost use Rattle.map_server.specs.Delivery.{Delivers, PutsWhole};
 ghost use Rattle.map_server.specs.Command as spec;
 ghost use Rattle.map_server.specs.MapFile.{Contents, FileName};
 ghost use Rattle.map_server.specs.Commands.{command, files_of, outcome_of};
-ghost use Rattle.map_server.specs.Answers.{Answers, KeepCounts, LeavesKind, MayHold, MissesOne, PutsAnswer, files_for, outcome_from};
+ghost use Rattle.map_server.specs.Answers.{Answers, Failed, KeepCounts, LeavesKind, MayHold, MissesOne, PutsAnswer, files_for, outcome_from};
 
 use crate::command::{Command, parse_command};
 use crate::outcome::Outcome;
@@ -42,26 +42,30 @@ pub fn run<R: Threads + Sync, F: Files, K: Sink>(
 ) -> u8
     // The outcome is one that the words and the files allow, and it is put whole, or else the status is 6.
     ensures answered { (o : AnOutcome)
-        × Answers (map string_bytes words.now) (F.told files.old) (λ kind. Rose (F.faults files.old kind) (F.faults files.new kind)) o
+        × Answers (map string_bytes words.now) (F.told files.old) (Failed (F.faults files.old) (F.faults files.new)) o
         × Delivers o (K.told out.old) (K.told out.new) (K.faults out.old) (K.faults out.new) result }
     // But for statuses 3, 6 and 7, status and text are those that the contents of the files give.
-    ensures exact { (c : spec.Command) → command (map string_bytes words.now) ≡ Some c → result ≢ 3 → result ≢ 6 → result ≢ 7
+    ensures exact { (c : spec.Command) → command (map string_bytes words.now) ≡ Some c
+        → result ≢ 3 → result ≢ 6 → result ≢ 7
         → (contents : Contents) × MayHold (F.told files.old) (files_of c) contents
-        × ((result ≡ status_of (outcome_of c contents)) × Appends (K.told out.old) (K.told out.new) (text_of (outcome_of c contents))) }
-    ensures done { result ≡ 0 → PutsAnswer (map string_bytes words.now) (F.told files.old) (K.told out.old) (K.told out.new) outcome.Done }
+        × PutsWhole (outcome_of c contents) (K.told out.old) (K.told out.new) result }
+    ensures done { result ≡ 0
+        → PutsAnswer (map string_bytes words.now) (F.told files.old) (K.told out.old) (K.told out.new) outcome.Done }
     ensures usage { result ≡ 2 → command (map string_bytes words.now) ≡ None }
     ensures no_command { command (map string_bytes words.now) ≡ None → (result ≡ 2) ⊎ (result ≡ 6) }
     ensures load_fault { result ≡ 3 → (c : spec.Command) × (command (map string_bytes words.now) ≡ Some c)
-        × ((n : FileName) × Contains (files_of c) n × Rose (F.faults files.old n.which) (F.faults files.new n.which)
+        × ((n : FileName) × Contains (files_of c) n × Failed (F.faults files.old) (F.faults files.new) n.which
         × Appends (K.told out.old) (K.told out.new) (load_fault_text n.which)) }
-    ensures missing { (c : spec.Command) → command (map string_bytes words.now) ≡ Some c → MissesOne (F.told files.old) (files_of c)
-        → (result ≡ 3) ⊎ ((result ≡ 6) ⊎ (result ≡ 7)) }
+    ensures missing { (c : spec.Command) → command (map string_bytes words.now) ≡ Some c
+        → MissesOne (F.told files.old) (files_of c) → (result ≡ 3) ⊎ ((result ≡ 6) ⊎ (result ≡ 7)) }
     // The counts of the files stay but where status 3 tells of it, and those of the kinds that are not read always do.
     ensures loads_kept { result ≢ 3 → result ≢ 6 → (kind : Kind) → F.faults files.new kind ≡ F.faults files.old kind }
     ensures kinds_kept { (kind : Kind) → LeavesKind (files_for (command (map string_bytes words.now))) kind
         → F.faults files.new kind ≡ F.faults files.old kind }
-    ensures refused { result ≡ 4 → PutsAnswer (map string_bytes words.now) (F.told files.old) (K.told out.old) (K.told out.new) outcome.Refused }
-    ensures too_high { result ≡ 5 → PutsAnswer (map string_bytes words.now) (F.told files.old) (K.told out.old) (K.told out.new) outcome.StepTooHigh
+    ensures refused { result ≡ 4
+        → PutsAnswer (map string_bytes words.now) (F.told files.old) (K.told out.old) (K.told out.new) outcome.Refused }
+    ensures too_high { result ≡ 5
+        → PutsAnswer (map string_bytes words.now) (F.told files.old) (K.told out.old) (K.told out.new) outcome.StepTooHigh
         ⊎ PutsAnswer (map string_bytes words.now) (F.told files.old) (K.told out.old) (K.told out.new) not_coarser }
     ensures sink_fault { result ≡ 6 → Rises (K.faults out.old) (K.faults out.new) }
     ensures sink_kept { result ≢ 6 → K.faults out.new ≡ K.faults out.old }
@@ -76,7 +80,7 @@ fn outcome<R: Threads + Sync, F: Files>(
     words: &[String],
     files: &mut F,
 ) -> Outcome
-    ensures answers { Answers (map string_bytes words.now) (F.told files.old) (λ kind. Rose (F.faults files.old kind) (F.faults files.new kind)) result }
+    ensures answers { Answers (map string_bytes words.now) (F.told files.old) (Failed (F.faults files.old) (F.faults files.new)) result }
     ensures counts { KeepCounts (files_for (command (map string_bytes words.now))) (F.faults files.old) (F.faults files.new)
         (λ kind. result ≡ outcome.LoadFault kind) }
 {
@@ -93,7 +97,8 @@ fn answer<R: Threads + Sync, F: Files>(
     words: &[String],
     files: &mut F,
 ) -> Result<Text, Outcome>
-    ensures answers { Answers (map string_bytes words.now) (F.told files.old) (λ kind. Rose (F.faults files.old kind) (F.faults files.new kind)) (outcome_from result) }
+    ensures answers { Answers (map string_bytes words.now) (F.told files.old) (Failed (F.faults files.old) (F.faults files.new))
+        (outcome_from result) }
     ensures counts { KeepCounts (files_for (command (map string_bytes words.now))) (F.faults files.old) (F.faults files.new)
         (λ kind. outcome_from result ≡ outcome.LoadFault kind) }
 {

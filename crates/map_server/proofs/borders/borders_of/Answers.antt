@@ -1,5 +1,4 @@
-use Rattle.std.proofs.Common.{inr, ap, ◌∙◌, arith}
-use Rattle.std.proofs.lemmas.Grind.{common_steps}
+use Rattle.std.proofs.Common.{inr}
 use Rattle.map_server.proofs.Labels.{numbered_take}
 use Rattle.map_server.proofs.Says.{borders_done}
 use Rattle.map_server.proofs.borders.borders_of.Goals as goal

@@ -1,15 +1,15 @@
-use Rattle.plain_io.specs.Faults.{Rose}
+use Rattle.map_server.specs.Answers.{Failed}
 use Rattle.map_server.proofs.Loads.{passed_on, of_bytes}
 use Rattle.map_server.proofs.load.load_listing.Goals as goal
 
 pub returns-in_err-text-clause-read : goal.returns-in_err-text-clause-read
 returns-in_err-text-clause-read g c =
     passed_on c.args.name.now (g.F.Files.told c.args.files.now)
-    (λ kind. Rose (g.F.Files.faults c.args.files.now kind) (g.F.Files.faults c.load.new.files kind))
+    (Failed (g.F.Files.faults c.args.files.now) (g.F.Files.faults c.load.new.files))
     c.in_err-text.field-0.0 c.from_residual.result c.from_residual.ensures.1 c.in_err-text.ensures.fetched
 
 pub returns-clause-read : goal.returns-clause-read
 returns-clause-read g c =
     of_bytes c.args.name.now (g.F.Files.told c.args.files.now)
-    (λ kind. Rose (g.F.Files.faults c.args.files.now kind) (g.F.Files.faults c.load.new.files kind))
+    (Failed (g.F.Files.faults c.args.files.now) (g.F.Files.faults c.load.new.files))
     c.in_ok-text.text c.read_base.result c.in_ok-text.ensures.fetched (rw c.as_slice.ensures at c.read_base.ensures)
