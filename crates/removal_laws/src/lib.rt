@@ -1,0 +1,7 @@
+//! Laws of the vertex removal: what the triangle of a removed vertex has in common with live segments, and what a removal keeps
+//! of a planar partition. The functions do nothing: the contract of each is a law, which is proved with the crate.
+#![tactic(auto)]
+
+mod triangle;
+
+pub use triangle::{clear_is_apart, clear_of_base, one_line_covers};
