@@ -1,1 +1,2 @@
 pub mod TriangleLaws
+pub mod ReplaceLaws

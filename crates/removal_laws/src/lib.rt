@@ -2,6 +2,8 @@
 //! of a planar partition. The functions do nothing: the contract of each is a law, which is proved with the crate.
 #![tactic(auto)]
 
+mod replace;
 mod triangle;
 
+pub use replace::replaced_is_apart;
 pub use triangle::{clear_is_apart, clear_of_base, one_line_covers};
