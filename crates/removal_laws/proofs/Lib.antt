@@ -5,3 +5,5 @@ pub mod Pairs
 pub mod Places
 pub mod Apart
 pub mod Replaced
+pub mod Tracing
+pub mod TraceExamples

@@ -1,2 +1,4 @@
 pub mod TriangleLaws
 pub mod ReplaceLaws
+pub mod Trace
+pub mod TraceLaws

@@ -3,7 +3,9 @@
 #![tactic(auto)]
 
 mod replace;
+mod trace;
 mod triangle;
 
 pub use replace::replaced_is_apart;
+pub use trace::{sweep_keeps_apart, trace_follows_rule, trace_is_removals, trace_leads};
 pub use triangle::{clear_is_apart, clear_of_base, one_line_covers};
