@@ -3,6 +3,8 @@ use Rattle.std.proofs.Common.{◌≡◌, ◌≢◌, ◌⊎◌, inl, inr, ⊎_eli
 use Rattle.std.proofs.lemmas.Bool.{and_parts, and_from, and_right, or_cases, or_left, or_right, true≢false, ne_eqb, true_from_ne_false, false_from_ne_true}
 use Rattle.std.proofs.lemmas.Bool.Decides.{Decides-int_eq}
 use Rattle.std.specs.Ordering.{int_eq}
+use Rattle.std.proofs.lemmas.Int.{ints}
+use Rattle.lemmas.proofs.Integers.{one-*ℤ}
 use Rattle.lemmas.proofs.Polynomials.{same_value, var, number, ◌⊕◌, ◌⊗◌}
 use Rattle.lemmas.proofs.Signs.{le_from_lt, le_from_same}
 use Rattle.tgap_model.specs.declared.geometry.Point.{Point}
@@ -15,7 +17,7 @@ use Rattle.tgap_model.specs.Segment.{is_at, is_on, is_permitted, HaveInCommon}
 use Rattle.tgap_model.specs.Point.{cross as cross_of}
 use Rattle.tgap_model.specs.Clear.{is_clear}
 use Rattle.tgap_model.specs.Partition.{AreApart, follows, shared_ends}
-use Rattle.tgap_model.proofs.Points.{same_point-true, same_point-from}
+use Rattle.tgap_model.proofs.Points.{point_same, same_point-true, same_point-from}
 use Rattle.removal_laws.proofs.Between.{is_on_from}
 use Rattle.removal_laws.proofs.ClearTriangle.{clear_of_base}
 use Rattle.removal_laws.proofs.Places.{lowered, moved, IsElsewhere, follows_moved, before_joined, after_joined, not_here, not_next}
@@ -135,6 +137,73 @@ at_last p u v positive h = is_on_from p u v (record {
     coordinate : (n x y : ℤ) → n ≡ p.d *ℤ y → pos 1 *ℤ n ≡ pos 0 *ℤ x +ℤ p.d *ℤ y
     coordinate n x y e = ap (λ (z : ℤ). pos 1 *ℤ z) e ∙ same_value (p.d ∷ x ∷ y ∷ []) (number (pos 1) ⊗ (var 0 ⊗ var 2)) (number (pos 0) ⊗ var 1 ⊕ var 0 ⊗ var 2) refl
 
+-- a point over 1
+abbrev pub whole : Point → Fraction
+whole v = record { nx = v.x; ny = v.y; d = pos 1 }
+
+at_itself : (v : Point) → is_at (whole v) v ≡ true
+at_itself v = and_from (int_eq v.x (pos 1 *ℤ v.x)) (int_eq v.y (pos 1 *ℤ v.y))
+    ((Decides-int_eq v.x (pos 1 *ℤ v.x)).1 (sym (one-*ℤ v.x))) ((Decides-int_eq v.y (pos 1 *ℤ v.y)).1 (sym (one-*ℤ v.y)))
+
+at_whole : (v w : Point) → is_at (whole v) w ≡ true → v ≡ w
+at_whole v w h =
+    let parts = and_parts (int_eq v.x (pos 1 *ℤ w.x)) (int_eq v.y (pos 1 *ℤ w.y)) h in
+    point_same v w ((Decides-int_eq v.x (pos 1 *ℤ w.x)).0 parts.0 ∙ one-*ℤ w.x) ((Decides-int_eq v.y (pos 1 *ℤ w.y)).0 parts.1 ∙ one-*ℤ w.y)
+
+-- a segment and the same one turned round, one after the other, are not apart
+pub turns_back : (s t : LabelledSegment) → AreApart s t → s.segment.b ≡ t.segment.a → s.segment.a ≡ t.segment.b → s.segment.a ≡ s.segment.b
+turns_back s t apart e f =
+    let h = permitted_common s t apart halfway two (half_on s.segment.a s.segment.b halfway refl refl refl) (subst (λ (v : Point). is_on halfway (record { a = v; b = t.segment.b }) ≡ true) e
+    (subst (λ (v : Point). is_on halfway (record { a = s.segment.b; b = v }) ≡ true) f
+    (half_on s.segment.b s.segment.a halfway (swapped s.segment.a.x s.segment.b.x) (swapped s.segment.a.y s.segment.b.y) refl))) in
+    elim (or_cases ((old.aa || old.ab) && is_at halfway s.segment.a) ((old.ba || old.bb) && is_at halfway s.segment.b) h) [
+      | inl g ↦ at_first_end (and_parts (old.aa || old.ab) (is_at halfway s.segment.a) g).1
+      | inr g ↦ at_second_end (and_parts (old.ba || old.bb) (is_at halfway s.segment.b) g).1
+    ]
+  where
+    old : Shared
+    old = shared_ends s t
+
+    halfway : Fraction
+    halfway = record { nx = s.segment.a.x +ℤ s.segment.b.x; ny = s.segment.a.y +ℤ s.segment.b.y; d = pos 2 }
+
+    two : pos 0 <ℤ pos 2
+    two = record { lt = tt }
+
+    swapped : (x y : ℤ) → x +ℤ y ≡ y +ℤ x
+    swapped x y = same_value (x ∷ y ∷ []) (var 0 ⊕ var 1) (var 1 ⊕ var 0) refl
+
+    half_on : (u v : Point) (p : Fraction) → p.nx ≡ u.x +ℤ v.x → p.ny ≡ u.y +ℤ v.y → p.d ≡ pos 2 → is_on p (record { a = u; b = v }) ≡ true
+    half_on u v p i j k = is_on_from p u v (record {
+      total = pos 1;
+      near = pos 1;
+      far = pos 1;
+      positive = record { lt = tt };
+      near_sign = le_from_lt (record { lt = tt });
+      far_sign = le_from_lt (record { lt = tt });
+      under = ap (λ (z : ℤ). pos 1 *ℤ z) k;
+      over_x = ap (λ (z : ℤ). pos 1 *ℤ z) i ∙ same_value (u.x ∷ v.x ∷ []) (number (pos 1) ⊗ (var 0 ⊕ var 1)) (number (pos 1) ⊗ var 0 ⊕ number (pos 1) ⊗ var 1) refl;
+      over_y = ap (λ (z : ℤ). pos 1 *ℤ z) j ∙ same_value (u.y ∷ v.y ∷ []) (number (pos 1) ⊗ (var 0 ⊕ var 1)) (number (pos 1) ⊗ var 0 ⊕ number (pos 1) ⊗ var 1) refl;
+    })
+
+    first_same : (x y : ℤ) → x +ℤ y ≡ pos 2 *ℤ x → x ≡ y
+    first_same x y k = omega (arith, ints)
+
+    second_same : (x y : ℤ) → x +ℤ y ≡ pos 2 *ℤ y → x ≡ y
+    second_same x y k = omega (arith, ints)
+
+    at_first_end : is_at halfway s.segment.a ≡ true → s.segment.a ≡ s.segment.b
+    at_first_end g =
+        let parts = and_parts (int_eq halfway.nx (pos 2 *ℤ s.segment.a.x)) (int_eq halfway.ny (pos 2 *ℤ s.segment.a.y)) g in
+        point_same s.segment.a s.segment.b (first_same _ _ ((Decides-int_eq halfway.nx (pos 2 *ℤ s.segment.a.x)).0 parts.0))
+        (first_same _ _ ((Decides-int_eq halfway.ny (pos 2 *ℤ s.segment.a.y)).0 parts.1))
+
+    at_second_end : is_at halfway s.segment.b ≡ true → s.segment.a ≡ s.segment.b
+    at_second_end g =
+        let parts = and_parts (int_eq halfway.nx (pos 2 *ℤ s.segment.b.x)) (int_eq halfway.ny (pos 2 *ℤ s.segment.b.y)) g in
+        point_same s.segment.a s.segment.b (second_same _ _ ((Decides-int_eq halfway.nx (pos 2 *ℤ s.segment.b.x)).0 parts.0))
+        (second_same _ _ ((Decides-int_eq halfway.ny (pos 2 *ℤ s.segment.b.y)).0 parts.1))
+
 -- ---- with other places
 
 module _ (key m : ℕ) where
@@ -244,6 +313,30 @@ module _ (key m : ℕ) where
         | inl e ↦ true≢false (sym (keeps_first x (permitted_common first_of_two s first x h.rational e h.second)) ∙ h.forbidden)
         | inr e ↦ true≢false (sym (keeps_second x (permitted_common second_of_two s second x h.rational e h.second)) ∙ h.forbidden)
       ]
+
+      -- it does not touch b, where b is not a
+      pub away_from_second : AreApart first_of_two s → a ≢ b → (s.segment.a ≢ b) × (s.segment.b ≢ b)
+      away_from_second apart other = (
+        (λ e. touched (at_first (whole b) s.segment.a s.segment.b one (subst (λ v. is_at (whole b) v ≡ true) (sym e) (at_itself b)))),
+        (λ e. touched (at_last (whole b) s.segment.a s.segment.b one (subst (λ v. is_at (whole b) v ≡ true) (sym e) (at_itself b)))),
+      )
+        where
+          one : pos 0 <ℤ pos 1
+          one = record { lt = tt }
+
+          old : Shared
+          old = shared_ends first_of_two s
+
+          touched : is_on (whole b) s.segment ≡ true → ⊥
+          touched on =
+              let h = permitted_common first_of_two s apart (whole b) one (at_last (whole b) a b one (at_itself b)) on in
+              elim (or_cases ((old.aa || old.ab) && is_at (whole b) a) ((old.ba || old.bb) && is_at (whole b) b) h) [
+                | inl e ↦ other (sym (at_whole b a (and_parts (old.aa || old.ab) (is_at (whole b) a) e).1))
+                | inr e ↦ elim (or_cases old.ba old.bb (and_parts (old.ba || old.bb) (is_at (whole b) b) e).0) [
+                  | inl f ↦ not_at_last f
+                  | inr f ↦ no_end f
+                ]
+              ]
 
 -- ---- points of a-c that another segment holds are points of a-b or b-c
 

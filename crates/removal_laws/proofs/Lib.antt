@@ -7,3 +7,7 @@ pub mod Apart
 pub mod Replaced
 pub mod Tracing
 pub mod TraceExamples
+pub mod Less
+pub mod SweptLess
+pub mod ListedVertices
+pub mod Sound

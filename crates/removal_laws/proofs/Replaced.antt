@@ -56,22 +56,21 @@ other_arcs key (e ∷ edges) h =
     (path_segments e.key e.left e.right 0 e.points) (path_arcs e.key e.left e.right 0 e.points))
     (other_arcs key edges (All-tail (λ g. key ≢ g.key) e edges h))
 
-module _ (before after : List Edge) (e : Edge) (front rest : List Point) (a b c : Point) (others : All (λ f. e.key ≢ f.key) (before ++ after))
-    (free : is_free (other_segments before after front a c rest) a b c ≡ true) where
-  m : ℕ
+module _ (before after : List Edge) (e : Edge) (front rest : List Point) (a b c : Point) (others : All (λ f. e.key ≢ f.key) (before ++ after)) where
+  unfoldable pub m : ℕ
   m = place_after 0 front
 
   -- the segments before a-b and those after b-c
-  xs : List LabelledSegment
+  unfoldable pub xs : List LabelledSegment
   xs = edge_segments before ++ front_segments e.key e.left e.right 0 front a
 
-  ys : List LabelledSegment
+  unfoldable pub ys : List LabelledSegment
   ys = path_segments e.key e.left e.right (m + 1 + 1) (c ∷ rest) ++ edge_segments after
 
-  ab : LabelledSegment
+  unfoldable pub ab : LabelledSegment
   ab = first_of_two e.key m e.left e.right a b c (is_empty rest)
 
-  bc : LabelledSegment
+  unfoldable pub bc : LabelledSegment
   bc = second_of_two e.key m e.left e.right a b c (is_empty rest)
 
   ac : LabelledSegment
@@ -89,7 +88,7 @@ module _ (before after : List Edge) (e : Edge) (front rest : List Point) (a b c 
       (append_assoc (front_segments e.key e.left e.right 0 front a) (path_segments e.key e.left e.right (place_after 0 front) (a ∷ z ∷ more)) (edge_segments after))
       ∙ sym (append_assoc (edge_segments before) (front_segments e.key e.left e.right 0 front a) (path_segments e.key e.left e.right (place_after 0 front) (a ∷ z ∷ more) ++ edge_segments after))
 
-  old_is : edge_segments (before ++ record e { points = front ++ a ∷ b ∷ c ∷ rest } ∷ after) ≡ xs ++ ab ∷ bc ∷ ys
+  pub old_is : edge_segments (before ++ record e { points = front ++ a ∷ b ∷ c ∷ rest } ∷ after) ≡ xs ++ ab ∷ bc ∷ ys
   unfolding xs ys ab bc
   old_is = in_parts b (c ∷ rest)
 
@@ -117,7 +116,7 @@ module _ (before after : List Edge) (e : Edge) (front rest : List Point) (a b c 
       in_parts c rest
       ∙ ap₂ (λ (us vs : List LabelledSegment). us ++ joined e.key m e.left e.right a b c (is_empty rest) ∷ vs) (sym front_stays) (sym back_lowered)
 
-  elsewhere : All (IsElsewhere e.key m) (xs ++ ys)
+  pub elsewhere : All (IsElsewhere e.key m) (xs ++ ys)
   unfolding xs ys m
   elsewhere =
       All-append (IsElsewhere e.key m) xs ys
@@ -175,44 +174,45 @@ module _ (before after : List Edge) (e : Edge) (front rest : List Point) (a b c 
           of_map (s ∷ ss) l = All-cons P s ss (All-head Q s.segment (map (λ (s : LabelledSegment). s.segment) ss) l)
               (of_map ss (All-tail Q s.segment (map (λ (s : LabelledSegment). s.segment) ss) l))
 
-  covered : All IsCovered (xs ++ ys)
-  covered = by (cases_Bool (area2 a b c == 0))
-    where
-      by : ((area2 a b c == 0) ≡ true) ⊎ ((area2 a b c == 0) ≡ false) → All IsCovered (xs ++ ys)
-      by (inl f) = All-from_members IsCovered (xs ++ ys) (λ s k x positive on other.
-          one_line_covers a b c x (zero_from_unsigned_abs (cross_of a b c) (eqb-true (area2 a b c) 0 f)) positive on)
-      by (inr f) = All-weaker (λ (s : LabelledSegment). is_clear a b c s.segment ≡ true) IsCovered
-          (λ s clear. clear_covers a b c s.segment (λ z. eqb-false (area2 a b c) 0 f (ap unsigned_abs z)) clear)
-          (xs ++ ys) (clear_of_all (is_clear a b c) (⊎_elim (λ g. absurd (true≢false (sym g ∙ f))) (λ g. g)
-          (or_cases (area2 a b c == 0) (list_all (is_clear a b c) (other_segments before after front a c rest)) free)))
+  module _ (free : is_free (other_segments before after front a c rest) a b c ≡ true) where
+    covered : All IsCovered (xs ++ ys)
+    covered = by (cases_Bool (area2 a b c == 0))
+      where
+        by : ((area2 a b c == 0) ≡ true) ⊎ ((area2 a b c == 0) ≡ false) → All IsCovered (xs ++ ys)
+        by (inl f) = All-from_members IsCovered (xs ++ ys) (λ s k x positive on other.
+            one_line_covers a b c x (zero_from_unsigned_abs (cross_of a b c) (eqb-true (area2 a b c) 0 f)) positive on)
+        by (inr f) = All-weaker (λ (s : LabelledSegment). is_clear a b c s.segment ≡ true) IsCovered
+            (λ s clear. clear_covers a b c s.segment (λ z. eqb-false (area2 a b c) 0 f (ap unsigned_abs z)) clear)
+            (xs ++ ys) (clear_of_all (is_clear a b c) (⊎_elim (λ g. absurd (true≢false (sym g ∙ f))) (λ g. g)
+            (or_cases (area2 a b c == 0) (list_all (is_clear a b c) (other_segments before after front a c rest)) free)))
 
-  module _ (apart : AllPairs AreApart (xs ++ ab ∷ bc ∷ ys)) where
-    without_first : AllPairs AreApart (xs ++ bc ∷ ys)
-    without_first = mid_out AreApart xs ab (bc ∷ ys) apart
+    module _ (apart : AllPairs AreApart (xs ++ ab ∷ bc ∷ ys)) where
+      without_first : AllPairs AreApart (xs ++ bc ∷ ys)
+      without_first = mid_out AreApart xs ab (bc ∷ ys) apart
 
-    -- the new segment against an old one that both replaced ones are apart from
-    against : (s : LabelledSegment) → IsElsewhere e.key m s → IsCovered s → AreApart ab s → AreApart bc s → AreApart ac (moved e.key m s)
-    unfolding ab bc ac
-    against s p covers first second = joined_apart e.key m e.left e.right a b c (is_empty rest) s p first second covers
+      -- the new segment against an old one that both replaced ones are apart from
+      against : (s : LabelledSegment) → IsElsewhere e.key m s → IsCovered s → AreApart ab s → AreApart bc s → AreApart ac (moved e.key m s)
+      unfolding ab bc ac
+      against s p covers first second = joined_apart e.key m e.left e.right a b c (is_empty rest) s p first second covers
 
-    new_apart : AllPairs AreApart (map (moved e.key m) xs ++ ac ∷ map (moved e.key m) ys)
-    new_apart =
-        mid_in AreApart (map (moved e.key m) xs) ac (map (moved e.key m) ys)
-        (subst (AllPairs AreApart) (map-append (moved e.key m) xs ys)
-        (pairs_map AreApart (moved e.key m) (IsElsewhere e.key m) (apart_moved e.key m) (xs ++ ys) elsewhere (mid_out AreApart xs bc ys without_first)))
-        (All-map (λ s. AreApart s ac) (moved e.key m) xs (All-from_members (λ s. AreApart (moved e.key m s) ac) xs (λ s k.
-        apart_turned ac (moved e.key m s) (against s
-        (All-contains (IsElsewhere e.key m) xs s (all_left (IsElsewhere e.key m) xs ys elsewhere) k)
-        (All-contains IsCovered xs s (all_left IsCovered xs ys covered) k)
-        (apart_turned s ab (All-contains (λ t. AreApart t ab) xs s (mid_before AreApart xs ab (bc ∷ ys) apart) k))
-        (apart_turned s bc (All-contains (λ t. AreApart t bc) xs s (mid_before AreApart xs bc ys without_first) k))))))
-        (All-map (AreApart ac) (moved e.key m) ys (All-from_members (λ s. AreApart ac (moved e.key m s)) ys (λ s k. against s
-        (All-contains (IsElsewhere e.key m) ys s (all_right (IsElsewhere e.key m) xs ys elsewhere) k)
-        (All-contains IsCovered ys s (all_right IsCovered xs ys covered) k)
-        (All-contains (AreApart ab) ys s (All-tail (AreApart ab) bc ys (mid_after AreApart xs ab (bc ∷ ys) apart)) k)
-        (All-contains (AreApart bc) ys s (mid_after AreApart xs bc ys without_first) k))))
+      new_apart : AllPairs AreApart (map (moved e.key m) xs ++ ac ∷ map (moved e.key m) ys)
+      new_apart =
+          mid_in AreApart (map (moved e.key m) xs) ac (map (moved e.key m) ys)
+          (subst (AllPairs AreApart) (map-append (moved e.key m) xs ys)
+          (pairs_map AreApart (moved e.key m) (IsElsewhere e.key m) (apart_moved e.key m) (xs ++ ys) elsewhere (mid_out AreApart xs bc ys without_first)))
+          (All-map (λ s. AreApart s ac) (moved e.key m) xs (All-from_members (λ s. AreApart (moved e.key m s) ac) xs (λ s k.
+          apart_turned ac (moved e.key m s) (against s
+          (All-contains (IsElsewhere e.key m) xs s (all_left (IsElsewhere e.key m) xs ys elsewhere) k)
+          (All-contains IsCovered xs s (all_left IsCovered xs ys covered) k)
+          (apart_turned s ab (All-contains (λ t. AreApart t ab) xs s (mid_before AreApart xs ab (bc ∷ ys) apart) k))
+          (apart_turned s bc (All-contains (λ t. AreApart t bc) xs s (mid_before AreApart xs bc ys without_first) k))))))
+          (All-map (AreApart ac) (moved e.key m) ys (All-from_members (λ s. AreApart ac (moved e.key m s)) ys (λ s k. against s
+          (All-contains (IsElsewhere e.key m) ys s (all_right (IsElsewhere e.key m) xs ys elsewhere) k)
+          (All-contains IsCovered ys s (all_right IsCovered xs ys covered) k)
+          (All-contains (AreApart ab) ys s (All-tail (AreApart ab) bc ys (mid_after AreApart xs ab (bc ∷ ys) apart)) k)
+          (All-contains (AreApart bc) ys s (mid_after AreApart xs bc ys without_first) k))))
 
 pub replaced_is_apart : ReplacedIsApart
 replaced_is_apart before after e front rest a b c others free apart =
-    subst (AllPairs AreApart) (sym (new_is before after e front rest a b c others free))
-    (new_apart before after e front rest a b c others free (subst (AllPairs AreApart) (old_is before after e front rest a b c others free) apart))
+    subst (AllPairs AreApart) (sym (new_is before after e front rest a b c others))
+    (new_apart before after e front rest a b c others free (subst (AllPairs AreApart) (old_is before after e front rest a b c others) apart))

@@ -108,11 +108,11 @@ module _ (ratio : ℕ) (area : ℤ) (made step : ℕ) (before : List Edge) (e : 
 -- ---- all edges of a step
 
 -- what is known of the trace of some edges: what is gone, and what leads where
-record IsTraceOf (ratio : ℕ) (area : ℤ) (made step : ℕ) (start : List Edge) (ts : List Taken) (points : List Point) (last : List Edge) : Type 0 where
-  gone : map removal_of ts ≡ map (λ p. record { point = p; step = step }) points
-  leads : LeadTo start ts last
-  steps : All (λ t. t.step ≡ step) ts
-  rule : All (IsTakenByRule ratio area made) ts
+pub record IsTraceOf (ratio : ℕ) (area : ℤ) (made step : ℕ) (start : List Edge) (ts : List Taken) (points : List Point) (last : List Edge) : Type 0 where
+  pub gone : map removal_of ts ≡ map (λ p. record { point = p; step = step }) points
+  pub leads : LeadTo start ts last
+  pub steps : All (λ t. t.step ≡ step) ts
+  pub rule : All (IsTakenByRule ratio area made) ts
 
 module _ (ratio : ℕ) (area : ℤ) (made step : ℕ) where
   follow_edge : (before : List Edge) (e : Edge) (after : List Edge) → has_side made e ≡ true → (points : List Point) → e.points ≡ points
@@ -136,7 +136,7 @@ module _ (ratio : ℕ) (area : ℤ) (made step : ℕ) where
         rule = h.rule;
       }
 
-  follow_edges : (before edges : List Edge)
+  pub follow_edges : (before edges : List Edge)
       → IsTraceOf ratio area made step (before ++ edges) (trace_edges ratio area made step before edges) (sweep_edges ratio area made before edges)
       (swept_edges ratio area made before edges)
   follow_edges before [] = record {
@@ -197,7 +197,7 @@ module _ (ratio : ℕ) (area : ℤ) (made step : ℕ) where
 -- ---- all steps
 
 module _ (h : MergedMap) (j : ℕ) where
-  at_step : IsTraceOf h.base.rules.ratio (step_area h j) (step_number h j).made j (edges_before_sweep h j) (trace_at h j)
+  pub at_step : IsTraceOf h.base.rules.ratio (step_area h j) (step_number h j).made j (edges_before_sweep h j) (trace_at h j)
       (sweep h.base.rules.ratio (step_area h j) (step_number h j).made (edges_before_sweep h j)) (edges_after_sweep h j)
   unfolding sweep
   at_step = by (h.base.rules.ratio == 0) (follow_edges h.base.rules.ratio (step_area h j) (step_number h j).made j [] (edges_before_sweep h j))
@@ -287,20 +287,20 @@ trace_follows_rule h (suc k) = by (nat_lt k (length h.steps)) refl (trace_follow
 -- ---- the sweep keeps segments apart
 
 -- an edge's points do not change which keys the edges have
-keys_stay : (before : List Edge) (e : Edge) (after : List Edge) (ps : List Point)
+pub keys_stay : (before : List Edge) (e : Edge) (after : List Edge) (ps : List Point)
     → AllPairs (λ (e f : Edge). e.key ≢ f.key) (before ++ e ∷ after) → AllPairs (λ (e f : Edge). e.key ≢ f.key) (before ++ record e { points = ps } ∷ after)
 keys_stay before e after ps h =
     mid_in (λ (e f : Edge). e.key ≢ f.key) before (record e { points = ps }) after (mid_out (λ (e f : Edge). e.key ≢ f.key) before e after h)
     (mid_before (λ (e f : Edge). e.key ≢ f.key) before e after h) (mid_after (λ (e f : Edge). e.key ≢ f.key) before e after h)
 
-key_alone : (before : List Edge) (e : Edge) (after : List Edge) → AllPairs (λ (e f : Edge). e.key ≢ f.key) (before ++ e ∷ after)
+pub key_alone : (before : List Edge) (e : Edge) (after : List Edge) → AllPairs (λ (e f : Edge). e.key ≢ f.key) (before ++ e ∷ after)
     → All (λ f. e.key ≢ f.key) (before ++ after)
 key_alone before e after h = All-append (λ f. e.key ≢ f.key) before after
     (All-weaker (λ f. f.key ≢ e.key) (λ f. e.key ≢ f.key) (λ f n s. n (sym s)) before (mid_before (λ (e f : Edge). e.key ≢ f.key) before e after h))
     (mid_after (λ (e f : Edge). e.key ≢ f.key) before e after h)
 
 -- what is removable is free
-removable_is_free : (ratio : ℕ) (area : ℤ) (others : List Seg) (a b c : Point) → is_removable ratio area others a b c ≡ true → is_free others a b c ≡ true
+pub removable_is_free : (ratio : ℕ) (area : ℤ) (others : List Seg) (a b c : Point) → is_removable ratio area others a b c ≡ true → is_free others a b c ≡ true
 unfolding is_removable
 removable_is_free ratio area others a b c h =
     ⊎_elim (λ e. or_left (area2 a b c == 0) (list_all (is_clear a b c) others) e)

@@ -2,3 +2,4 @@ pub mod TriangleLaws
 pub mod ReplaceLaws
 pub mod Trace
 pub mod TraceLaws
+pub mod StandLaws

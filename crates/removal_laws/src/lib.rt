@@ -2,10 +2,15 @@
 //! of a planar partition. The functions do nothing: the contract of each is a law, which is proved with the crate.
 #![tactic(auto)]
 
+mod listed;
 mod replace;
 mod trace;
 mod triangle;
 
+pub use listed::{
+    removed_are_inner, sound_points_stand_once, sweep_is_slice, sweep_is_without,
+    sweep_keeps_sound, vertices_are_listed_once,
+};
 pub use replace::replaced_is_apart;
 pub use trace::{sweep_keeps_apart, trace_follows_rule, trace_is_removals, trace_leads};
 pub use triangle::{clear_is_apart, clear_of_base, one_line_covers};
