@@ -11,3 +11,5 @@ pub mod Less
 pub mod SweptLess
 pub mod ListedVertices
 pub mod Sound
+pub mod ChainEnds
+pub mod EndsStay

@@ -21,15 +21,10 @@ use Rattle.map_laws.proofs.Lists.{all_members, members_all, any_from, map_among,
 use Rattle.removal_laws.specs.Trace.{Taken, removal_of, edges_before_sweep, edges_after_sweep, step_area, trace_at, trace_to}
 use Rattle.removal_laws.specs.TraceLaws.{IsTakenByRule}
 use Rattle.removal_laws.specs.StandLaws.{live_points, inner_points, InnerPointsStandOnce, edges_less, SweepIsSlice, ChainPointsStandOnce, VerticesAreListedOnce, IsInnerOfChains, RemovedAreInner}
+use Rattle.removal_laws.proofs.ChainEnds.{contained}
 use Rattle.removal_laws.proofs.Less.{times_of_append, inner_is_early, without_none, less_both, less_stands, stands_at}
 use Rattle.removal_laws.proofs.Tracing.{at_step, trace_is_removals}
 use Rattle.removal_laws.proofs.SweptLess.{IsInnerOf, IsLess, early_among, inner_among, inner_of_less, not_listed, follow_less}
-
--- a member by its place
-contained : {A : Type 0} (xs : List A) (x : A) → Among x xs → Contains xs x
-contained [] x m = absurd m
-contained (y ∷ ys) x (inl e) = (0, omega arith, e)
-contained (y ∷ ys) x (inr m) = in_tail y ys x (contained ys x m)
 
 pairs_of_values : {A B : Type 0} (R : B → B → Type 0) (f : A → B) (xs : List A) → AllPairs (λ x y. R (f x) (f y)) xs → AllPairs R (map f xs)
 pairs_of_values R f [] h = AllPairs-nil R
@@ -68,7 +63,7 @@ module _ (h : MergedMap) (j : ℕ) (once : InnerPointsStandOnce (edges_of h j []
       (trace_at h j) taken.inner
 
 -- what a step adds to the list
-removals_next : (h : MergedMap) (k : ℕ) → k < length h.steps → removals_to h (suc k) ≡ removals_to h k ++ map removal_of (trace_at h (suc k))
+pub removals_next : (h : MergedMap) (k : ℕ) → k < length h.steps → removals_to h (suc k) ≡ removals_to h k ++ map removal_of (trace_at h (suc k))
 removals_next h k l =
     sym (trace_is_removals h (suc k))
     ∙ ap (map removal_of) (cond-true (nat_lt k (length h.steps)) (trace_to h k ++ trace_at h (suc k)) (trace_to h k) (lt-ltb k (length h.steps) l))

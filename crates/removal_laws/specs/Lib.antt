@@ -3,3 +3,4 @@ pub mod ReplaceLaws
 pub mod Trace
 pub mod TraceLaws
 pub mod StandLaws
+pub mod EndLaws

@@ -2,11 +2,13 @@
 //! of a planar partition. The functions do nothing: the contract of each is a law, which is proved with the crate.
 #![tactic(auto)]
 
+mod ends;
 mod listed;
 mod replace;
 mod trace;
 mod triangle;
 
+pub use ends::{ends_are_not_listed, ends_were_ends};
 pub use listed::{
     removed_are_inner, sound_points_stand_once, sweep_is_slice, sweep_is_without,
     sweep_keeps_sound, vertices_are_listed_once,
