@@ -13,3 +13,9 @@ pub mod ListedVertices
 pub mod Sound
 pub mod ChainEnds
 pub mod EndsStay
+pub mod Spots
+pub mod NoneBetween
+pub mod Insertions
+pub mod ReplacedStack
+pub mod StackKept
+pub mod InsideKept

@@ -56,6 +56,18 @@ other_arcs key (e ∷ edges) h =
     (path_segments e.key e.left e.right 0 e.points) (path_arcs e.key e.left e.right 0 e.points))
     (other_arcs key edges (All-tail (λ g. key ≢ g.key) e edges h))
 
+-- the segments of edges, of which one is in two parts
+pub edges_in_parts : (before after : List Edge) (e : Edge) (front : List Point) (a z : Point) (more : List Point)
+    → edge_segments (before ++ record e { points = front ++ a ∷ z ∷ more } ∷ after)
+    ≡ (edge_segments before ++ front_segments e.key e.left e.right 0 front a)
+    ++ (path_segments e.key e.left e.right (place_after 0 front) (a ∷ z ∷ more) ++ edge_segments after)
+edges_in_parts before after e front a z more =
+    flat_map-append (λ (f : Edge). path_segments f.key f.left f.right 0 f.points) before (record e { points = front ++ a ∷ z ∷ more } ∷ after)
+    ∙ ap (λ (path : List LabelledSegment). edge_segments before ++ (path ++ edge_segments after)) (path_in_parts e.key e.left e.right 0 front a z more)
+    ∙ ap (λ (rest : List LabelledSegment). edge_segments before ++ rest)
+    (append_assoc (front_segments e.key e.left e.right 0 front a) (path_segments e.key e.left e.right (place_after 0 front) (a ∷ z ∷ more)) (edge_segments after))
+    ∙ sym (append_assoc (edge_segments before) (front_segments e.key e.left e.right 0 front a) (path_segments e.key e.left e.right (place_after 0 front) (a ∷ z ∷ more) ++ edge_segments after))
+
 module _ (before after : List Edge) (e : Edge) (front rest : List Point) (a b c : Point) (others : All (λ f. e.key ≢ f.key) (before ++ after)) where
   unfoldable pub m : ℕ
   m = place_after 0 front
@@ -73,7 +85,7 @@ module _ (before after : List Edge) (e : Edge) (front rest : List Point) (a b c 
   unfoldable pub bc : LabelledSegment
   bc = second_of_two e.key m e.left e.right a b c (is_empty rest)
 
-  ac : LabelledSegment
+  unfoldable pub ac : LabelledSegment
   ac = joined e.key m e.left e.right a b c (is_empty rest)
 
   in_parts : (z : Point) (more : List Point)
@@ -81,12 +93,7 @@ module _ (before after : List Edge) (e : Edge) (front rest : List Point) (a b c 
       ≡ (edge_segments before ++ front_segments e.key e.left e.right 0 front a)
       ++ (path_segments e.key e.left e.right m (a ∷ z ∷ more) ++ edge_segments after)
   unfolding m
-  in_parts z more =
-      flat_map-append (λ (f : Edge). path_segments f.key f.left f.right 0 f.points) before (record e { points = front ++ a ∷ z ∷ more } ∷ after)
-      ∙ ap (λ (path : List LabelledSegment). edge_segments before ++ (path ++ edge_segments after)) (path_in_parts e.key e.left e.right 0 front a z more)
-      ∙ ap (λ (rest : List LabelledSegment). edge_segments before ++ rest)
-      (append_assoc (front_segments e.key e.left e.right 0 front a) (path_segments e.key e.left e.right (place_after 0 front) (a ∷ z ∷ more)) (edge_segments after))
-      ∙ sym (append_assoc (edge_segments before) (front_segments e.key e.left e.right 0 front a) (path_segments e.key e.left e.right (place_after 0 front) (a ∷ z ∷ more) ++ edge_segments after))
+  in_parts z more = edges_in_parts before after e front a z more
 
   pub old_is : edge_segments (before ++ record e { points = front ++ a ∷ b ∷ c ∷ rest } ∷ after) ≡ xs ++ ab ∷ bc ∷ ys
   unfolding xs ys ab bc
@@ -110,7 +117,7 @@ module _ (before after : List Edge) (e : Edge) (front rest : List Point) (a b c 
       (path_lowered e.key m e.left e.right (m + 1) (c ∷ rest) (omega arith))
       (all_other e.key m (edge_segments after) (other_arcs e.key after (all_right (λ f. e.key ≢ f.key) before after others)))
 
-  new_is : edge_segments (before ++ record e { points = front ++ a ∷ c ∷ rest } ∷ after) ≡ map (moved e.key m) xs ++ ac ∷ map (moved e.key m) ys
+  pub new_is : edge_segments (before ++ record e { points = front ++ a ∷ c ∷ rest } ∷ after) ≡ map (moved e.key m) xs ++ ac ∷ map (moved e.key m) ys
   unfolding xs ac
   new_is =
       in_parts c rest
@@ -138,7 +145,7 @@ module _ (before after : List Edge) (e : Edge) (front rest : List Point) (a b c 
       → (is_on x (record { a = a; b = b }) ≡ true) ⊎ (is_on x (record { a = b; b = c }) ≡ true)
 
   -- what holds of all other live segments holds of these
-  clear_of_all : (p : Seg → Bool) → list_all p (other_segments before after front a c rest) ≡ true → All (λ s. p s.segment ≡ true) (xs ++ ys)
+  pub clear_of_all : (p : Seg → Bool) → list_all p (other_segments before after front a c rest) ≡ true → All (λ s. p s.segment ≡ true) (xs ++ ys)
   unfolding xs ys
   clear_of_all p h =
       All-append P xs ys

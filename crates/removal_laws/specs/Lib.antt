@@ -4,3 +4,5 @@ pub mod Trace
 pub mod TraceLaws
 pub mod StandLaws
 pub mod EndLaws
+pub mod StackLaws
+pub mod InsideLaws

@@ -3,12 +3,16 @@
 #![tactic(auto)]
 
 mod ends;
+mod faces;
 mod listed;
 mod replace;
 mod trace;
 mod triangle;
 
 pub use ends::{ends_are_not_listed, ends_were_ends};
+pub use faces::{
+    replaced_agrees, replaced_inside, step_keeps_inside, sweep_keeps_faces, sweep_keeps_inside,
+};
 pub use listed::{
     removed_are_inner, sound_points_stand_once, sweep_is_slice, sweep_is_without,
     sweep_keeps_sound, vertices_are_listed_once,
