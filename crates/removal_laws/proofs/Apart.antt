@@ -1,6 +1,6 @@
 -- Segments that are apart: in any order, with other places, and from a segment that takes the place of two.
-use Rattle.std.proofs.Common.{◌≡◌, ◌≢◌, ◌⊎◌, inl, inr, ⊎_elim, ℕ, zero, suc, ◌+◌, ◌<◌, ◌==◌, ◌&&◌, ◌||◌, Bool, true, false, [], ◌∷◌, ℤ, pos, ◌*ℤ◌, ◌+ℤ◌, ◌<ℤ◌, refl, sym, ap, ap₂, ◌∙◌, subst, arith}
-use Rattle.std.proofs.lemmas.Bool.{and_parts, and_from, and_right, or_cases, or_left, or_right, true≢false, ne_eqb, true_from_ne_false, false_from_ne_true}
+use Rattle.std.proofs.Common.{◌≡◌, ◌≢◌, ◌⊎◌, inl, inr, ⊎_elim, ℕ, ◌+◌, ◌==◌, ◌&&◌, ◌||◌, Bool, true, false, [], ◌∷◌, ℤ, pos, ◌*ℤ◌, ◌+ℤ◌, ◌<ℤ◌, refl, sym, ap, ap₂, ◌∙◌, subst, arith}
+use Rattle.std.proofs.lemmas.Bool.{and_parts, and_from, or_cases, or_left, or_right, true≢false, ne_eqb, true_from_ne_false, false_from_ne_true}
 use Rattle.std.proofs.lemmas.Bool.Decides.{Decides-int_eq}
 use Rattle.std.specs.Ordering.{int_eq}
 use Rattle.std.proofs.lemmas.Int.{ints}
@@ -13,14 +13,14 @@ use Rattle.tgap_model.specs.declared.geometry.Seg.{Seg}
 use Rattle.tgap_model.specs.declared.geometry.Shared.{Shared}
 use Rattle.tgap_model.specs.declared.segment.LabelledSegment.{LabelledSegment}
 use Rattle.tgap_model.specs.Base.{same_point}
-use Rattle.tgap_model.specs.Segment.{is_at, is_on, is_permitted, HaveInCommon}
+use Rattle.tgap_model.specs.Segment.{is_at, is_on, is_permitted}
 use Rattle.tgap_model.specs.Point.{cross as cross_of}
 use Rattle.tgap_model.specs.Clear.{is_clear}
 use Rattle.tgap_model.specs.Partition.{AreApart, follows, shared_ends}
 use Rattle.tgap_model.proofs.Points.{point_same, same_point-true, same_point-from}
 use Rattle.removal_laws.proofs.Between.{is_on_from}
 use Rattle.removal_laws.proofs.ClearTriangle.{clear_of_base}
-use Rattle.removal_laws.proofs.Places.{lowered, moved, IsElsewhere, follows_moved, before_joined, after_joined, not_here, not_next}
+use Rattle.removal_laws.proofs.Places.{moved, IsElsewhere, follows_moved, before_joined, after_joined, not_here, not_next}
 
 -- ---- in the other order
 

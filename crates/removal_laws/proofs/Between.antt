@@ -1,16 +1,14 @@
 -- A rational point on a segment as a weighted mean of its ends, with weights that are not negative.
-use Rattle.std.proofs.Common.{◌≡◌, ◌≢◌, ◌⊎◌, inl, inr, ℕ, ◌+◌, true, ◌&&◌, [], ◌∷◌, ℤ, pos, ◌+ℤ◌, ◌-ℤ◌, ◌*ℤ◌, neg_ℤ, ◌<ℤ◌, ◌≤ℤ◌, int_le, refl, sym, ap, ◌∙◌, subst, arith}
-use Rattle.std.specs.Ordering.{int_eq}
+use Rattle.std.proofs.Common.{◌≡◌, ◌≢◌, ◌⊎◌, inl, inr, ℕ, ◌+◌, true, ◌&&◌, [], ◌∷◌, ℤ, pos, ◌+ℤ◌, ◌-ℤ◌, ◌*ℤ◌, ◌<ℤ◌, ◌≤ℤ◌, int_le, refl, sym, ap, ◌∙◌, subst, arith}
 use Rattle.std.specs.Int.Signed.{clash_ℤ}
 use Rattle.std.proofs.lemmas.Bool.{and_parts, and_from, or_cases, or_left, or_right}
 use Rattle.std.proofs.lemmas.Bool.Decides.{Decides-int_eq}
 use Rattle.std.proofs.lemmas.Int.{ints, by_lt_z}
 use Rattle.lemmas.proofs.Polynomials.{Polynomial, same_value, var, number, ◌⊕◌, ◌⊖◌, ◌⊗◌, minus, x_of, y_of, x_step, y_step, cross}
 use Rattle.lemmas.proofs.Products.{zero_from_square, zero_from_mul_left}
-use Rattle.lemmas.proofs.Signs.{Decides-int_le, by_order, by_sign, le_from_lt, le_from_same, mul_not_negative, square_not_negative, square_positive, neg_not_negative, not_negative_from_mul, not_positive_from_mul, mul_not_positive, same_from_mul_left, apart_from_lt, le_from_sub, same_from_sub, sub_not_negative, sub_negative}
+use Rattle.lemmas.proofs.Signs.{Decides-int_le, by_sign, le_from_lt, le_from_same, mul_not_negative, square_not_negative, neg_not_negative, not_negative_from_mul, not_positive_from_mul, mul_not_positive, same_from_mul_left, apart_from_lt, le_from_sub, same_from_sub, sub_not_negative, sub_negative}
 use Rattle.tgap_model.specs.declared.geometry.Point.{Point}
 use Rattle.tgap_model.specs.declared.geometry.Fraction.{Fraction}
-use Rattle.tgap_model.specs.declared.geometry.Seg.{Seg}
 use Rattle.tgap_model.specs.Point.{cross as cross_of}
 use Rattle.tgap_model.specs.Segment.{cross_at, is_at, is_on, lies_between}
 

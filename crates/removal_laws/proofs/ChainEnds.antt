@@ -1,10 +1,7 @@
 -- The ends of chains: those of their points, and those of the chains before a step.
-use Rattle.std.proofs.Common.{◌≡◌, ◌≢◌, ◌⊎◌, inl, inr, ⊎_elim, ℕ, zero, suc, ◌+◌, ◌-◌, ◌<◌, ◌≤◌, Bool, true, false, not, nat_lt, cond, List, [], ◌∷◌, ◌++◌, map, flat_map, filter, reverse, fold, drop, length, All, Contains, refl, sym, ap, ◌∙◌, subst, true≢false, arith}
-use Rattle.std.specs.Prelude.{if◌then◌else◌}
-use Rattle.std.specs.List.{list_all}
-use Rattle.std.proofs.lemmas.Bool.{and_parts, ltb-true, cases_lt}
+use Rattle.std.proofs.Common.{◌≡◌, ◌≢◌, ◌⊎◌, inl, inr, ℕ, ◌+◌, ◌<◌, ◌≤◌, Bool, true, false, not, nat_lt, cond, List, [], ◌∷◌, ◌++◌, map, flat_map, filter, reverse, fold, drop, length, Contains, refl, sym, ap, ◌∙◌, subst, arith}
+use Rattle.std.proofs.lemmas.Bool.{and_parts, ltb-true}
 use Rattle.std.proofs.lemmas.List.{reverse-append, length-reverse, length-append}
-use Rattle.std.proofs.lemmas.List.Elements.{All-get_or, Contains-get_or}
 use Rattle.tgap_model.specs.declared.geometry.Point.{Point}
 use Rattle.tgap_model.specs.declared.base.BaseArc.{BaseArc}
 use Rattle.tgap_model.specs.Base.{same_point}
@@ -12,15 +9,14 @@ use Rattle.tgap_model.specs.Merged.{MergedMap, step_number}
 use Rattle.tgap_model.specs.Removals.{edge_of}
 use Rattle.tgap_model.specs.Records.{is_edge_between}
 use Rattle.lemmas.proofs.Members.{in_none, in_tail, in_cases}
-use Rattle.tgap_model.specs.Chains.{Link, Chain, first_point, last_point, arc_number, link_points, link_start, link_end, chain_start, chain_end, chain_points, has_links, touches, toward, turned_round, join_at, directed, is_directed, key, are_chains, is_chain, covers_border, chains_at}
-use Rattle.lemmas.specs.Sorting.{sort_by}
+use Rattle.tgap_model.specs.Chains.{Link, Chain, first_point, last_point, arc_number, link_points, link_start, link_end, chain_start, chain_end, chain_points, has_links, touches, toward, turned_round, join_at, directed, is_directed, key, are_chains, is_chain, chains_at}
 use Rattle.map_laws.specs.ChainLaws.{chains_left, new_joints, joined_chains}
 use Rattle.map_laws.proofs.ChainMembers.{Among, all_among, append_among, joined_among}
 use Rattle.map_laws.proofs.Lists.{sort_among, map_among, kept_among}
 use Rattle.map_laws.proofs.JoinPaths.{append_links, append_start, append_end, turned_start, turned_end, turned_links}
 use Rattle.map_laws.proofs.ChainsStep.{chains_step}
 use Rattle.map_laws.proofs.ChainsExist.{chains_exist}
-use Rattle.removal_laws.specs.EndLaws.{IsChainEnd, HasEvenChains, EndsWereEnds}
+use Rattle.removal_laws.specs.EndLaws.{IsChainEnd, EndsWereEnds}
 
 -- ---- the ends of rows of points
 
@@ -70,7 +66,7 @@ module _ (arcs : List BaseArc) where
       by true = first_reversed points
       by false = refl
 
-  link_last : (d : Link) → last_point (link_points arcs d) ≡ link_end arcs d
+  pub link_last : (d : Link) → last_point (link_points arcs d) ≡ link_end arcs d
   link_last d = by d.turned
     where
       points : List Point
@@ -80,7 +76,7 @@ module _ (arcs : List BaseArc) where
       by true = last_reversed points
       by false = refl
 
-  link_length : (d : Link) → 2 ≤ length (arc_number arcs d.arc).points → 2 ≤ length (link_points arcs d)
+  pub link_length : (d : Link) → 2 ≤ length (arc_number arcs d.arc).points → 2 ≤ length (link_points arcs d)
   link_length d two = by d.turned
     where
       points : List Point
@@ -94,7 +90,7 @@ module _ (arcs : List BaseArc) where
   abbrev pub AreLong : Chain → Type 0
   AreLong c = (d : Link) → Among d c → 2 ≤ length (arc_number arcs d.arc).points
 
-  chain_length : (c : Chain) → has_links c ≡ true → AreLong c → 2 ≤ length (chain_points arcs c)
+  pub chain_length : (c : Chain) → has_links c ≡ true → AreLong c → 2 ≤ length (chain_points arcs c)
   chain_length [] h long = absurd cc
   chain_length (d ∷ []) h long = link_length d (long d (inl refl))
   chain_length (d ∷ e ∷ c) h long = omega (arith, length-append (link_points arcs d) (drop 1 (chain_points arcs (e ∷ c))), link_length d (long d (inl refl)))

@@ -1,5 +1,5 @@
 -- A triangle that is clear of a segment has no point in common with it but an a or c that is an end of the segment.
-use Rattle.std.proofs.Common.{◌≡◌, ◌≢◌, ◌⊎◌, inl, inr, Bool, true, false, ◌&&◌, ◌||◌, not, [], ◌∷◌, ℤ, pos, negsuc, ◌+ℤ◌, ◌-ℤ◌, ◌*ℤ◌, neg_ℤ, ◌<ℤ◌, ◌≤ℤ◌, refl, sym, ap, ◌∙◌, subst, arith}
+use Rattle.std.proofs.Common.{◌≡◌, ◌≢◌, ◌⊎◌, inl, inr, true, false, ◌&&◌, ◌||◌, not, [], ◌∷◌, ℤ, pos, negsuc, ◌+ℤ◌, ◌*ℤ◌, neg_ℤ, ◌<ℤ◌, ◌≤ℤ◌, refl, sym, ap, ◌∙◌, subst, arith}
 use Rattle.std.specs.Int.{int_signum}
 use Rattle.std.specs.Int.Signed.{clash_ℤ}
 use Rattle.std.specs.Ordering.{int_eq}
@@ -7,14 +7,14 @@ use Rattle.std.proofs.lemmas.Bool.{and_parts, and_from, or_cases, or_left, or_ri
 use Rattle.std.proofs.lemmas.Bool.Decides.{Decides-int_eq}
 use Rattle.std.proofs.lemmas.Int.{ints}
 use Rattle.lemmas.proofs.Polynomials.{same_value, var, number, ◌⊕◌, ◌⊖◌, ◌⊗◌, x_of, y_of, x_step, y_step, cross}
-use Rattle.lemmas.proofs.Signs.{by_sign, by_signum, le_from_lt, le_from_same, mul_positive, mul_negatives, mul_negative_left, mul_negative_right, mul_not_negative, square_not_negative, square_positive, not_negative_from_mul, mul_not_zero, apart_from_lt, int_signum-positive, int_signum-negative}
+use Rattle.lemmas.proofs.Signs.{by_sign, by_signum, le_from_lt, le_from_same, mul_positive, mul_negatives, mul_negative_left, mul_negative_right, mul_not_negative, square_not_negative, not_negative_from_mul, mul_not_zero, apart_from_lt}
 use Rattle.lemmas.proofs.Products.{zero_from_mul_left}
 use Rattle.tgap_model.specs.declared.geometry.Point.{Point}
 use Rattle.tgap_model.specs.declared.geometry.Fraction.{Fraction}
 use Rattle.tgap_model.specs.declared.geometry.Seg.{Seg}
 use Rattle.tgap_model.specs.Base.{same_point}
 use Rattle.tgap_model.specs.Point.{cross as cross_of, side}
-use Rattle.tgap_model.specs.Segment.{cross_at, is_at, is_on}
+use Rattle.tgap_model.specs.Segment.{cross_at, is_at}
 use Rattle.tgap_model.specs.Clear.{is_base_corner, lies_away, is_beyond, is_at_side, is_beside, is_clear}
 use Rattle.tgap_model.proofs.Points.{same_point-true}
 use Rattle.removal_laws.specs.TriangleLaws.{IsInTriangle, ClearIsApart, ClearOfBase}

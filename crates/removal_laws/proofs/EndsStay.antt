@@ -1,21 +1,18 @@
 -- No end of a chain is listed: it was an end before each step, and a step takes out inner points alone.
-use Rattle.std.proofs.Common.{◌≡◌, ◌≢◌, ◌⊎◌, inl, inr, ℕ, zero, suc, ◌+◌, ◌-◌, ◌<◌, ◌≤◌, Bool, true, false, List, [], ◌∷◌, ◌++◌, map, length, All, Contains, get_or, refl, sym, ap, ◌∙◌, subst, true≢false, arith}
-use Rattle.std.specs.List.{list_any}
+use Rattle.std.proofs.Common.{◌≡◌, ◌≢◌, ◌⊎◌, inl, inr, ℕ, zero, suc, ◌+◌, ◌≤◌, false, List, [], map, length, All, refl, sym, ap, ◌∙◌, subst, arith}
 use Rattle.std.proofs.lemmas.Bool.{or_from, false_from_ne_true}
-use Rattle.std.proofs.lemmas.List.{get_or_default}
 use Rattle.std.proofs.lemmas.List.Folds.{list_any-append}
 use Rattle.tgap_model.specs.declared.geometry.Point.{Point}
-use Rattle.tgap_model.specs.declared.base.BaseArc.{BaseArc}
 use Rattle.tgap_model.specs.declared.slice.Removal.{Removal}
 use Rattle.tgap_model.specs.Base.{same_point}
 use Rattle.tgap_model.specs.Merged.{MergedMap}
-use Rattle.tgap_model.specs.Chains.{Link, Chain, arc_number, chain_start, chain_end, chain_points, first_point, last_point, chains_at}
+use Rattle.tgap_model.specs.Chains.{Chain, chain_start, chain_end, chain_points, first_point, last_point, chains_at}
 use Rattle.tgap_model.specs.Removals.{is_removed, removals_to}
 use Rattle.tgap_model.proofs.Points.{same_point-true}
 use Rattle.map_laws.proofs.ChainMembers.{Among, any_among}
 use Rattle.map_laws.proofs.Lists.{all_members, members_all, map_among}
 use Rattle.removal_laws.specs.Trace.{Taken, removal_of, trace_at}
-use Rattle.removal_laws.specs.StandLaws.{IsInnerOfChains, ChainPointsStandOnce}
+use Rattle.removal_laws.specs.StandLaws.{IsInnerOfChains}
 use Rattle.removal_laws.specs.EndLaws.{IsChainEnd, HasEvenChains, EndsAreNotListed}
 use Rattle.removal_laws.proofs.ListedVertices.{removals_next, removed_are_inner}
 use Rattle.removal_laws.proofs.ChainEnds.{among_contained, chain_links, chain_arcs, chain_first, chain_last, chain_has_points, AreLong, ends_were_ends}

@@ -1,16 +1,15 @@
 -- Sorted lists with one or two members more: where they stand, and what the faces down them say.
-use Rattle.std.proofs.Common.{◌≡◌, ◌⊎◌, inl, inr, ℕ, zero, suc, ◌<◌, Bool, true, false, cond, ◌||◌, ◌&&◌, ◌==◌, List, [], ◌∷◌, ◌++◌, map, filter, All, AllPairs, length, get_or, refl, sym, ap, ◌∙◌, subst, arith}
-use Rattle.std.specs.List.Sorted.{IsPermutation}
+use Rattle.std.proofs.Common.{◌≡◌, ℕ, zero, suc, ◌<◌, Bool, true, false, cond, ◌||◌, ◌==◌, List, [], ◌∷◌, ◌++◌, map, All, AllPairs, length, get_or, refl, ap, ◌∙◌, subst, arith}
 use Rattle.std.proofs.Math.Bool.{or_comm}
 use Rattle.std.proofs.lemmas.Bool.{and_parts, and_from}
 use Rattle.std.proofs.lemmas.List.Elements.{All-head, All-tail, All-append, All-weaker}
 use Rattle.std.proofs.lemmas.List.Sorted.{IsPermutation-middle, IsPermutation-cons, IsPermutation-trans}
-use Rattle.lemmas.specs.Sorting.{insert_by, sort_by, is_sorted_by, IsStrictOrderOn}
+use Rattle.lemmas.specs.Sorting.{insert_by, sort_by, IsStrictOrderOn}
 use Rattle.lemmas.proofs.Members.{AllPairs-nil, AllPairs-head, AllPairs-tail}
 use Rattle.std.proofs.lemmas.List.Kept.{AllPairs-cons}
 use Rattle.lemmas.proofs.Sorting.{insert_by-permutation, sort_by-permutation, All-sort_by, insert_by-is_sorted, sort_by-is_sorted, sort_by-permuted}
 use Rattle.tgap_model.specs.declared.segment.LabelledSegment.{LabelledSegment}
-use Rattle.tgap_model.specs.Partition.{Sides, sides, agree_from}
+use Rattle.tgap_model.specs.Partition.{sides, agree_from}
 use Rattle.map_laws.proofs.Labels.{neighbours_cancel}
 use Rattle.removal_laws.proofs.Pairs.{mid_before, mid_after, mid_out}
 

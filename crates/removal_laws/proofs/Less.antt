@@ -1,8 +1,6 @@
 -- Rows of points and edges less listed vertices: how often a point stands in them, and their inner points.
-use Rattle.std.proofs.Common.{◌≡◌, ◌≢◌, ◌⊎◌, inl, inr, ⊎_elim, ℕ, zero, suc, ◌+◌, ◌<◌, ◌≤◌, ◌&&◌, ◌||◌, Bool, true, false, not, cond, List, [], ◌∷◌, ◌++◌, map, flat_map, filter, length, All, append_assoc, refl, sym, ap, ap₂, ◌∙◌, subst, arith}
+use Rattle.std.proofs.Common.{◌≡◌, ◌⊎◌, inl, inr, ℕ, ◌+◌, ◌≤◌, ◌||◌, Bool, true, false, not, cond, List, [], ◌∷◌, ◌++◌, filter, All, append_assoc, refl, sym, ap, ap₂, ◌∙◌, subst, arith}
 use Rattle.std.specs.Prelude.{count_by}
-use Rattle.std.specs.List.{list_any}
-use Rattle.std.proofs.lemmas.Bool.{or_from, or_parts, false_from_ne_true, true≢false}
 use Rattle.std.proofs.lemmas.List.Folds.{list_any-append}
 use Rattle.std.proofs.lemmas.List.Sums.{sum_by-cons, sum_by-append}
 use Rattle.tgap_model.specs.declared.geometry.Point.{Point}
@@ -11,8 +9,8 @@ use Rattle.tgap_model.specs.declared.slice.Removal.{Removal}
 use Rattle.tgap_model.specs.Base.{same_point}
 use Rattle.tgap_model.specs.Partition.{all_but_last}
 use Rattle.tgap_model.specs.Removals.{is_removed, without}
-use Rattle.tgap_model.proofs.Points.{same_point-true, same_point-from}
-use Rattle.map_laws.proofs.ChainMembers.{Among, count_passes, count_fails, among_counts, count_grows}
+use Rattle.tgap_model.proofs.Points.{same_point-from}
+use Rattle.map_laws.proofs.ChainMembers.{Among, count_passes, count_fails, count_grows}
 use Rattle.map_laws.proofs.Lists.{all_members, members_all, map_among}
 use Rattle.removal_laws.specs.StandLaws.{live_points, inner_points, InnerPointsStandOnce, edges_less}
 

@@ -19,3 +19,6 @@ pub mod Insertions
 pub mod ReplacedStack
 pub mod StackKept
 pub mod InsideKept
+pub mod ArcEdges
+pub mod ChainCounts
+pub mod StandOnce

@@ -1,12 +1,11 @@
 -- What the steps take out of the chains: it is left out of their edges, listed once, and inner.
-use Rattle.std.proofs.Common.{◌≡◌, ◌≢◌, ◌⊎◌, inl, inr, ⊎_elim, ℕ, zero, suc, ◌+◌, ◌-◌, ◌<◌, ◌≤◌, ◌==◌, Bool, true, false, nat_lt, cond, List, [], ◌∷◌, ◌++◌, map, flat_map, length, All, AllPairs, Contains, refl, sym, ap, ap₂, ◌∙◌, subst, true≢false, arith}
+use Rattle.std.proofs.Common.{◌≡◌, ◌≢◌, ◌⊎◌, inl, inr, ℕ, zero, suc, ◌+◌, ◌-◌, ◌<◌, ◌≤◌, Bool, true, false, nat_lt, List, [], ◌∷◌, ◌++◌, map, length, All, AllPairs, refl, sym, ap, ap₂, ◌∙◌, subst, true≢false, arith}
 use Rattle.std.specs.Prelude.{count_by}
-use Rattle.std.specs.List.{list_any}
 use Rattle.std.proofs.lemmas.Bool.{lt-ltb, ltb-true, cond-true, cond-false}
 use Rattle.std.proofs.lemmas.List.{map-append}
-use Rattle.std.proofs.lemmas.List.Elements.{All-nil, All-cons, All-head, All-tail, All-map, All-weaker, All-contains}
+use Rattle.std.proofs.lemmas.List.Elements.{All-map, All-weaker}
 use Rattle.std.proofs.lemmas.List.Kept.{AllPairs-cons}
-use Rattle.lemmas.proofs.Members.{in_head, in_tail, AllPairs-nil, AllPairs-head, AllPairs-tail, AllPairs-append}
+use Rattle.lemmas.proofs.Members.{AllPairs-nil, AllPairs-head, AllPairs-tail, AllPairs-append}
 use Rattle.tgap_model.specs.declared.geometry.Point.{Point}
 use Rattle.tgap_model.specs.declared.slice.Edge.{Edge}
 use Rattle.tgap_model.specs.declared.slice.Removal.{Removal}
@@ -15,12 +14,12 @@ use Rattle.tgap_model.specs.Partition.{all_but_last}
 use Rattle.tgap_model.specs.Merged.{MergedMap, step_number}
 use Rattle.tgap_model.specs.Chains.{Chain, chain_points, chains_at, first_point, last_point}
 use Rattle.tgap_model.specs.Removals.{is_removed, without, edge_of, edges_of, removed_at, removals_to}
-use Rattle.tgap_model.proofs.Points.{same_point-true, same_point-from}
+use Rattle.tgap_model.proofs.Points.{same_point-from}
 use Rattle.map_laws.proofs.ChainMembers.{Among, among_counts, count_passes, count_grows}
 use Rattle.map_laws.proofs.Lists.{all_members, members_all, any_from, map_among, among_map}
 use Rattle.removal_laws.specs.Trace.{Taken, removal_of, edges_before_sweep, edges_after_sweep, step_area, trace_at, trace_to}
 use Rattle.removal_laws.specs.TraceLaws.{IsTakenByRule}
-use Rattle.removal_laws.specs.StandLaws.{live_points, inner_points, InnerPointsStandOnce, edges_less, SweepIsSlice, ChainPointsStandOnce, VerticesAreListedOnce, IsInnerOfChains, RemovedAreInner}
+use Rattle.removal_laws.specs.StandLaws.{live_points, inner_points, InnerPointsStandOnce, edges_less, SweepIsSlice, VerticesAreListedOnce, IsInnerOfChains, RemovedAreInner}
 use Rattle.removal_laws.proofs.ChainEnds.{contained}
 use Rattle.removal_laws.proofs.Less.{times_of_append, inner_is_early, without_none, less_both, less_stands, stands_at}
 use Rattle.removal_laws.proofs.Tracing.{at_step, trace_is_removals}

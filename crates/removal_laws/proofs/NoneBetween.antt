@@ -1,19 +1,19 @@
 -- Two sides of a triangle that a line crosses: a segment that the triangle is clear of is not between them there.
 use Rattle.std.proofs.Common.{◌≡◌, ◌≢◌, ◌⊎◌, inl, inr, ⊎_elim, Bool, true, false, cond, ◌||◌, [], ◌∷◌, ℤ, pos, ◌+ℤ◌, ◌-ℤ◌, ◌*ℤ◌, ◌<ℤ◌, ◌≤ℤ◌, refl, sym, ap, ◌∙◌, subst, true≢false, arith}
-use Rattle.std.proofs.lemmas.Bool.{and_parts, or_cases, or_left, or_right, cases_Bool, false_from_ne_true}
+use Rattle.std.proofs.lemmas.Bool.{and_parts, or_cases, cases_Bool}
 use Rattle.std.proofs.lemmas.Int.{ints}
 use Rattle.lemmas.specs.Sorting.{IsStrictOrderOn}
 use Rattle.lemmas.proofs.Orders.{one_order}
 use Rattle.lemmas.proofs.Fractions.{fraction_lt_lt, affine_not_negative}
-use Rattle.lemmas.proofs.Polynomials.{same_value, var, number, ◌⊕◌, ◌⊖◌, ◌⊗◌, minus, x_of, y_of, x_step, y_step, cross}
+use Rattle.lemmas.proofs.Polynomials.{same_value, var, number, ◌⊕◌, ◌⊖◌, ◌⊗◌, x_of, y_of, x_step, y_step, cross}
 use Rattle.lemmas.proofs.Products.{zero_from_mul_left}
-use Rattle.lemmas.proofs.Signs.{Decides-int_lt, le_from_lt, le_from_same, lt_lt_trans, mul_positive, mul_not_negative, square_not_negative, not_negative_from_mul, apart_from_lt, same_from_sub}
+use Rattle.lemmas.proofs.Signs.{Decides-int_lt, le_from_lt, le_from_same, mul_positive, mul_not_negative, square_not_negative, not_negative_from_mul, apart_from_lt, same_from_sub}
 use Rattle.tgap_model.specs.declared.geometry.Point.{Point}
 use Rattle.tgap_model.specs.declared.geometry.Fraction.{Fraction}
 use Rattle.tgap_model.specs.declared.geometry.Seg.{Seg}
 use Rattle.tgap_model.specs.Point.{cross as cross_of}
 use Rattle.tgap_model.specs.Clear.{is_clear}
-use Rattle.tgap_model.specs.Segment.{Line, IsBetweenColumns, cross_at, is_at, is_on, crosses, goes_right, rightward, run, height, is_higher}
+use Rattle.tgap_model.specs.Segment.{Line, IsBetweenColumns, cross_at, is_at, goes_right, rightward, run, height, is_higher}
 use Rattle.tgap_model.specs.declared.segment.LabelledSegment.{LabelledSegment}
 use Rattle.removal_laws.specs.TriangleLaws.{IsInTriangle}
 use Rattle.removal_laws.proofs.Between.{IsBetween, is_on_from, cross_between}

@@ -1,11 +1,11 @@
 -- Pairs of the members of a list: one member put in or taken out, and the pairs of the values of a function.
-use Rattle.std.proofs.Common.{◌≡◌, ◌⊎◌, inl, inr, List, [], ◌∷◌, ◌++◌, map, All, AllPairs, Contains, refl}
+use Rattle.std.proofs.Common.{◌≡◌, List, [], ◌∷◌, ◌++◌, map, All, AllPairs}
 use Rattle.std.specs.List.{list_all}
 use Rattle.std.proofs.Common.{Bool, true}
 use Rattle.std.proofs.lemmas.Bool.{and_parts}
 use Rattle.std.proofs.lemmas.List.Elements.{All-nil, All-cons, All-head, All-tail, All-append, All-contains, All-map, Contains-append_left, Contains-append_right}
 use Rattle.std.proofs.lemmas.List.Kept.{AllPairs-cons}
-use Rattle.lemmas.proofs.Members.{in_head, in_tail, All-from_members, AllPairs-nil, AllPairs-head, AllPairs-tail}
+use Rattle.lemmas.proofs.Members.{in_head, All-from_members, AllPairs-nil, AllPairs-head, AllPairs-tail}
 
 -- what holds of two lists together holds of each
 pub all_left : {A : Type 0} (P : A → Type 0) (xs ys : List A) → All P (xs ++ ys) → All P xs

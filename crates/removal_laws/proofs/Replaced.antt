@@ -1,5 +1,5 @@
 -- The first property of planar partitions stays where a point is taken out of an edge.
-use Rattle.std.proofs.Common.{◌≡◌, ◌≢◌, ◌⊎◌, inl, inr, ⊎_elim, ℕ, zero, suc, ◌+◌, ◌<◌, ◌≤◌, ◌==◌, ◌||◌, Bool, true, false, List, [], ◌∷◌, ◌++◌, map, flat_map, All, AllPairs, append_assoc, pos, ◌<ℤ◌, unsigned_abs, refl, sym, ap, ap₂, ◌∙◌, subst, arith}
+use Rattle.std.proofs.Common.{◌≡◌, ◌≢◌, ◌⊎◌, inl, inr, ⊎_elim, ℕ, ◌+◌, ◌<◌, ◌≤◌, ◌==◌, Bool, true, false, List, [], ◌∷◌, ◌++◌, map, All, AllPairs, append_assoc, pos, ◌<ℤ◌, unsigned_abs, refl, sym, ap, ap₂, ◌∙◌, subst, arith}
 use Rattle.std.specs.List.{list_all}
 use Rattle.std.proofs.lemmas.Bool.{or_cases, eqb-true, eqb-false, cases_Bool, true≢false}
 use Rattle.std.proofs.lemmas.List.{map-append}
@@ -20,7 +20,7 @@ use Rattle.tgap_model.specs.Partition.{is_empty, path_segments, edge_segments, A
 use Rattle.removal_laws.specs.ReplaceLaws.{is_free, other_segments, ReplacedIsApart}
 use Rattle.removal_laws.proofs.OneLine.{one_line_covers}
 use Rattle.removal_laws.proofs.Pairs.{all_left, all_right, all_pass, mid_before, mid_after, mid_out, mid_in, pairs_map}
-use Rattle.removal_laws.proofs.Places.{place_after, front_segments, path_in_parts, segments_of_path, segments_of_front, segments_of_edges, lowered, moved, IsElsewhere, all_other, all_before, path_lowered}
+use Rattle.removal_laws.proofs.Places.{place_after, front_segments, path_in_parts, segments_of_path, segments_of_front, segments_of_edges, moved, IsElsewhere, all_other, all_before, path_lowered}
 use Rattle.removal_laws.proofs.Apart.{apart_turned, apart_moved, first_of_two, second_of_two, joined, joined_apart, clear_covers}
 
 -- ---- where the segments of the edges are

@@ -1,24 +1,22 @@
 -- The faces down a line still agree where two segments in a row become one.
-use Rattle.std.proofs.Common.{◌≡◌, ◌≢◌, ◌⊎◌, inl, inr, ⊎_elim, ℕ, ◌+◌, Bool, true, false, cond, not, ◌||◌, ◌&&◌, ◌==◌, List, [], ◌∷◌, ◌++◌, map, filter, All, AllPairs, Contains, ℤ, pos, neg_ℤ, ◌*ℤ◌, ◌<ℤ◌, int_lt, refl, sym, ap, ap₂, ◌∙◌, subst, true≢false, arith}
+use Rattle.std.proofs.Common.{◌≡◌, ℕ, Bool, true, false, cond, not, ◌||◌, ◌&&◌, List, [], ◌∷◌, ◌++◌, map, filter, All, AllPairs, pos, neg_ℤ, ◌*ℤ◌, int_lt, refl, sym, ap, ap₂, ◌∙◌, subst, true≢false, arith}
 use Rattle.std.proofs.Math.Bool.{or_comm}
-use Rattle.std.proofs.lemmas.Bool.{and_parts, and_from, or_cases, or_left, or_right, false_from_ne_true, cases_Bool}
-use Rattle.std.proofs.lemmas.Int.{ints}
-use Rattle.std.proofs.lemmas.List.Elements.{All-append, All-cons, All-tail, All-weaker, All-filter, All-contains, filter-append, filter_passes}
+use Rattle.std.proofs.lemmas.List.Elements.{All-append, All-cons, All-tail, All-filter, All-contains, filter-append, filter_passes}
 use Rattle.std.proofs.lemmas.List.Kept.{AllPairs-filter}
 use Rattle.lemmas.specs.Parity.{either_alone}
-use Rattle.lemmas.specs.Sorting.{sort_by, insert_by, IsStrictOrderOn}
+use Rattle.lemmas.specs.Sorting.{sort_by, insert_by}
 use Rattle.lemmas.proofs.Members.{All-from_members}
 use Rattle.lemmas.proofs.Sorting.{All-sort_by}
-use Rattle.lemmas.proofs.Signs.{Decides-int_lt, int_lt-from_le, int_lt-false, le_from_lt, by_order, lt_lt_trans, lt_from_mul_left}
+use Rattle.lemmas.proofs.Signs.{Decides-int_lt, int_lt-from_le, le_from_lt, by_order, lt_lt_trans, lt_from_mul_left}
 use Rattle.lemmas.proofs.Polynomials.{same_value, cross, minus, number}
 use Rattle.tgap_model.specs.declared.geometry.Point.{Point}
 use Rattle.tgap_model.specs.declared.geometry.Seg.{Seg}
 use Rattle.tgap_model.specs.declared.segment.LabelledSegment.{LabelledSegment}
 use Rattle.tgap_model.specs.Point.{cross as cross_of}
-use Rattle.tgap_model.specs.Segment.{Line, IsBetweenColumns, passes, crosses, goes_right}
+use Rattle.tgap_model.specs.Segment.{Line, IsBetweenColumns, crosses}
 use Rattle.tgap_model.specs.Partition.{Sides, sides, stack, agree_from}
 use Rattle.removal_laws.proofs.Spots.{IsCrossed, higher, IsDecided, height_order}
-use Rattle.removal_laws.proofs.NoneBetween.{IsFreeOf, AreSides, IsCorner, corner_a, corner_b, corner_c, same_order}
+use Rattle.removal_laws.proofs.NoneBetween.{IsFreeOf, AreSides, corner_a, corner_b, corner_c, same_order}
 use Rattle.removal_laws.proofs.Insertions.{sort_middle, same_insert, two_cancel}
 use Rattle.removal_laws.proofs.Pairs.{mid_before, mid_after, mid_out, all_left, all_right}
 use Rattle.removal_laws.proofs.Apart.{first_of_two, second_of_two, joined}

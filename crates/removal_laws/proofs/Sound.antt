@@ -1,5 +1,5 @@
 -- Edges with segments that are apart: their inner points stand once, and a sweep keeps them such.
-use Rattle.std.proofs.Common.{◌≡◌, ◌≢◌, ◌⊎◌, inl, inr, ⊎_elim, ℕ, zero, suc, ◌+◌, ◌≤◌, ◌==◌, ◌&&◌, Bool, true, false, not, ℤ, List, [], ◌∷◌, ◌++◌, map, flat_map, length, All, AllPairs, append_assoc, refl, sym, ap, ap₂, ◌∙◌, subst, true≢false, arith}
+use Rattle.std.proofs.Common.{◌≡◌, ◌≢◌, inl, inr, ℕ, suc, ◌+◌, ◌≤◌, ◌==◌, true, false, not, ℤ, List, [], ◌∷◌, ◌++◌, length, All, AllPairs, append_assoc, refl, sym, ap, ◌∙◌, subst, true≢false, arith}
 use Rattle.std.specs.Prelude.{count_by}
 use Rattle.std.proofs.lemmas.Bool.{and_parts, and_from, not-true, not_from_false, false_from_ne_true}
 use Rattle.std.proofs.lemmas.List.{length-append}
@@ -9,17 +9,16 @@ use Rattle.tgap_model.specs.declared.geometry.Point.{Point}
 use Rattle.tgap_model.specs.declared.slice.Edge.{Edge}
 use Rattle.tgap_model.specs.declared.segment.LabelledSegment.{LabelledSegment}
 use Rattle.tgap_model.specs.Base.{same_point, no_repeat}
-use Rattle.tgap_model.specs.Partition.{AreApart, all_but_last, is_empty, path_segments, edge_segments}
+use Rattle.tgap_model.specs.Partition.{AreApart, is_empty, path_segments, edge_segments}
 use Rattle.tgap_model.proofs.Points.{same_point-true, same_point-from}
 use Rattle.map_laws.proofs.ChainMembers.{Among, count_passes, count_fails}
-use Rattle.map_laws.proofs.Lists.{members_all}
 use Rattle.removal_laws.specs.ReplaceLaws.{is_free, other_segments}
-use Rattle.removal_laws.specs.Trace.{Taken, edges_with, edges_without, trace_edges, swept_edges}
+use Rattle.removal_laws.specs.Trace.{Taken, edges_without, trace_edges, swept_edges}
 use Rattle.removal_laws.specs.TraceLaws.{IsTakenByRule, LeadTo}
-use Rattle.removal_laws.specs.StandLaws.{live_points, inner_points, InnerPointsStandOnce, AreSound, SoundPointsStandOnce, SweepKeepsSound}
-use Rattle.removal_laws.proofs.Pairs.{all_left, all_right, mid_before, mid_after, mid_out}
-use Rattle.removal_laws.proofs.Places.{place_after, front_segments, IsElsewhere}
-use Rattle.removal_laws.proofs.Apart.{apart_turned, first_of_two, second_of_two, away_from_second, turns_back}
+use Rattle.removal_laws.specs.StandLaws.{live_points, inner_points, AreSound, SoundPointsStandOnce, SweepKeepsSound}
+use Rattle.removal_laws.proofs.Pairs.{all_left, all_right, mid_before, mid_after}
+use Rattle.removal_laws.proofs.Places.{front_segments, IsElsewhere}
+use Rattle.removal_laws.proofs.Apart.{apart_turned, away_from_second, turns_back}
 use Rattle.removal_laws.proofs.Replaced.{xs, ys, ab, bc, m, old_is, elsewhere, replaced_is_apart}
 use Rattle.removal_laws.proofs.Less.{times_of_append, points_append, stands_from}
 use Rattle.removal_laws.proofs.Tracing.{keys_stay, key_alone, removable_is_free, follow_edges}
@@ -91,7 +90,7 @@ no_repeat_without (x ∷ y ∷ front) a b c rest n h =
 
 -- ---- an inner point among the others
 
-split_inner : (points : List Point) (b : Point) → Among b (inner_points points)
+pub split_inner : (points : List Point) (b : Point) → Among b (inner_points points)
     → (front : List Point) × (a : Point) × (c : Point) × (rest : List Point) × (points ≡ front ++ a ∷ b ∷ c ∷ rest)
 split_inner [] b m = absurd m
 split_inner (x ∷ []) b m = absurd m

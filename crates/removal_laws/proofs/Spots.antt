@@ -1,9 +1,8 @@
 -- The point of a segment on a vertical line that crosses it, and the order of two segments by their heights there.
-use Rattle.std.proofs.Common.{◌≡◌, ◌≢◌, ◌⊎◌, inl, inr, ⊎_elim, Bool, true, false, cond, ◌||◌, ◌&&◌, [], ◌∷◌, ℤ, pos, ◌+ℤ◌, ◌-ℤ◌, ◌*ℤ◌, ◌<ℤ◌, ◌≤ℤ◌, int_lt, refl, sym, ap, ◌∙◌, subst, true≢false, arith}
+use Rattle.std.proofs.Common.{◌≡◌, ◌≢◌, inl, inr, Bool, true, false, cond, ◌||◌, ◌&&◌, [], ◌∷◌, ℤ, pos, ◌-ℤ◌, ◌*ℤ◌, ◌<ℤ◌, int_lt, refl, sym, ap, ◌∙◌, subst}
 use Rattle.std.specs.Ordering.{int_eq}
 use Rattle.std.proofs.lemmas.Bool.{and_parts, or_cases, or_left, or_right}
 use Rattle.std.proofs.lemmas.Bool.Decides.{Decides-int_eq}
-use Rattle.std.proofs.lemmas.Int.{ints}
 use Rattle.lemmas.specs.Sorting.{IsStrictOrderOn}
 use Rattle.lemmas.proofs.Orders.{fraction_order, order_reversed, order_on_fewer}
 use Rattle.lemmas.proofs.Polynomials.{same_value, var, number, ◌⊕◌, ◌⊖◌, ◌⊗◌}
@@ -13,7 +12,7 @@ use Rattle.tgap_model.specs.declared.geometry.Fraction.{Fraction}
 use Rattle.tgap_model.specs.declared.geometry.Seg.{Seg}
 use Rattle.tgap_model.specs.declared.geometry.Shared.{Shared}
 use Rattle.tgap_model.specs.declared.segment.LabelledSegment.{LabelledSegment}
-use Rattle.tgap_model.specs.Segment.{Line, IsBetweenColumns, is_at, is_on, passes, crosses, goes_right, rightward, run, rise, height, is_higher}
+use Rattle.tgap_model.specs.Segment.{Line, IsBetweenColumns, is_at, passes, crosses, goes_right, rightward, run, height, is_higher}
 use Rattle.tgap_model.specs.Partition.{AreApart, shared_ends}
 use Rattle.removal_laws.proofs.Between.{IsBetween, between_turned, is_on_from}
 use Rattle.removal_laws.proofs.Apart.{permitted_common}

@@ -1,5 +1,5 @@
 -- The faces down each line still agree where a vertex is taken out of an edge, and after a sweep.
-use Rattle.std.proofs.Common.{◌≡◌, ◌≢◌, ◌⊎◌, inl, inr, ⊎_elim, ℕ, ◌+◌, ◌-◌, ◌==◌, ◌&&◌, nat_lt, Bool, true, false, cond, List, [], ◌∷◌, ◌++◌, map, filter, get_or, All, AllPairs, ℤ, unsigned_abs, refl, sym, ap, ap₂, ◌∙◌, subst, true≢false, arith}
+use Rattle.std.proofs.Common.{◌≡◌, ◌≢◌, ◌⊎◌, inl, inr, ⊎_elim, ℕ, ◌-◌, ◌==◌, ◌&&◌, nat_lt, Bool, true, false, cond, List, [], ◌∷◌, ◌++◌, map, filter, get_or, All, AllPairs, ℤ, unsigned_abs, refl, sym, ap, ◌∙◌, subst, true≢false, arith}
 use Rattle.std.specs.List.{list_all}
 use Rattle.std.proofs.lemmas.Bool.{or_cases, eqb-true, eqb-false, cases_Bool, and_right, le-ltb, cond-false}
 use Rattle.std.proofs.lemmas.List.{map-append}
@@ -19,7 +19,7 @@ use Rattle.removal_laws.specs.ReplaceLaws.{is_free, other_segments}
 use Rattle.removal_laws.specs.Trace.{Taken, edges_with, edges_without, trace_edges, swept_edges}
 use Rattle.removal_laws.specs.TraceLaws.{IsTakenByRule, LeadTo}
 use Rattle.removal_laws.specs.StackLaws.{AgreeOn, ReplacedAgrees, SweepKeepsFaces}
-use Rattle.removal_laws.proofs.Places.{lowered, moved}
+use Rattle.removal_laws.proofs.Places.{moved}
 use Rattle.removal_laws.proofs.Replaced.{m, xs, ys, ab, bc, ac, old_is, new_is, clear_of_all, replaced_is_apart}
 use Rattle.removal_laws.proofs.Spots.{higher, IsDecided, apart_decided}
 use Rattle.removal_laws.proofs.NoneBetween.{IsFreeOf}

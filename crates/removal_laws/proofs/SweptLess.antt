@@ -1,20 +1,20 @@
 -- Where inner points stand once, what is taken out of the edges one after the other is left out of them all.
-use Rattle.std.proofs.Common.{◌≡◌, ◌≢◌, ◌⊎◌, inl, inr, ℕ, zero, suc, ◌+◌, ◌-◌, ◌≤◌, ◌==◌, ◌||◌, Bool, true, false, not, nat_lt, cond, ℤ, List, [], ◌∷◌, ◌++◌, map, filter, length, All, AllPairs, append_assoc, refl, sym, ap, ap₂, ◌∙◌, subst, true≢false, arith}
+use Rattle.std.proofs.Common.{◌≡◌, ◌≢◌, inl, inr, ℕ, suc, ◌+◌, ◌≤◌, Bool, false, not, List, [], ◌∷◌, ◌++◌, map, All, AllPairs, append_assoc, refl, sym, ap, ap₂, ◌∙◌, subst, true≢false, arith}
 use Rattle.std.specs.Prelude.{count_by}
-use Rattle.std.proofs.lemmas.Bool.{or_parts, false_from_ne_true, not-true}
+use Rattle.std.proofs.lemmas.Bool.{or_parts, not-true}
 use Rattle.std.proofs.lemmas.List.{map-append}
-use Rattle.std.proofs.lemmas.List.Elements.{All-nil, All-cons, All-head, All-tail, All-weaker, All-map}
+use Rattle.std.proofs.lemmas.List.Elements.{All-nil, All-cons, All-head, All-tail, All-weaker}
 use Rattle.std.proofs.lemmas.List.Kept.{AllPairs-cons}
-use Rattle.lemmas.proofs.Members.{AllPairs-nil, AllPairs-append}
+use Rattle.lemmas.proofs.Members.{AllPairs-nil}
 use Rattle.tgap_model.specs.declared.geometry.Point.{Point}
 use Rattle.tgap_model.specs.declared.slice.Edge.{Edge}
 use Rattle.tgap_model.specs.declared.slice.Removal.{Removal}
 use Rattle.tgap_model.specs.Base.{same_point}
 use Rattle.tgap_model.specs.Partition.{all_but_last}
-use Rattle.tgap_model.specs.Removals.{is_removed, without, sweep_edges}
-use Rattle.tgap_model.proofs.Points.{same_point-true, same_point-from}
-use Rattle.map_laws.proofs.ChainMembers.{Among, filter_among, among_left, among_right, count_passes, count_grows}
-use Rattle.map_laws.proofs.Lists.{all_members, members_all, map_among, among_map, kept_among}
+use Rattle.tgap_model.specs.Removals.{is_removed, without}
+use Rattle.tgap_model.proofs.Points.{same_point-from}
+use Rattle.map_laws.proofs.ChainMembers.{Among, filter_among, among_right, count_passes}
+use Rattle.map_laws.proofs.Lists.{map_among}
 use Rattle.removal_laws.specs.Trace.{Taken, removal_of, edges_with, edges_without, trace_edges, swept_edges}
 use Rattle.removal_laws.specs.TraceLaws.{IsTakenByRule, LeadTo}
 use Rattle.removal_laws.specs.StandLaws.{live_points, inner_points, InnerPointsStandOnce, edges_less, SweepIsWithout}

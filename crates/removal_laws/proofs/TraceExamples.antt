@@ -1,5 +1,5 @@
 -- The trace of a worked map: a square with a spike, of which a step takes out the spike and then a vertex on a straight line.
-use Rattle.std.proofs.Common.{◌≡◌, List, [], ◌∷◌, refl}
+use Rattle.std.proofs.Common.{◌≡◌, [], ◌∷◌, refl}
 use Rattle.tgap_model.specs.Chains.{chains_at}
 use Rattle.tgap_model.specs.Clear.{is_clear}
 use Rattle.tgap_model.specs.History.{next_step, history_of}
@@ -7,7 +7,7 @@ use Rattle.tgap_model.specs.Merged.{merged}
 use Rattle.tgap_model.specs.Removals.{is_removable, sweep, removals_to}
 use Rattle.map_laws.proofs.Examples.{points_of}
 use Rattle.map_laws.proofs.SliceExamples.{point, edge, spike}
-use Rattle.removal_laws.specs.Trace.{Taken, trace_to, edges_after_sweep}
+use Rattle.removal_laws.specs.Trace.{trace_to, edges_after_sweep}
 
 spike_trace : trace_to (merged spike) 1 ≡
     record {

@@ -1,6 +1,6 @@
 -- The trace of the sweeps follows them.
-use Rattle.std.proofs.Common.{◌≡◌, ◌≢◌, ⊎_elim, ℕ, zero, suc, ◌*◌, ◌-◌, ◌≤◌, ◌==◌, ◌&&◌, ◌||◌, pos, int_le, Bool, true, false, nat_lt, cond, ℤ, List, [], ◌∷◌, ◌++◌, map, length, All, AllPairs, append_assoc, append-nil, refl, sym, ap, ap₂, ◌∙◌, subst, arith}
-use Rattle.std.proofs.lemmas.Bool.{cases_Bool, cond-true, cond-false, ltb-true, or_left, or_right, or_cases, and_parts}
+use Rattle.std.proofs.Common.{◌≡◌, ◌≢◌, ⊎_elim, ℕ, zero, suc, ◌*◌, ◌≤◌, ◌==◌, ◌&&◌, pos, int_le, Bool, true, false, nat_lt, cond, ℤ, List, [], ◌∷◌, ◌++◌, map, length, All, AllPairs, append_assoc, append-nil, refl, sym, ap, ap₂, ◌∙◌, subst, arith}
+use Rattle.std.proofs.lemmas.Bool.{ltb-true, or_left, or_right, or_cases, and_parts}
 use Rattle.std.proofs.lemmas.List.{map-append}
 use Rattle.std.proofs.lemmas.List.Elements.{All-nil, All-cons, All-head, All-tail, All-append, All-contains, All-weaker}
 use Rattle.lemmas.proofs.Members.{All-from_members}

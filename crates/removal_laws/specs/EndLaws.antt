@@ -4,7 +4,7 @@ use Rattle.tgap_model.specs.declared.geometry.Point.{Point}
 use Rattle.tgap_model.specs.declared.base.BaseArc.{BaseArc}
 use Rattle.tgap_model.specs.History.{AreNumbered}
 use Rattle.tgap_model.specs.Merged.{MergedMap}
-use Rattle.tgap_model.specs.Chains.{Chain, chain_start, chain_end, chain_points, first_point, last_point, chains_at}
+use Rattle.tgap_model.specs.Chains.{Chain, chain_start, chain_end, chains_at}
 use Rattle.tgap_model.specs.Removals.{is_removed, removals_to}
 use Rattle.map_laws.specs.ChainLaws.{has_base_faces, HasEvenSides}
 use Rattle.removal_laws.specs.StandLaws.{ChainPointsStandOnce}

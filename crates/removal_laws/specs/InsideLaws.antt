@@ -1,5 +1,5 @@
 -- Laws of points inside faces: outside the triangle of a removed vertex nothing changes.
-use Rattle.std.specs.Prelude.{◌≡◌, ℕ, ℤ, Bool, true, false, ◌&&◌, List, [], ◌∷◌, ◌++◌, count_by, All}
+use Rattle.std.specs.Prelude.{◌≡◌, ℕ, ℤ, Bool, false, ◌&&◌, List, [], ◌∷◌, ◌++◌, count_by, All}
 use Rattle.lemmas.specs.Parity.{is_odd}
 use Rattle.tgap_model.specs.declared.geometry.Point.{Point}
 use Rattle.tgap_model.specs.declared.geometry.Fraction.{Fraction}

@@ -6,3 +6,4 @@ pub mod StandLaws
 pub mod EndLaws
 pub mod StackLaws
 pub mod InsideLaws
+pub mod BaseLaws

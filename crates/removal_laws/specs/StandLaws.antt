@@ -1,5 +1,5 @@
 -- Laws of points that stand once among the points of all edges, and of what a sweep lists.
-use Rattle.std.specs.Prelude.{◌≡◌, ◌≢◌, ◌≤◌, ◌<◌, ℕ, ℤ, true, List, [], ◌∷◌, map, flat_map, length, count_by, All, AllPairs, Contains}
+use Rattle.std.specs.Prelude.{◌≡◌, ◌≢◌, ◌≤◌, ℕ, ℤ, true, List, [], ◌∷◌, map, flat_map, length, count_by, All, AllPairs, Contains}
 use Rattle.tgap_model.specs.declared.geometry.Point.{Point}
 use Rattle.tgap_model.specs.declared.slice.Edge.{Edge}
 use Rattle.tgap_model.specs.declared.slice.Removal.{Removal}
@@ -8,7 +8,7 @@ use Rattle.tgap_model.specs.Merged.{MergedMap}
 use Rattle.tgap_model.specs.Chains.{Chain, chain_points, chains_at, first_point, last_point}
 use Rattle.tgap_model.specs.Partition.{AreApart, all_but_last, edge_segments}
 use Rattle.tgap_model.specs.Removals.{without, edges_of, sweep_edges, removals_to}
-use Rattle.removal_laws.specs.Trace.{Taken, swept_edges, edges_after_sweep, trace_at}
+use Rattle.removal_laws.specs.Trace.{swept_edges, edges_after_sweep, trace_at}
 
 -- the points of all edges
 abbrev pub live_points : List Edge → List Point

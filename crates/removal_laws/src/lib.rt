@@ -5,6 +5,7 @@
 mod ends;
 mod faces;
 mod listed;
+mod partition;
 mod replace;
 mod trace;
 mod triangle;
@@ -17,6 +18,7 @@ pub use listed::{
     removed_are_inner, sound_points_stand_once, sweep_is_slice, sweep_is_without,
     sweep_keeps_sound, vertices_are_listed_once,
 };
+pub use partition::{chains_stand_once, partition_has_removals};
 pub use replace::replaced_is_apart;
 pub use trace::{sweep_keeps_apart, trace_follows_rule, trace_is_removals, trace_leads};
 pub use triangle::{clear_is_apart, clear_of_base, one_line_covers};
