@@ -1,0 +1,5 @@
+pub mod Members
+pub mod NodeLinks
+pub mod NodeRings
+pub mod BaseParts
+pub mod EvenSides

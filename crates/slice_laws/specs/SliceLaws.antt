@@ -1,0 +1,29 @@
+-- Laws of slices: the faces beside an edge.
+use Rattle.std.specs.Prelude.{◌≡◌, ℕ, true, IsTrue, List, All}
+use Rattle.tgap_model.specs.declared.slice.Removal.{Removal}
+use Rattle.tgap_model.specs.Base.{BaseMap, is_base}
+use Rattle.tgap_model.specs.Partition.{IsPartition, base_segments}
+use Rattle.tgap_model.specs.Merged.{MergedMap, merged}
+use Rattle.tgap_model.specs.Chains.{Chain, are_chains, chains_at}
+use Rattle.tgap_model.specs.Removals.{edge_of, removals_to}
+use Rattle.tgap_model.specs.Slice.{IsSlice, slice, left_of, right_of}
+
+-- there are chains after each number of steps
+abbrev pub ChainsExist : Type 0
+ChainsExist = (h : MergedMap) (k : ℕ) → are_chains h k (chains_at h k) ≡ true
+
+-- each arc of a chain, seen in its direction, has the faces of the chain's edge at its sides
+pub record KeepsFaces (h : MergedMap) (k : ℕ) (removals : List Removal) (c : Chain) : Type 0 where
+  pub left : All (λ d. left_of h k d ≡ (edge_of h k removals c).left) c
+  pub right : All (λ d. right_of h k d ≡ (edge_of h k removals c).right) c
+
+-- along each chain of a planar partition the faces stay the same
+abbrev pub ChainsKeepFaces : Type 0
+ChainsKeepFaces =
+    (m : BaseMap) → IsTrue (is_base m) → IsPartition (base_segments m)
+    → (k : ℕ) (removals : List Removal) → All (KeepsFaces (merged m) k removals) (chains_at (merged m) k)
+
+-- the slice of a planar partition is a slice
+abbrev pub SlicesAreSlices : Type 0
+SlicesAreSlices =
+    (m : BaseMap) → IsTrue (is_base m) → IsPartition (base_segments m) → (k : ℕ) → IsSlice (merged m) k (removals_to (merged m) k) (slice m k)

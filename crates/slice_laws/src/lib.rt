@@ -1,0 +1,7 @@
+//! Laws of slices, which show that the definition of a slice means what it should. The functions do nothing: the contract of
+//! each is a law, which is proved with the crate. It stands on `tgap_model`, whose definitions the laws are about.
+#![tactic(auto)]
+
+mod slices;
+
+pub use slices::{chains_keep_faces, slices_are_slices};

@@ -1,0 +1,13 @@
+//! Laws of the faces beside the edges of a slice.
+
+ghost use Rattle.slice_laws.specs.SliceLaws.{ChainsExist, ChainsKeepFaces, SlicesAreSlices};
+
+/// Along a chain the faces at the left and at the right stay the same, and they are those of its edge.
+pub fn chains_keep_faces()
+    ensures { ChainsExist → ChainsKeepFaces }
+{}
+
+/// The slice of a planar partition after some steps of its history has the faces and the edges that a slice has to have.
+pub fn slices_are_slices()
+    ensures { ChainsExist → SlicesAreSlices }
+{}
