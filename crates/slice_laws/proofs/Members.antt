@@ -1,7 +1,7 @@
 -- Members of lists put together, of lists that a test has left, and of lists of two.
-use Rattle.std.proofs.Common.{◌≡◌, ◌≢◌, ◌⊎◌, inl, inr, ℕ, ◌+◌, Bool, true, false, cond, List, [], ◌∷◌, ◌++◌, filter, length, All, refl, sym, ap, ap₂, ◌∙◌, arith}
+use Rattle.std.proofs.Common.{◌≡◌, ◌≢◌, ◌⊎◌, inl, inr, ℕ, ◌+◌, Bool, true, false, cond, List, [], ◌∷◌, ◌++◌, filter, length, All, refl, sym, ap, ap₂, ◌∙◌, subst, arith}
 use Rattle.std.specs.Prelude.{count_by}
-use Rattle.std.proofs.lemmas.List.Elements.{All-nil, All-cons}
+use Rattle.std.proofs.lemmas.List.Elements.{All-nil, All-cons, All-head, All-tail}
 use Rattle.lemmas.proofs.Counts.{count_by-cons}
 use Rattle.map_laws.proofs.ChainMembers.{Among}
 
@@ -21,6 +21,11 @@ module _ {A : Type 0} where
   pub All-from_among : (P : A → Type 0) (xs : List A) → ((x : A) → Among x xs → P x) → All P xs
   All-from_among P [] h = All-nil P
   All-from_among P (x ∷ xs) h = All-cons P x xs (h x (inl refl)) (All-from_among P xs (λ y m. h y (inr m)))
+
+  pub all_of : (P : A → Type 0) (xs : List A) (x : A) → All P xs → Among x xs → P x
+  all_of P [] x h m = absurd m
+  all_of P (y ∷ ys) x h (inl e) = subst P e (All-head P y ys h)
+  all_of P (y ∷ ys) x h (inr m) = all_of P ys x (All-tail P y ys h) m
 
   -- a member that passes is kept
   pub among_filter : (p : A → Bool) (xs : List A) (x : A) → p x ≡ true → Among x xs → Among x (filter p xs)

@@ -1,11 +1,14 @@
--- Laws of slices: the faces beside an edge.
-use Rattle.std.specs.Prelude.{◌≡◌, ℕ, true, IsTrue, List, All}
+-- Laws of slices: the faces beside an edge, and which faces are adjacent.
+use Rattle.std.specs.Prelude.{◌≡◌, ◌≢◌, ◌↔◌, ℕ, true, IsTrue, List, All}
+use Rattle.std.specs.List.{list_any}
 use Rattle.tgap_model.specs.declared.slice.Removal.{Removal}
 use Rattle.tgap_model.specs.Base.{BaseMap, is_base}
 use Rattle.tgap_model.specs.Partition.{IsPartition, base_segments}
-use Rattle.tgap_model.specs.Merged.{MergedMap, merged}
+use Rattle.tgap_model.specs.History.{is_between}
+use Rattle.tgap_model.specs.Merged.{MergedMap, merged, labelled_at}
 use Rattle.tgap_model.specs.Chains.{Chain, are_chains, chains_at}
 use Rattle.tgap_model.specs.Removals.{edge_of, removals_to}
+use Rattle.tgap_model.specs.Records.{is_edge_between}
 use Rattle.tgap_model.specs.Slice.{IsSlice, slice, left_of, right_of}
 
 -- there are chains after each number of steps
@@ -27,3 +30,9 @@ ChainsKeepFaces =
 abbrev pub SlicesAreSlices : Type 0
 SlicesAreSlices =
     (m : BaseMap) → IsTrue (is_base m) → IsPartition (base_segments m) → (k : ℕ) → IsSlice (merged m) k (removals_to (merged m) k) (slice m k)
+
+-- Two faces are at the two sides of an edge of the slice exactly where their base faces are at the two sides of an arc.
+abbrev pub FacesAreAdjacent : Type 0
+FacesAreAdjacent =
+    (m : BaseMap) → IsTrue (is_base m) → IsPartition (base_segments m) → (k f g : ℕ) → f ≢ g
+    → IsTrue (list_any (is_edge_between f g) (slice m k).edges) ↔ IsTrue (list_any (λ a. is_between f g (labelled_at (merged m) k a)) m.arcs)

@@ -1,6 +1,6 @@
 //! Laws of the faces beside the edges of a slice.
 
-ghost use Rattle.slice_laws.specs.SliceLaws.{ChainsExist, ChainsKeepFaces, SlicesAreSlices};
+ghost use Rattle.slice_laws.specs.SliceLaws.{ChainsExist, ChainsKeepFaces, SlicesAreSlices, FacesAreAdjacent};
 
 /// Along a chain the faces at the left and at the right stay the same, and they are those of its edge.
 pub fn chains_keep_faces()
@@ -10,4 +10,10 @@ pub fn chains_keep_faces()
 /// The slice of a planar partition after some steps of its history has the faces and the edges that a slice has to have.
 pub fn slices_are_slices()
     ensures { ChainsExist → SlicesAreSlices }
+{}
+
+/// Two faces are adjacent in a slice exactly where an arc of the base map has them at its sides, each as the ancestor of its
+/// base face.
+pub fn faces_are_adjacent()
+    ensures { ChainsExist → FacesAreAdjacent }
 {}
