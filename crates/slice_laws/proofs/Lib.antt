@@ -5,3 +5,10 @@ pub mod BaseParts
 pub mod EvenSides
 pub mod Coverage
 pub mod Adjacency
+pub mod Paths
+pub mod CountedSums
+pub mod EdgeSums
+pub mod Outside
+pub mod Mirrored
+pub mod Relabelled
+pub mod Unions

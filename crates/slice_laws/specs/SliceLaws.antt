@@ -1,11 +1,14 @@
--- Laws of slices: the faces beside an edge, and which faces are adjacent.
-use Rattle.std.specs.Prelude.{◌≡◌, ◌≢◌, ◌↔◌, ℕ, true, IsTrue, List, All}
+-- Laws of slices: the faces beside an edge, which faces are adjacent, and which points are inside a face.
+use Rattle.std.specs.Prelude.{◌≡◌, ◌≢◌, ◌≤◌, ◌↔◌, ℕ, true, IsTrue, List, length, All}
 use Rattle.std.specs.List.{list_any}
+use Rattle.tgap_model.specs.declared.geometry.Fraction.{Fraction}
 use Rattle.tgap_model.specs.declared.slice.Removal.{Removal}
 use Rattle.tgap_model.specs.Base.{BaseMap, is_base}
-use Rattle.tgap_model.specs.Partition.{IsPartition, base_segments}
+use Rattle.tgap_model.specs.Segment.{IsBetweenColumns, line_through}
+use Rattle.tgap_model.specs.Partition.{IsPartition, base_segments, edge_segments}
+use Rattle.tgap_model.specs.Inside.{is_inside}
 use Rattle.tgap_model.specs.History.{is_between}
-use Rattle.tgap_model.specs.Merged.{MergedMap, merged, labelled_at}
+use Rattle.tgap_model.specs.Merged.{MergedMap, merged, label_at, labelled_at}
 use Rattle.tgap_model.specs.Chains.{Chain, are_chains, chains_at}
 use Rattle.tgap_model.specs.Removals.{edge_of, removals_to}
 use Rattle.tgap_model.specs.Records.{is_edge_between}
@@ -36,3 +39,18 @@ abbrev pub FacesAreAdjacent : Type 0
 FacesAreAdjacent =
     (m : BaseMap) → IsTrue (is_base m) → IsPartition (base_segments m) → (k f g : ℕ) → f ≢ g
     → IsTrue (list_any (is_edge_between f g) (slice m k).edges) ↔ IsTrue (list_any (λ a. is_between f g (labelled_at (merged m) k a)) m.arcs)
+
+-- the point is inside a base face whose ancestor after k steps is f
+pub record IsInsideBaseFace (m : BaseMap) (k f : ℕ) (p : Fraction) : Type 0 where
+  pub face : ℕ
+  pub least : 1 ≤ face
+  pub greatest : face ≤ length m.classes
+  pub ancestor : label_at (merged m) k face ≡ f
+  pub inside : IsTrue (is_inside (base_segments m) face p)
+
+-- Where no vertex is removed, a point between whole abscissas is inside a face of the slice exactly where it is inside one of
+-- the base faces that the face was made of.
+abbrev pub FacesAreUnions : Type 0
+FacesAreUnions =
+    (m : BaseMap) → IsTrue (is_base m) → IsPartition (base_segments m) → m.rules.ratio ≡ 0 → (k f : ℕ) → f ≢ 0
+    → (p : Fraction) → IsBetweenColumns (line_through p) → IsTrue (is_inside (edge_segments (slice m k).edges) f p) ↔ IsInsideBaseFace m k f p

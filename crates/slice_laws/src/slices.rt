@@ -1,6 +1,6 @@
 //! Laws of the faces beside the edges of a slice.
 
-ghost use Rattle.slice_laws.specs.SliceLaws.{ChainsExist, ChainsKeepFaces, SlicesAreSlices, FacesAreAdjacent};
+ghost use Rattle.slice_laws.specs.SliceLaws.{ChainsExist, ChainsKeepFaces, SlicesAreSlices, FacesAreAdjacent, FacesAreUnions};
 
 /// Along a chain the faces at the left and at the right stay the same, and they are those of its edge.
 pub fn chains_keep_faces()
@@ -16,4 +16,10 @@ pub fn slices_are_slices()
 /// base face.
 pub fn faces_are_adjacent()
     ensures { ChainsExist → FacesAreAdjacent }
+{}
+
+/// Where no vertex is removed, each face of a slice is the union of the base faces that it was made of: a point between whole
+/// abscissas is inside it exactly where it is inside one of them.
+pub fn faces_are_unions()
+    ensures { ChainsExist → FacesAreUnions }
 {}
