@@ -12,3 +12,7 @@ pub mod Outside
 pub mod Mirrored
 pub mod Relabelled
 pub mod Unions
+pub mod Places
+pub mod Blocks
+pub mod Meetings
+pub mod Pieces

@@ -45,7 +45,7 @@ joined_has_point (p ∷ ps) qs h = tt
 
 -- ---- turned rows
 
-reverse_cons : {A : Type 0} (x : A) (xs : List A) → reverse (x ∷ xs) ≡ reverse xs ++ x ∷ []
+pub reverse_cons : {A : Type 0} (x : A) (xs : List A) → reverse (x ∷ xs) ≡ reverse xs ++ x ∷ []
 reverse_cons x xs = reverse-append (x ∷ []) xs
 
 last_after : (ps : List Point) (p : Point) → last_point (ps ++ p ∷ []) ≡ p
