@@ -115,3 +115,31 @@ pub block_row : (i l r : ℕ) (points : List Point) → nat_le 2 (length points)
 block_row i l r [] h = absurd cc
 block_row i l r (a ∷ []) h = absurd cc
 block_row i l r (a ∷ b ∷ points) h = let row = row_block i l r 0 a b points in (row_segment i l r 0 a b (is_empty points), row.0, row.1, refl, row.2)
+
+-- none is later than the one that ends the arc
+pub end_greatest : (i l r place : ℕ) (points : List Point) (s t : LabelledSegment) → Among s (path_segments i l r place points) → Among t (path_segments i l r place points)
+    → s.ends ≡ true → t.place ≤ s.place
+end_greatest i l r place [] s t m n e = absurd m
+end_greatest i l r place (a ∷ []) s t m n e = absurd m
+end_greatest i l r place (a ∷ b ∷ []) s t (inl u) (inl v) e = omega (arith, ap (λ (x : LabelledSegment). x.place) u, ap (λ (x : LabelledSegment). x.place) v)
+end_greatest i l r place (a ∷ b ∷ []) s t (inr m) n e = absurd m
+end_greatest i l r place (a ∷ b ∷ []) s t (inl u) (inr n) e = absurd n
+end_greatest i l r place (a ∷ b ∷ c ∷ points) s t (inl u) n e = absurd (true≢false (sym e ∙ sym (ap (λ (x : LabelledSegment). x.ends) u)))
+end_greatest i l r place (a ∷ b ∷ c ∷ points) s t (inr m) (inl v) e =
+    let f = of_row i l r (place + 1) (b ∷ c ∷ points) s m in
+    omega (arith, f.later, ap (λ (x : LabelledSegment). x.place) v)
+end_greatest i l r place (a ∷ b ∷ c ∷ points) s t (inr m) (inr n) e = end_greatest i l r (place + 1) (b ∷ c ∷ points) s t m n e
+
+-- each place has one
+pub place_once : (i l r place : ℕ) (points : List Point) (s t : LabelledSegment) → Among s (path_segments i l r place points) → Among t (path_segments i l r place points)
+    → s.place ≡ t.place → s ≡ t
+place_once i l r place [] s t m n e = absurd m
+place_once i l r place (a ∷ []) s t m n e = absurd m
+place_once i l r place (a ∷ b ∷ points) s t (inl u) (inl v) e = sym u ∙ v
+place_once i l r place (a ∷ b ∷ points) s t (inl u) (inr n) e =
+    let f = of_row i l r (place + 1) (b ∷ points) t n in
+    absurd (omega (arith, f.later, ap (λ (x : LabelledSegment). x.place) u, e))
+place_once i l r place (a ∷ b ∷ points) s t (inr m) (inl v) e =
+    let f = of_row i l r (place + 1) (b ∷ points) s m in
+    absurd (omega (arith, f.later, ap (λ (x : LabelledSegment). x.place) v, e))
+place_once i l r place (a ∷ b ∷ points) s t (inr m) (inr n) e = place_once i l r (place + 1) (b ∷ points) s t m n e

@@ -16,3 +16,4 @@ pub mod Places
 pub mod Blocks
 pub mod Meetings
 pub mod Pieces
+pub mod ChainPlaces

@@ -201,3 +201,24 @@ reversed_from {A} {R} {a} {b} {xs} p =
     (subst (λ z. IsRowFrom (λ x y. R y x) z a (reverse (p.head ∷ p.tail))) p.ends
     (subst (λ z. IsRowFrom (λ x y. R y x) (last_of p.head p.tail) z (reverse (p.head ∷ p.tail))) p.begins
     (reversed_row R p.head p.tail p.row)))
+
+-- what stands at the last place of a row is its last member
+pub at_last : {A : Type 0} {R : A → A → Type 0} {a b : A} {xs : List A} → IsRowFrom R a b xs → (n : ℕ) (x : A) → At xs n x → suc n ≡ length xs → x ≡ b
+at_last {A} {R} {a} {b} {xs} p n x at e =
+    by p.head p.tail n (subst (λ ys. At ys n x) p.is at) (e ∙ ap length p.is) ∙ p.ends
+  where
+    by : (y : A) (ys : List A) (n : ℕ) → At (y ∷ ys) n x → suc n ≡ length (y ∷ ys) → x ≡ last_of y ys
+    by y [] zero at e = sym at
+    by y [] (suc n) at e = absurd at
+    by y (z ∷ zs) zero at e = absurd (omega arith)
+    by y (z ∷ zs) (suc n) at e = by z zs n at (omega arith)
+
+-- and at the first place its first one
+pub at_first : {A : Type 0} {R : A → A → Type 0} {a b : A} {xs : List A} → IsRowFrom R a b xs → (x : A) → At xs zero x → x ≡ a
+at_first {A} {R} {a} {b} {xs} p x at = by (subst (λ ys. At ys zero x) p.is at) ∙ p.begins
+  where
+    by : At (p.head ∷ p.tail) zero x → x ≡ p.head
+    by at = sym at
+
+pub is_row : {A : Type 0} {R : A → A → Type 0} {a b : A} {xs : List A} → IsRowFrom R a b xs → IsRow R xs
+is_row {A} {R} {a} {b} {xs} p = subst (IsRow R) (sym p.is) p.row
