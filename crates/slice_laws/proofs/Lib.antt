@@ -17,3 +17,4 @@ pub mod Blocks
 pub mod Meetings
 pub mod Pieces
 pub mod ChainPlaces
+pub mod SlicesApart
