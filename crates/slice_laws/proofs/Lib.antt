@@ -18,3 +18,4 @@ pub mod Meetings
 pub mod Pieces
 pub mod ChainPlaces
 pub mod SlicesApart
+pub mod SliceSegments
