@@ -10,7 +10,7 @@ use Rattle.map_laws.proofs.ChainMembers.{Among, AreDistinct}
 use Rattle.slice_laws.proofs.Members.{among_left, among_right}
 use Rattle.slice_laws.proofs.NodeLinks.{AreNumbers}
 use Rattle.slice_laws.proofs.EdgeSums.{row_segment}
-use Rattle.slice_laws.proofs.Places.{IsRowFrom, joined_rows}
+use Rattle.slice_laws.proofs.Places.{IsRowFrom, joined_rows, among_append}
 
 -- the second segment is the next one of the arc
 abbrev pub IsNext : LabelledSegment → LabelledSegment → Type 0
@@ -143,3 +143,13 @@ place_once i l r place (a ∷ b ∷ points) s t (inr m) (inl v) e =
     let f = of_row i l r (place + 1) (b ∷ points) s m in
     absurd (omega (arith, f.later, ap (λ (x : LabelledSegment). x.place) v, e))
 place_once i l r place (a ∷ b ∷ points) s t (inr m) (inr n) e = place_once i l r (place + 1) (b ∷ points) s t m n e
+
+-- and each segment of the map is one of an arc
+pub among_block : (number : ℕ → BaseArc) (i : ℕ) (arcs : List BaseArc) → AreNumbers number i arcs → (s : LabelledSegment) → Among s (arc_segments i arcs)
+    → (j : ℕ) × (i ≤ j) × (j < i + length arcs) × Among s (path_segments j (number j).left (number j).right 0 (number j).points)
+among_block number i [] at s m = absurd m
+among_block number i (a ∷ arcs) at s m =
+    elim (among_append (path_segments i a.left a.right 0 a.points) (arc_segments (i + 1) arcs) s m) [
+      | inl n ↦ (i, omega arith, omega arith, subst (λ (x : BaseArc). Among s (path_segments i x.left x.right 0 x.points)) (sym at.0) n)
+      | inr n ↦ (let r = among_block number (i + 1) arcs at.1 s n in (r.0, omega (arith, r.1), omega (arith, r.2), r.3))
+    ]

@@ -19,3 +19,4 @@ pub mod Pieces
 pub mod ChainPlaces
 pub mod SlicesApart
 pub mod SliceSegments
+pub mod Correspondence

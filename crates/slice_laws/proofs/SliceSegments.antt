@@ -171,3 +171,18 @@ module _ (m : BaseMap) (base : is_base m ≡ true) (k : ℕ) (cs : List Chain) (
       ≡ length (flat_map (λ c. rows (key c) (edge_of (merged m) k [] c).left (edge_of (merged m) k [] c).right 0 (map shown (pieces m c))) (take g.i cs))
       = ap (λ i. length (flat_map (λ c. rows (key c) (edge_of (merged m) k [] c).left (edge_of (merged m) k [] c).right 0 (map shown (pieces m c))) (take i cs))) same in
       omega (arith, f.sum, g.sum, less)))
+
+-- a place in one of some lists is a place in all of them together
+at_left : {A : Type 0} (xs ys : List A) (n : ℕ) (z : A) → At xs n z → At (xs ++ ys) n z
+at_left [] ys n z a = absurd a
+at_left (x ∷ xs) ys zero z a = a
+at_left (x ∷ xs) ys (suc n) z a = at_left xs ys n z a
+
+at_right : {A : Type 0} (xs ys : List A) (n : ℕ) (z : A) → At ys n z → (o : ℕ) × At (xs ++ ys) o z
+at_right [] ys n z a = (n, a)
+at_right (x ∷ xs) ys n z a = let r = at_right xs ys n z a in (suc r.0, r.1)
+
+pub flat_map_at : {A B : Type 0} (f : A → List B) (xs : List A) (i : ℕ) (x : A) (o : ℕ) (z : B) → At xs i x → At (f x) o z → (n : ℕ) × At (flat_map f xs) n z
+flat_map_at f [] i x o z a b = absurd a
+flat_map_at f (y ∷ xs) zero x o z a b = (o, at_left (f y) (flat_map f xs) o z (subst (λ w. At (f w) o z) (sym a) b))
+flat_map_at f (y ∷ xs) (suc i) x o z a b = let r = flat_map_at f xs i x o z a b in at_right (f y) (flat_map f xs) r.0 z r.1

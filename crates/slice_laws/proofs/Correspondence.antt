@@ -1,0 +1,97 @@
+-- The segments of a slice and those of the base map whose labels differ are the same, some of them turned round.
+use Rattle.std.proofs.Common.{◌≡◌, ◌≢◌, ◌⊎◌, inl, inr, ℕ, zero, suc, ◌+◌, ◌<◌, Bool, true, false, not, cond, ◌==◌, List, [], ◌∷◌, map, reverse, All, refl, sym, ap, ap₂, ◌∙◌, subst, ne_eqb, None, arith}
+use Rattle.std.specs.Prelude.{flat_map}
+use Rattle.tgap_model.specs.declared.geometry.Point.{Point}
+use Rattle.tgap_model.specs.declared.geometry.Seg.{Seg}
+use Rattle.tgap_model.specs.declared.base.BaseArc.{BaseArc}
+use Rattle.tgap_model.specs.declared.segment.LabelledSegment.{LabelledSegment}
+use Rattle.tgap_model.specs.Base.{BaseMap, is_base}
+use Rattle.tgap_model.specs.Partition.{base_segments, edge_segments, node_fault}
+use Rattle.tgap_model.specs.Merged.{MergedMap, merged, label_at, is_border}
+use Rattle.tgap_model.specs.Removals.{edge_of, edges_of}
+use Rattle.tgap_model.specs.Chains.{Link, Chain, arc_number, key, are_chains}
+use Rattle.tgap_model.specs.Slice.{left_of, right_of}
+use Rattle.map_laws.proofs.ChainMembers.{Among}
+use Rattle.slice_laws.proofs.Members.{all_of}
+use Rattle.slice_laws.proofs.NodeLinks.{numbers_lead_all}
+use Rattle.slice_laws.proofs.Coverage.{border_in_chain}
+use Rattle.slice_laws.proofs.EvenSides.{border_faces, chains_faces}
+use Rattle.slice_laws.proofs.Adjacency.{among_map}
+use Rattle.slice_laws.proofs.Paths.{flip}
+use Rattle.slice_laws.proofs.Places.{At, at_among, at_only, among_at, among_in_reverse, flat_map_among}
+use Rattle.slice_laws.proofs.Blocks.{of_row, block_among, among_block}
+use Rattle.slice_laws.proofs.Pieces.{Piece, piece, shown, block, pieces_of, pieces}
+use Rattle.slice_laws.proofs.ChainPlaces.{StandsAt, link_of, base_of, known_of}
+use Rattle.slice_laws.proofs.SlicesApart.{IsSegmentAt}
+use Rattle.slice_laws.proofs.SliceSegments.{rows, at_rows, rows_at, flat_map_at, slice_segments, IsShownAt, shown_at}
+
+-- a segment with other labels, in its direction or turned round
+abbrev pub IsMirror : (ℕ → ℕ) → LabelledSegment → LabelledSegment → Type 0
+IsMirror g b s =
+    ((s.segment ≡ b.segment) × (s.left ≡ g b.left) × (s.right ≡ g b.right))
+    ⊎ ((s.segment ≡ flip b.segment) × (s.left ≡ g b.right) × (s.right ≡ g b.left))
+
+module _ (m : BaseMap) (base : is_base m ≡ true) (nodes : (v : Point) → node_fault (base_segments m) v ≡ None) (k : ℕ) (cs : List Chain) (t : are_chains (merged m) k cs ≡ true) where
+  -- a segment of the slice is the segment of its piece, with the labels
+  pub shown_mirror : (n : ℕ) (s : LabelledSegment) → (x : IsShownAt m base k cs t n s) → IsMirror (label_at (merged m) k) x.p.base s
+  shown_mirror n s x =
+      let keeps = chains_faces m base nodes k cs t [] x.c (at_among cs x.i x.c x.at.stands.chain) in
+      let link = link_of m base k cs t x.at.stands in
+      let row = of_row _ _ _ 0 _ x.p.base (base_of m base k cs t x.at.stands) in
+      by x.p.link.turned x.at.shows.segment
+      (x.left ∙ sym (all_of (λ d. left_of (merged m) k d ≡ (edge_of (merged m) k [] x.c).left) x.c x.p.link keeps.left link))
+      (x.right ∙ sym (all_of (λ d. right_of (merged m) k d ≡ (edge_of (merged m) k [] x.c).right) x.c x.p.link keeps.right link)) row.left row.right
+    where
+      by : (b : Bool) → s.segment ≡ cond b (flip x.p.base.segment) x.p.base.segment
+          → s.left ≡ label_at (merged m) k (cond b (arc_number m.arcs x.p.link.arc).right (arc_number m.arcs x.p.link.arc).left)
+          → s.right ≡ label_at (merged m) k (cond b (arc_number m.arcs x.p.link.arc).left (arc_number m.arcs x.p.link.arc).right)
+          → x.p.base.left ≡ (arc_number m.arcs x.p.link.arc).left → x.p.base.right ≡ (arc_number m.arcs x.p.link.arc).right → IsMirror (label_at (merged m) k) x.p.base s
+      by true g l r e f = inr (g, l ∙ ap (label_at (merged m) k) (sym f), r ∙ ap (label_at (merged m) k) (sym e))
+      by false g l r e f = inl (g, l ∙ ap (label_at (merged m) k) (sym e), r ∙ ap (label_at (merged m) k) (sym f))
+
+  -- which is a segment of the base map
+  pub piece_among : {i n : ℕ} {c : Chain} {p : Piece} → StandsAt m base k cs t i n c p → Among p.base (base_segments m)
+  piece_among {p = p} s =
+      let border = (known_of m base k cs t s).border p.link (link_of m base k cs t s) in
+      block_among (arc_number m.arcs) 0 m.arcs (numbers_lead_all m.arcs) p.link.arc (omega arith) (omega (arith, border.within)) p.base (base_of m base k cs t s)
+
+  -- the faces of an edge differ
+  pub faces_differ : (n : ℕ) (s : LabelledSegment) → IsShownAt m base k cs t n s → s.left ≢ s.right
+  faces_differ n s x e =
+      let keeps = chains_faces m base nodes k cs t [] x.c (at_among cs x.i x.c x.at.stands.chain) in
+      let link = link_of m base k cs t x.at.stands in
+      border_faces (merged m) k x.p.link ((known_of m base k cs t x.at.stands).border x.p.link link).border
+      (all_of (λ d. left_of (merged m) k d ≡ (edge_of (merged m) k [] x.c).left) x.c x.p.link keeps.left link ∙ sym x.left ∙ e ∙ x.right
+      ∙ sym (all_of (λ d. right_of (merged m) k d ≡ (edge_of (merged m) k [] x.c).right) x.c x.p.link keeps.right link))
+
+  -- so the labels of the segment that it shows do
+  pub labels_differ : (n : ℕ) (s : LabelledSegment) → (x : IsShownAt m base k cs t n s) → label_at (merged m) k x.p.base.left ≢ label_at (merged m) k x.p.base.right
+  labels_differ n s x e = elim (shown_mirror n s x) [
+    | inl (g, l, r) ↦ faces_differ n s x (l ∙ e ∙ sym r)
+    | inr (g, l, r) ↦ faces_differ n s x (l ∙ sym e ∙ sym r)
+  ]
+
+  -- each segment of the base map whose labels differ is shown
+  pub base_shown : (b : LabelledSegment) → Among b (base_segments m) → label_at (merged m) k b.left ≢ label_at (merged m) k b.right
+      → (n : ℕ) × (s : LabelledSegment) × At (edge_segments (edges_of (merged m) k [] cs)) n s × (x : IsShownAt m base k cs t n s) × (x.p.base ≡ b)
+  base_shown b member differ =
+      let g : ℕ → ℕ = label_at (merged m) k in
+      let j = among_block (arc_number m.arcs) 0 m.arcs (numbers_lead_all m.arcs) b member in
+      let row = of_row _ _ _ 0 _ b j.3 in
+      let border : is_border (merged m) k (arc_number m.arcs j.0) ≡ true = ap not (ne_eqb _ _ (λ e. differ (ap g row.left ∙ e ∙ ap g (sym row.right)))) in
+      let found = border_in_chain (merged m) k cs t j.0 (omega (arith, j.2)) border in
+      let c : Chain = found.0 in
+      let d : Link = found.2 in
+      let p : Piece = piece d b in
+      let in_block : Among b (block m d.arc) = subst (λ i. Among b (block m i)) (sym found.4) j.3 in
+      let in_link : Among p (pieces_of m d) = among_map (piece d) (cond d.turned (reverse (block m d.arc)) (block m d.arc)) b (turned d.turned (block m d.arc) in_block) in
+      let place = among_at (pieces m c) p (flat_map_among (pieces_of m) c d p found.3 in_link) in
+      let i = among_at cs c found.1 in
+      let in_row = rows_at (key c) (edge_of (merged m) k [] c).left (edge_of (merged m) k [] c).right 0 (pieces m c) place.0 p place.1 in
+      let all = flat_map_at (λ c. rows (key c) (edge_of (merged m) k [] c).left (edge_of (merged m) k [] c).right 0 (map shown (pieces m c))) cs i.0 c place.0 in_row.0 i.1 in_row.1 in
+      let at : At (edge_segments (edges_of (merged m) k [] cs)) all.0 in_row.0 = subst (λ ss. At ss all.0 in_row.0) (sym (slice_segments m base k cs t)) all.1 in
+      ?
+    where
+      turned : (x : Bool) (ss : List LabelledSegment) → Among b ss → Among b (cond x (reverse ss) ss)
+      turned true ss n = among_in_reverse ss b n
+      turned false ss n = n
