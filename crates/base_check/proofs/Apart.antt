@@ -19,7 +19,8 @@ use Rattle.base_check.specs.declared.direction.Direction.{Direction}
 use Rattle.base_check.specs.declared.spoke.Spoke.{Spoke}
 use Rattle.base_check.specs.Spokes.{half, turn, spoke, spokes_from, before}
 use Rattle.base_check.proofs.Order.{IsUpper, HalfCase, half_case, points, turns_tied, before_tied}
-use Rattle.base_check.proofs.Nodes.{All-flat_map}
+use Rattle.std.proofs.lemmas.List.Kept.{AllPairs-cons}
+use Rattle.lemmas.proofs.Members.{All-flat_map, AllPairs-nil, AllPairs-head, AllPairs-tail, AllPairs-append}
 
 -- ---- parts of steps
 
@@ -229,33 +230,11 @@ second_joins s = inr (refl, refl)
 
 -- ---- all spokes
 
-module _ {A : Type 0} (R : A → A → Type 0) where
-  pairs_cons : (x : A) (xs : List A) → All (R x) xs → AllPairs R xs → AllPairs R (x ∷ xs)
-  pairs_cons x xs h k zero zero d l m = absurd (omega (arith, l))
-  pairs_cons x xs h k zero (suc j) d l m = h j d (omega (arith, m))
-  pairs_cons x xs h k (suc i) zero d l m = absurd (omega (arith, l))
-  pairs_cons x xs h k (suc i) (suc j) d l m = k i j d (omega (arith, l)) (omega (arith, m))
-
-  pub pairs_head : (x : A) (xs : List A) → AllPairs R (x ∷ xs) → All (R x) xs
-  pairs_head x xs h k d l = h 0 (suc k) d (omega arith) (omega (arith, l))
-
-  pub pairs_tail : (x : A) (xs : List A) → AllPairs R (x ∷ xs) → AllPairs R xs
-  pairs_tail x xs h i j d l m = h (suc i) (suc j) d (omega (arith, l)) (omega (arith, m))
-
-  pairs_append : (xs ys : List A) → AllPairs R xs → AllPairs R ys → All (λ x. All (R x) ys) xs → AllPairs R (xs ++ ys)
-  pairs_append [] ys h k m = k
-  pairs_append (x ∷ xs) ys h k m = pairs_cons x (xs ++ ys)
-      (All-append (R x) xs ys (pairs_head x xs h) (All-head (λ y. All (R y) ys) x xs m))
-      (pairs_append xs ys (pairs_tail x xs h) k (All-tail (λ y. All (R y) ys) x xs m))
-
-  no_pairs : AllPairs R []
-  no_pairs i j d l m = absurd (omega (arith, m))
-
-  one_pair : (b c : Bool) (x y : A) → R x y → AllPairs R (cond b (x ∷ []) [] ++ cond c (y ∷ []) [])
-  one_pair true true x y h = pairs_cons x (y ∷ []) (All-cons (R x) y [] h (All-nil (R x))) (pairs_cons y [] (All-nil (R y)) no_pairs)
-  one_pair true false x y h = pairs_cons x [] (All-nil (R x)) no_pairs
-  one_pair false true x y h = pairs_cons y [] (All-nil (R y)) no_pairs
-  one_pair false false x y h = no_pairs
+one_pair : {A : Type 0} (R : A → A → Type 0) (b c : Bool) (x y : A) → R x y → AllPairs R (cond b (x ∷ []) [] ++ cond c (y ∷ []) [])
+one_pair R true true x y h = AllPairs-cons R x (y ∷ []) (All-cons (R x) y [] h (All-nil (R x))) (AllPairs-cons R y [] (All-nil (R y)) (AllPairs-nil R))
+one_pair R true false x y h = AllPairs-cons R x [] (All-nil (R x)) (AllPairs-nil R)
+one_pair R false true x y h = AllPairs-cons R y [] (All-nil (R y)) (AllPairs-nil R)
+one_pair R false false x y h = AllPairs-nil R
 
 -- the two spokes of one segment leave different nodes
 own_pair : (s : LabelledSegment) → s.segment.a ≢ s.segment.b → IsDecided (spoke s.segment.a s.segment.b s.left s.right) (spoke s.segment.b s.segment.a s.right s.left)
@@ -266,13 +245,13 @@ own_pair s apart = elim (points.cases s.segment.a s.segment.b) [
 ]
 
 pub all_decided : (segments : List LabelledSegment) → All (λ (s : LabelledSegment). is_proper s ≡ true) segments → AllPairs AreApart segments → AllPairs IsDecided (flat_map spokes_from segments)
-all_decided [] proper apart = no_pairs IsDecided
+all_decided [] proper apart = AllPairs-nil IsDecided
 all_decided (s ∷ segments) proper apart =
     let own = (proper_parts s (All-head (λ (u : LabelledSegment). is_proper u ≡ true) s segments proper)).apart in
     let later = All-tail (λ (u : LabelledSegment). is_proper u ≡ true) s segments proper in
-    pairs_append IsDecided (spokes_from s) (flat_map spokes_from segments)
+    AllPairs-append IsDecided (spokes_from s) (flat_map spokes_from segments)
     (one_pair IsDecided s.starts s.ends _ _ (own_pair s own))
-    (all_decided segments later (pairs_tail AreApart s segments apart))
+    (all_decided segments later (AllPairs-tail AreApart s segments apart))
     (each_spoke (λ (p : Spoke). All (IsDecided p) (flat_map spokes_from segments)) s
     (with_later s.segment.a s.segment.b s.left s.right (first_joins s.segment) own later)
     (with_later s.segment.b s.segment.a s.right s.left (second_joins s.segment) (λ e. own (sym e)) later))
@@ -281,7 +260,7 @@ all_decided (s ∷ segments) proper apart =
     with_later v f l r js far later = All-flat_map (IsDecided (spoke v f l r)) spokes_from segments (λ k d lt.
         let t = get_or segments k d in
         let other = (proper_parts t (later k d lt)).apart in
-        let two = pairs_head AreApart s segments apart k d lt in
+        let two = AllPairs-head AreApart s segments apart k d lt in
         each_spoke (IsDecided (spoke v f l r)) t
         (decided s t two v f l r js far t.segment.a t.segment.b t.left t.right (first_joins t.segment) other)
         (decided s t two v f l r js far t.segment.b t.segment.a t.right t.left (second_joins t.segment) (λ e. other (sym e))))

@@ -27,7 +27,9 @@ use Rattle.base_check.specs.declared.ring.NodeGap.{NodeGap}
 use Rattle.base_check.specs.Spokes.{disagrees, half, turns, spoke, spokes_from, before, or_gap, gap_of}
 use Rattle.base_check.proofs.Order.{points, point_before-itself, same_point-itself, before_strict}
 use Rattle.base_check.proofs.Rings.{ring_from, ring_of, through_all, first_fault-first_of}
-use Rattle.base_check.proofs.Nodes.{All-flat_map, all_spokes, is_at_node, map-append, node_there, rings, in_rings, nodes_sorted}
+use Rattle.base_check.proofs.Nodes.{all_spokes, is_at_node, node_there, rings, in_rings, nodes_sorted}
+use Rattle.std.proofs.lemmas.List.{map-append}
+use Rattle.lemmas.proofs.Members.{All-flat_map}
 use Rattle.base_check.proofs.Apart.{IsDecided, all_decided}
 
 -- ---- the order of the definition

@@ -5,7 +5,8 @@ pub mod Steps
 pub mod Numbers
 pub mod Terms
 pub mod Sums
+pub mod Arcs
 pub mod Scan
-pub mod Agree
+pub mod Next
 pub mod Start
 pub mod Loop

@@ -9,7 +9,7 @@ use Rattle.tgap_model.specs.declared.base.Rules.{Rules}
 use Rattle.tgap_model.specs.declared.merge.MergeStep.{MergeStep}
 use Rattle.tgap_model.specs.declared.merge.LabelledArc.{LabelledArc}
 use Rattle.tgap_model.specs.History.{is_between, class_of, relabel_arc, classes_after, IsNextStep, AreSteps, AreNumbered, IsNumberedStep}
-use Rattle.face_merge.specs.Bounds.{IsLabelled, IsMeasured, IsMerging}
+use Rattle.face_merge.specs.Merging.{MergeState, IsLabelled, IsMeasured, IsMerging, after}
 use Rattle.face_merge.proofs.Neighbours.{is_pair, between_labels}
 use Rattle.face_merge.proofs.Steps.{step_less}
 
@@ -66,16 +66,17 @@ steps_numbered rules classes arcs (s ∷ steps) labels p =
     (next_step_numbered rules classes arcs s labels p.0, subst (λ (n : ℕ). AreNumbered n steps) (length_push classes (class_of classes s.winner)) rest)
 
 -- what is known of a map while it is merged stays so at a step
-pub merging_after : (rules : Rules) (classes : List ℕ) (arcs : List LabelledArc) (s : MergeStep) → IsMerging rules classes arcs → IsNextStep rules classes arcs s
-    → IsMerging rules (classes_after s classes) (map (relabel_arc s) arcs)
-merging_after rules classes arcs s m step =
-    let numbered = next_step_numbered rules classes arcs s m.labelled step in
+pub merging_after : (m : MergeState) (s : MergeStep) → IsMerging m → IsNextStep m.rules m.classes m.arcs s → IsMerging (after s m)
+merging_after m s known step =
+    let numbered = next_step_numbered m.rules m.classes m.arcs s known.labelled step in
+    let below : s.winner - 1 < length m.classes = omega (arith, numbered.winner.0, numbered.winner.1) in
     record {
-      rules_hold = m.rules_hold;
-      classed = All-push (λ k. k < length rules.weights) classes (class_of classes s.winner) m.classed
-          (All-get_or (λ k. k < length rules.weights) classes (s.winner - 1) 0 (omega (arith, numbered.winner.0, numbered.winner.1)) m.classed);
-      labelled = labels_after classes arcs s step.made m.labelled;
-      measured = All-map IsMeasured (relabel_arc s) arcs (All-weaker IsMeasured (λ a. IsMeasured (relabel_arc s a)) (λ a p. record { area = p.area; extent = p.extent }) arcs m.measured);
-      few_arcs = omega (arith, m.few_arcs, length-map arcs (relabel_arc s));
-      few_faces = omega (arith, m.few_faces, length_push classes (class_of classes s.winner), step_less s arcs step.neighbours);
+      rules_hold = known.rules_hold;
+      classed = All-push (λ k. k < length m.rules.weights) m.classes (class_of m.classes s.winner) known.classed
+          (All-get_or (λ k. k < length m.rules.weights) m.classes (s.winner - 1) 0 below known.classed);
+      labelled = labels_after m.classes m.arcs s step.made known.labelled;
+      measured = All-map IsMeasured (relabel_arc s) m.arcs
+          (All-weaker IsMeasured (λ a. IsMeasured (relabel_arc s a)) (λ a p. record { area = p.area; extent = p.extent }) m.arcs known.measured);
+      few_arcs = omega (arith, known.few_arcs, length-map m.arcs (relabel_arc s));
+      few_faces = omega (arith, known.few_faces, length_push m.classes (class_of m.classes s.winner), step_less s m.arcs step.neighbours);
     }

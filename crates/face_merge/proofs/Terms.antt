@@ -1,45 +1,46 @@
 -- The measures of an arc: sizes of products, sums and differences, and the shoelace sum and length of a rest of the points.
-use Rattle.std.proofs.Common.{◌≡◌, ◌<◌, ◌≤◌, ℕ, zero, suc, ◌+◌, ◌-◌, ◌*◌, ◌^◌, ℤ, pos, ◌+ℤ◌, ◌-ℤ◌, ◌*ℤ◌, unsigned_abs, FitsSigned, to_z, of_z, List, [], ◌∷◌, length, get_or, drop, refl, ◌∙◌, ap, arith}
+use Rattle.std.proofs.Common.{◌≡◌, ◌<◌, ◌≤◌, ℕ, zero, suc, ◌+◌, ◌-◌, ◌*◌, ℤ, pos, ◌+ℤ◌, ◌-ℤ◌, ◌*ℤ◌, unsigned_abs, FitsSigned, to_z, of_z, List, [], ◌∷◌, length, get_or, drop, refl, ◌∙◌, ap, arith}
 use Rattle.std.specs.Int.{w64, w128}
 use Rattle.std.proofs.lemmas.Int.{ints, unsigned_abs-mul}
 use Rattle.tgap_model.specs.declared.geometry.Point.{Point}
+use Rattle.tgap_model.specs.Bounds.{max_coordinate, max_product, max_shoelace, max_area}
 use Rattle.tgap_model.specs.Point.{shoelace, shoelace_term, path_length, segment_length}
 
 -- a coordinate within the limits, as the code hands it over
-coordinate_is : (a : ℤ) → unsigned_abs a ≤ 2 ^ 28 → to_z w64 (of_z w64 a) ≡ a
+coordinate_is : (a : ℤ) → unsigned_abs a ≤ max_coordinate → to_z w64 (of_z w64 a) ≡ a
 coordinate_is a la = omega (arith, ints)
 
 -- the product of two coordinates
-pub product_is : (a b p : ℤ) → unsigned_abs a ≤ 2 ^ 28 → unsigned_abs b ≤ 2 ^ 28 → p ≡ to_z w64 (of_z w64 a) *ℤ to_z w64 (of_z w64 b) → p ≡ a *ℤ b
+pub product_is : (a b p : ℤ) → unsigned_abs a ≤ max_coordinate → unsigned_abs b ≤ max_coordinate → p ≡ to_z w64 (of_z w64 a) *ℤ to_z w64 (of_z w64 b) → p ≡ a *ℤ b
 product_is a b p la lb e =
     let ea = coordinate_is a la in
     let eb = coordinate_is b lb in
     cc
 
 -- its size
-pub product_size : (a b p : ℤ) → unsigned_abs a ≤ 2 ^ 28 → unsigned_abs b ≤ 2 ^ 28 → p ≡ a *ℤ b → unsigned_abs p ≤ 2 ^ 56
+pub product_size : (a b p : ℤ) → unsigned_abs a ≤ max_coordinate → unsigned_abs b ≤ max_coordinate → p ≡ a *ℤ b → unsigned_abs p ≤ max_product
 product_size a b p la lb e =
     let size : unsigned_abs p ≡ unsigned_abs a * unsigned_abs b = ap unsigned_abs e ∙ unsigned_abs-mul a b in
     bounded (unsigned_abs a) (unsigned_abs b) (unsigned_abs p) la lb size
   where
-    bounded : (m n k : ℕ) → m ≤ 2 ^ 28 → n ≤ 2 ^ 28 → k ≡ m * n → k ≤ 2 ^ 56
+    bounded : (m n k : ℕ) → m ≤ max_coordinate → n ≤ max_coordinate → k ≡ m * n → k ≤ max_product
     bounded m n k lm ln e = grind arith
 
 -- a difference of products fits
-pub difference_fits : (p q : ℤ) → unsigned_abs p ≤ 2 ^ 56 → unsigned_abs q ≤ 2 ^ 56 → FitsSigned w128 (to_z w128 (of_z w128 p) -ℤ to_z w128 (of_z w128 q))
+pub difference_fits : (p q : ℤ) → unsigned_abs p ≤ max_product → unsigned_abs q ≤ max_product → FitsSigned w128 (to_z w128 (of_z w128 p) -ℤ to_z w128 (of_z w128 q))
 difference_fits p q lp lq = omega (arith, ints)
 
 -- its value
-pub difference_is : (p q : ℤ) → unsigned_abs p ≤ 2 ^ 56 → unsigned_abs q ≤ 2 ^ 56
+pub difference_is : (p q : ℤ) → unsigned_abs p ≤ max_product → unsigned_abs q ≤ max_product
     → to_z w128 (of_z w128 (to_z w128 (of_z w128 p) -ℤ to_z w128 (of_z w128 q))) ≡ p -ℤ q
 difference_is p q lp lq = omega (arith, ints)
 
 -- its size
-pub difference_size : (p q : ℤ) → unsigned_abs p ≤ 2 ^ 56 → unsigned_abs q ≤ 2 ^ 56 → unsigned_abs (p -ℤ q) ≤ 2 ^ 57
+pub difference_size : (p q : ℤ) → unsigned_abs p ≤ max_product → unsigned_abs q ≤ max_product → unsigned_abs (p -ℤ q) ≤ max_shoelace
 difference_size p q lp lq = omega (arith, ints)
 
 -- one more term of a sum of areas
-pub sum_is : (s t : ℤ) → unsigned_abs s ≤ 2 ^ 93 → unsigned_abs t ≤ 2 ^ 93 → to_z w128 (of_z w128 (s +ℤ to_z w128 (of_z w128 t))) ≡ s +ℤ t
+pub sum_is : (s t : ℤ) → unsigned_abs s ≤ max_area → unsigned_abs t ≤ max_area → to_z w128 (of_z w128 (s +ℤ to_z w128 (of_z w128 t))) ≡ s +ℤ t
 sum_is s t ls lt = omega (arith, ints)
 
 -- its size

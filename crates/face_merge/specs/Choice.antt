@@ -1,9 +1,8 @@
 -- What a step sums, and how it chooses a face: the first of those seen so far, and of one more.
-use Rattle.std.specs.Prelude.{ℕ, ◌*◌, ◌+◌, Bool, ◌||◌, ℤ, pos, ◌+ℤ◌, ◌*ℤ◌, ◌&&◌, int_lt, nat_lt, ◌==◌, List, length, slice_index, slice_index_or, slice_set, Option, Some, None, if◌then◌else◌}
+use Rattle.std.specs.Prelude.{ℕ, Bool, ◌||◌, ℤ, pos, ◌+ℤ◌, ◌&&◌, int_lt, nat_lt, ◌==◌, List, slice_index_or, slice_set, Option, Some, None, if◌then◌else◌}
 use Rattle.std.specs.Ordering.{int_eq}
-use Rattle.tgap_model.specs.declared.base.Rules.{Rules}
 use Rattle.tgap_model.specs.declared.merge.LabelledArc.{LabelledArc}
-use Rattle.tgap_model.specs.History.{class_of, is_shared}
+use Rattle.tgap_model.specs.History.{is_shared}
 
 -- the areas with a part added to that of a face
 abbrev pub added : List ℤ → ℕ → ℤ → List ℤ
@@ -18,15 +17,6 @@ neighbour_at f a =
 abbrev pub first_of : (ℕ → ℕ → Bool) → Option ℕ → ℕ → ℕ
 first_of before None f = f
 first_of before (Some best) f = if before f best then f else best
-
--- the importance of a face, by the areas of all faces
-abbrev pub importance_by : Rules → List ℕ → List ℤ → ℕ → ℤ
-importance_by rules classes areas f = slice_index_or areas f (pos 0) *ℤ pos (slice_index rules.weights (class_of classes f))
-
--- the score of a neighbour of the loser, by its lengths shared with all faces
-abbrev pub score_by : Rules → List ℕ → List ℕ → ℕ → ℕ → ℕ
-score_by rules classes lengths loser g =
-    slice_index rules.compat (class_of classes loser * length rules.weights + class_of classes g) * slice_index lengths g
 
 -- f comes before g by the least of a whole number, then by the least face
 abbrev pub least_first : (ℕ → ℤ) → ℕ → ℕ → Bool

@@ -6,14 +6,11 @@ ghost use Rattle.std.specs.Prelude.{◌≡◌, ◌≤◌, List, length, IfOk};
 ghost use Rattle.tgap_model.specs.declared.merge.MergeStep.{MergeStep};
 ghost use Rattle.tgap_model.specs.History.{IsHistory, AreNumbered, history_of};
 
-mod label;
 mod measure;
-mod step;
+mod merging;
 
-use label::take_step;
-use measure::labelled_arcs;
+use merging::Merging;
 use std::alloc::Global;
-use step::next_step_of;
 use tgap_model::{Base, List, Memory, MergeStep};
 
 /// The merge history of a base map, planar or not, by 'Merging' of docs/rules.md: its steps, in order.
@@ -31,12 +28,10 @@ pub fn history(alloc: Global, base: &Base) -> Result<List<MergeStep>, Memory>
     ensures numbered { IfOk result (AreNumbered (length base.now.classes)) }
     ensures few { IfOk result (λ steps. length steps ≤ length base.now.arcs) }
 {
-    let rules = base.rules();
-    let mut classes = base.classes().as_slice().to_vec(alloc)?;
-    let mut arcs = labelled_arcs(alloc, base.arcs().as_slice())?;
+    let mut merging = Merging::of(alloc, base)?;
     let mut steps = List::new(alloc);
-    while let Some(step) = next_step_of(alloc, rules, &classes, &arcs)? {
-        take_step(&mut classes, &mut arcs, step)?;
+    while let Some(step) = merging.next_step(alloc)? {
+        merging.take_step(step)?;
         steps.push(step)?;
     }
     Ok(steps)

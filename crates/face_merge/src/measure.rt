@@ -1,11 +1,12 @@
 //! What an arc adds to the areas and the lengths of faces: its shoelace sum and its path length.
 
-ghost use Rattle.std.specs.Prelude.{◌≡◌, ◌≤◌, ◌*◌, ◌^◌, ◌*ℤ◌, unsigned_abs, length, map, IfOk};
+ghost use Rattle.std.specs.Prelude.{◌≡◌, ◌≤◌, ◌*ℤ◌, unsigned_abs, length, map, IfOk};
 ghost use Rattle.std.specs.List.{All};
 ghost use Rattle.tgap_model.specs.declared.limits.TheConstants.{MAX_POINTS};
 ghost use Rattle.tgap_model.specs.Point.{segment_length, shoelace_term};
 ghost use Rattle.tgap_model.specs.History.{labelled};
-ghost use Rattle.face_merge.specs.Bounds.{IsNear, IsMeasured};
+ghost use Rattle.tgap_model.specs.Bounds.{max_length, max_shoelace, IsNear};
+ghost use Rattle.face_merge.specs.Merging.{IsMeasured};
 
 use std::alloc::Global;
 use tgap_model::{BaseArc, LabelledArc, Memory, Point};
@@ -22,7 +23,7 @@ fn shoelace_of(a: Point, b: Point) -> i128
     requires near_a { IsNear a }
     requires near_b { IsNear b }
     ensures value { result ≡ shoelace_term a b }
-    ensures size { unsigned_abs result ≤ 2 ^ 57 }
+    ensures size { unsigned_abs result ≤ max_shoelace }
 {
     product(a.x, b.y) - product(b.x, a.y)
 }
@@ -32,7 +33,7 @@ fn length_of(a: Point, b: Point) -> u64
     requires near_a { IsNear a }
     requires near_b { IsNear b }
     ensures value { result ≡ segment_length a b }
-    ensures size { result ≤ 2 ^ 30 }
+    ensures size { result ≤ max_length }
 {
     a.x.abs_diff(b.x) + a.y.abs_diff(b.y)
 }
@@ -66,7 +67,7 @@ pub fn labelled_arcs(alloc: Global, arcs: &[BaseArc]) -> Result<Vec<LabelledArc>
     ensures value { IfOk result (λ found. found.items ≡ map labelled arcs.now) }
     ensures size { IfOk result (λ found. All IsMeasured found.items) }
 {
-    let mut found = Vec::new(alloc);
+    let mut found = Vec::with_capacity(alloc, arcs.len())?;
     for arc in arcs {
         found.push(measured(arc))?;
     }

@@ -1,7 +1,7 @@
 -- Every number of the comparison of heights fits, and the comparison is that of the definition.
-use Rattle.std.proofs.Common.{◌≡◌, ◌≤◌, ℕ, ◌*◌, ◌^◌, Bool, true, false, cond, ℤ, pos, ◌+ℤ◌, ◌*ℤ◌, ◌<ℤ◌, unsigned_abs, to_z, of_z, int_lt, Ordering, Less, Equal, Greater, refl, sym, ap, ap₂, ◌∙◌, true≢false, ⊎_elim, arith}
+use Rattle.std.proofs.Common.{◌≡◌, ◌≤◌, ℕ, ◌*◌, ◌^◌, ◌==◌, Bool, true, false, cond, ℤ, pos, ◌+ℤ◌, ◌*ℤ◌, ◌<ℤ◌, unsigned_abs, to_z, of_z, int_lt, Ordering, Less, Equal, Greater, refl, sym, ap, ap₂, ◌∙◌, true≢false, ⊎_elim, arith}
 use Rattle.std.specs.Int.{w128}
-use Rattle.std.specs.Ordering.{int_cmp}
+use Rattle.std.specs.Ordering.{int_cmp, ordering_index}
 use Rattle.std.proofs.lemmas.Bool.{and_parts, or_cases}
 use Rattle.std.proofs.lemmas.Int.{ints, unsigned_abs-mul}
 use Rattle.std.proofs.Math.Nat.{mul-le-mul_left}
@@ -65,3 +65,12 @@ compared l s t above below e f = cases above below ∙ ap₂ (λ (x y : ℤ). co
         by true false h k = refl
         by false true h k = refl
         by false false h k = refl
+
+-- what the comparison tells of the order
+pub greater_test : (l : Line) (s t : Seg) (found : Ordering) (b : Bool) → found ≡ order_on_line l s t → b ≡ (ordering_index found == 2) → is_higher l s t ≡ b
+greater_test l s t found b e f = by (is_higher l s t) (is_higher l t s) refl (f ∙ ap (λ o. ordering_index o == 2) e)
+  where
+    by : (h k : Bool) → is_higher l s t ≡ h → b ≡ (ordering_index (cond h Greater (cond k Less Equal)) == 2) → is_higher l s t ≡ b
+    by true k h g = h ∙ sym g
+    by false true h g = h ∙ sym g
+    by false false h g = h ∙ sym g

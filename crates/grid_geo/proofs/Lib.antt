@@ -1,6 +1,4 @@
 pub mod Sizes
-pub mod Products
-pub mod Intervals
 pub mod Places
 pub mod Lines
 pub mod Crossing

@@ -13,7 +13,7 @@ use Rattle.tgap_model.specs.declared.geometry.Fraction.{Fraction}
 use Rattle.tgap_model.specs.declared.geometry.Seg.{Seg}
 use Rattle.tgap_model.specs.Point.{cross as cross_of}
 use Rattle.tgap_model.specs.Segment.{cross_at, point_before, run, rise}
-use Rattle.grid_geo.proofs.Products.{zero_from_mul_left, proportional_zero, proportional_between}
+use Rattle.lemmas.proofs.Products.{zero_from_mul_left, proportional_zero, proportional_between}
 use Rattle.grid_geo.proofs.Places.{x_gap, y_gap, IsOn, IsAt, one_point}
 
 -- the grid point is on the line of the segment

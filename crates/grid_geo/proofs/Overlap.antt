@@ -12,8 +12,8 @@ use Rattle.tgap_model.specs.declared.geometry.Fraction.{Fraction}
 use Rattle.tgap_model.specs.declared.geometry.Seg.{Seg}
 use Rattle.tgap_model.specs.Point.{cross as cross_of}
 use Rattle.tgap_model.specs.Segment.{cross_at, point_before, run, rise, turn, earlier_end, later_end, common_first, common_last, middle, overlap}
-use Rattle.grid_geo.proofs.Products.{zero_from_square}
-use Rattle.grid_geo.proofs.Intervals.{common_low, common_high, from_least, to_greatest, in_common_low, in_common_high, middle_in_first, middle_in_second, lone_first, lone_second, scaled_low, scaled_high}
+use Rattle.lemmas.proofs.Products.{zero_from_square}
+use Rattle.lemmas.proofs.Intervals.{common_low, common_high, from_least, to_greatest, in_common_low, in_common_high, middle_in_first, middle_in_second, lone_first, lone_second, scaled_low, scaled_high}
 use Rattle.grid_geo.proofs.Places.{x_gap, y_gap, IsOn, IsAt, IsCommon, one_point}
 use Rattle.grid_geo.proofs.Lines.{IsOnLine, first_end_on_line, second_end_on_line, gaps_on_line, on_line_from_gaps, parallel_gaps, Axis, over_x, over_y, along, numerator, along_gap, IsGraph, line_is_graph, on_along, at_along, on_from_along, at_from_along}
 

@@ -10,7 +10,7 @@ use Rattle.tgap_model.specs.declared.geometry.Point.{Point}
 use Rattle.tgap_model.specs.declared.geometry.Fraction.{Fraction}
 use Rattle.tgap_model.specs.declared.geometry.Seg.{Seg}
 use Rattle.tgap_model.specs.Segment.{is_at, is_on, cross_at, lies_between}
-use Rattle.grid_geo.proofs.Products.{not_positive_cases, mul_not_positive_left, proportional_zero, proportional_between}
+use Rattle.lemmas.proofs.Products.{not_positive_cases, mul_not_positive_left, proportional_zero, proportional_between}
 
 -- two points with the same coordinates are one
 pub one_point : (u v : Point) → u.x ≡ v.x → u.y ≡ v.y → u ≡ v

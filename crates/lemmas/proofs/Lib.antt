@@ -1,8 +1,14 @@
 pub mod Integers
 pub mod Polynomials
 pub mod Signs
+pub mod Products
+pub mod Intervals
 pub mod Fractions
+pub mod Members
 pub mod Sorting
+pub mod Placing
 pub mod Orders
+pub mod Keys
+pub mod Ascending
 pub mod Counts
 pub mod Examples

@@ -13,27 +13,10 @@ use Rattle.tgap_model.specs.Base.{same_point}
 use Rattle.tgap_model.specs.Segment.{point_before}
 use Rattle.tgap_model.specs.Merged.{MergedMap, is_border}
 use Rattle.tgap_model.specs.Chains.{first_point, last_point, arc_number, ends_at, degree, step_of_two, joins_before, Link, link_start, link_end}
+use Rattle.tgap_model.proofs.Points.{point_same, same_point-true, same_point-from}
 use Rattle.map_laws.proofs.ChainMembers.{Among, two_pass}
 
 -- ---- points
-
--- a point is its coordinates
-point_same : (p q : Point) → p.x ≡ q.x → p.y ≡ q.y → p ≡ q
-point_same p q a b =
-    let make : ℤ → ℤ → Point = λ (x y : ℤ). record { x = x; y = y } in
-    let e : make p.x p.y ≡ make q.x q.y = cc in
-    e
-
--- points that pass the test are one
-pub same_point-true : (p q : Point) → same_point p q ≡ true → p ≡ q
-same_point-true p q e =
-    let parts = and_parts (int_eq p.x q.x) (int_eq p.y q.y) e in
-    point_same p q ((Decides-int_eq p.x q.x).0 parts.0) ((Decides-int_eq p.y q.y).0 parts.1)
-
--- and one point passes it
-pub same_point-from : (p q : Point) → p ≡ q → same_point p q ≡ true
-same_point-from p q e =
-    and_from (int_eq p.x q.x) (int_eq p.y q.y) ((Decides-int_eq p.x q.x).1 (ap (λ (r : Point). r.x) e)) ((Decides-int_eq p.y q.y).1 (ap (λ (r : Point). r.y) e))
 
 -- of two integers neither of which is less they are one
 int_same : (a b : ℤ) → int_lt a b ≡ false → int_lt b a ≡ false → a ≡ b
@@ -47,7 +30,7 @@ and_rest true t e f = e
 and_rest false t e f = absurd cc
 
 -- of two points neither of which stands before the other they are one
-point_order : (p q : Point) → point_before p q ≡ false → point_before q p ≡ false → p ≡ q
+pub point_order : (p q : Point) → point_before p q ≡ false → point_before q p ≡ false → p ≡ q
 point_order p q e f =
     let a = or_parts (int_lt p.x q.x) _ e in
     let b = or_parts (int_lt q.x p.x) _ f in

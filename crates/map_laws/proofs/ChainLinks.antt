@@ -10,7 +10,8 @@ use Rattle.tgap_model.specs.Merged.{MergedMap, is_border}
 use Rattle.tgap_model.specs.Chains.{arc_number, border_numbers, degree, joins_before, Link, Chain, link_start, link_end, chain_end, least, key, is_joined, is_closed, is_maximal, is_anchored, is_directed, has_links, covers_border, is_chain, are_chains}
 use Rattle.map_laws.proofs.ChainMembers.{Among, AreDistinct, all_among, any_among, filter_among, joined_among, count_passes, count_grows, among_counts, one_passes, part_counts}
 use Rattle.map_laws.proofs.ChainWalks.{IsRow, last_of, last_among}
-use Rattle.map_laws.proofs.ChainEnds.{same_point-true, same_point-from, turn_apart, IsBorderLink, IsWayOn}
+use Rattle.tgap_model.proofs.Points.{same_point-true, same_point-from}
+use Rattle.map_laws.proofs.ChainEnds.{turn_apart, IsBorderLink, IsWayOn}
 
 -- ---- the key of a chain
 
@@ -223,7 +224,7 @@ module _ (h : MergedMap) (k : ℕ) (cs : List Chain) (t : are_chains h k cs ≡ 
   chains_counted d m = among_counts (λ (e : Link). e.arc == d.arc) (flat_map (λ c. c) cs) d m (eq-eqb d.arc d.arc refl)
 
   -- and borders a face
-  chains_border : (d : Link) → Among d (flat_map (λ c. c) cs) → IsBorderLink h k d
+  pub chains_border : (d : Link) → Among d (flat_map (λ c. c) cs) → IsBorderLink h k d
   chains_border d m =
       let found = any_among (λ j. j == d.arc) (border_numbers h k) (count_test _ _ (chains_count d.arc (chains_within d m)) (chains_counted d m)) in
       let passes = filter_among (λ i. is_border h k (arc_number h.base.arcs i)) (range_with_len 0 (length h.base.arcs)) found.0 found.1 in

@@ -42,18 +42,18 @@ module _ {A : Type 0} where
       by false e n rest = rest n
 
   -- a member of the first of two lists is one of both together
-  among_left : (xs ys : List A) (x : A) → Among x xs → Among x (xs ++ ys)
+  pub among_left : (xs ys : List A) (x : A) → Among x xs → Among x (xs ++ ys)
   among_left [] ys x m = absurd m
   among_left (z ∷ zs) ys x (inl e) = inl e
   among_left (z ∷ zs) ys x (inr m) = inr (among_left zs ys x m)
 
   -- and a member of the second
-  among_right : (xs ys : List A) (x : A) → Among x ys → Among x (xs ++ ys)
+  pub among_right : (xs ys : List A) (x : A) → Among x ys → Among x (xs ++ ys)
   among_right [] ys x m = m
   among_right (z ∷ zs) ys x m = inr (among_right zs ys x m)
 
   -- a member of both together is one of the first or of the second
-  append_among : (xs ys : List A) (x : A) → Among x (xs ++ ys) → Among x xs ⊎ Among x ys
+  pub append_among : (xs ys : List A) (x : A) → Among x (xs ++ ys) → Among x xs ⊎ Among x ys
   append_among [] ys x m = inr m
   append_among (z ∷ zs) ys x (inl e) = inl (inl e)
   append_among (z ∷ zs) ys x (inr m) = elim (append_among zs ys x m) [ inl l ↦ inl (inr l) | inr r ↦ inr r ]
@@ -82,7 +82,7 @@ module _ {A : Type 0} where
       omega arith
 
   -- as many where it fails
-  count_fails : (p : A → Bool) (x : A) (xs : List A) → p x ≡ false → count_by p (x ∷ xs) ≡ count_by p xs
+  pub count_fails : (p : A → Bool) (x : A) (xs : List A) → p x ≡ false → count_by p (x ∷ xs) ≡ count_by p xs
   count_fails p x xs e =
       let s : count_by p (x ∷ xs) ≡ cond {A = ℕ} (p x) 1 0 + count_by p xs = sum_by-cons (λ y. cond (p y) 1 0) x xs in
       let none : cond {A = ℕ} (p x) 1 0 ≡ 0 = ap (λ (b : Bool). cond {A = ℕ} b 1 0) e in

@@ -16,7 +16,7 @@ use Rattle.tgap_model.specs.Base.{same_point}
 use Rattle.tgap_model.specs.Segment.{is_on, is_at, is_permitted, lies_between}
 use Rattle.tgap_model.specs.Partition.{AreApart, follows, shared_ends}
 use Rattle.map_laws.specs.PlaneLaws.{InnerVerticesStandOnce}
-use Rattle.map_laws.proofs.ChainEnds.{same_point-true, same_point-from}
+use Rattle.tgap_model.proofs.Points.{same_point-true, same_point-from}
 
 -- a point over 1
 abbrev whole : Point → Fraction

@@ -16,13 +16,13 @@ use Rattle.tgap_model.specs.History.{next_step, history_of}
 use Rattle.map_laws.proofs.Examples.{two_squares, four_squares, hole_with_face, points_of, step, arc, plain_map}
 
 -- an arc in its direction, and against it
-abbrev ahead : ℕ → Link
+abbrev pub ahead : ℕ → Link
 ahead i = record { arc = i; turned = false }
 
-abbrev back : ℕ → Link
+abbrev pub back : ℕ → Link
 back i = record { arc = i; turned = true }
 
-abbrev point : ℕ → ℕ → Point
+abbrev pub point : ℕ → ℕ → Point
 point x y = record { x = pos x; y = pos y }
 
 abbrev pub edge : ℕ → ℕ → ℕ → List ℕ → Edge

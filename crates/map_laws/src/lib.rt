@@ -6,7 +6,9 @@
 mod chains;
 mod plane;
 
-pub use chains::{chains_are_unique, ended_edges_vanish, slices_are_unique};
+pub use chains::{
+    chains_are_unique, chains_exist, chains_step, ended_edges_vanish, slices_are_unique,
+};
 pub use plane::{
     clear_is_symmetric, inner_vertices_stand_once, inside_below_nearest, inside_one_face,
     labels_change, neighbours_cancel,

@@ -1,212 +1,253 @@
--- What each status says, from the answer that was put.
-use Rattle.std.proofs.Common.{◌≡◌, ◌≢◌, ℕ, ◌<◌, ◌≤◌, ◌⊎◌, inl, inr, List, length, Option, Some, None, Result, Ok, Err, IfSome, refl, sym, ap, ◌∙◌, subst, arith, lt-ltb, le-ltb}
-use Rattle.std.proofs.lemmas.Bool.{cases_lt}
-use Rattle.tgap_model.specs.declared.limits.TheConstants.{MAX_MAP_BYTES}
-use Rattle.tgap_model.specs.declared.fault.MapFault.{MapFault}
-use Rattle.tgap_model.specs.declared.fault.MapFault.TheVariants.{InputLong}
+-- What each status says, from the outcome that was put. Nothing here depends on which commands there are.
+use Rattle.std.proofs.Common.{◌≡◌, ◌≢◌, ℕ, zero, suc, ◌<◌, ◌⊎◌, inl, inr, List, [], ◌∷◌, length, get_or, Option, Some, None, Contains, refl, sym, ap, ◌∙◌, subst, arith}
+use Rattle.plain_io.specs.declared.files.Which.{Which}
+use Rattle.plain_io.specs.Loads.{Told, Missing, OfFile}
 use Rattle.plain_io.specs.Puts.{Appends}
-use Rattle.tgap_model.specs.Base.{BaseMap}
-use Rattle.tgap_model.specs.History.{history_of}
-use Rattle.tgap_model.specs.Listing.{listing}
-use Rattle.tgap_model.specs.Texts.{fault_text}
-use Rattle.tgap_model.specs.Command.{Answer, Command, Question, Borders, Check, Answers, AnswersCommand, IsDone, IsRefused, IsTooHigh, FailsFor, answer_from, map_answer, borders_answer, check_answer, command, usage, load_fault, refused, input_long, out_of_memory}
-use Rattle.tgap_model.specs.Partition.{map_fault}
+use Rattle.plain_io.specs.Faults.{Rises}
+use Rattle.tgap_model.specs.declared.fault.MapFault.{MapFault}
+use Rattle.map_server.specs.declared.outcome.Outcome.{Outcome}
+use Rattle.map_server.specs.declared.outcome.Outcome.TheVariants.{Done, Usage, LoadFault, Refused, StepTooHigh, NotCoarser, OutOfMemory, PortFault, Unfit}
+use Rattle.map_server.specs.Outcomes.{status_of, text_of, load_fault_text, not_coarser, TakesMemory, IsOfFiles}
 use Rattle.map_server.specs.Delivery.{Delivers}
+use Rattle.map_server.specs.Command.{Command}
+use Rattle.map_server.specs.MapFile.{Contents, FileName}
+use Rattle.map_server.specs.Commands.{command, files_of, Says, outcome_of}
+use Rattle.map_server.specs.Answers.{Answers, AnswersCommand, KeepCounts, LeavesKind, MayHold, MissesOne, PutsAnswer, files_for}
 
--- ---- the answer from bytes, by cases
+-- ---- outcomes by status
 
-abbrev status_of : Answer → ℕ
-status_of a = a.status
+pub done_status : (o : Outcome) → status_of o ≡ 0 → (text : List ℕ) × (o ≡ Done text)
+done_status (Done text) e = (text, refl)
+done_status Usage e = absurd (omega arith)
+done_status (LoadFault which) e = absurd (omega arith)
+done_status (Refused fault) e = absurd (omega arith)
+done_status (StepTooHigh steps) e = absurd (omega arith)
+done_status (NotCoarser from to) e = absurd (omega arith)
+done_status OutOfMemory e = absurd (omega arith)
+done_status PortFault e = absurd (omega arith)
+done_status (Unfit misfit) e = absurd (omega arith)
 
-abbrev text_of : Answer → List ℕ
-text_of a = a.text
+refused_status : (o : Outcome) → status_of o ≡ 4 → (fault : MapFault) × (o ≡ Refused fault)
+refused_status (Done text) e = absurd (omega arith)
+refused_status Usage e = absurd (omega arith)
+refused_status (LoadFault which) e = absurd (omega arith)
+refused_status (Refused fault) e = (fault, refl)
+refused_status (StepTooHigh steps) e = absurd (omega arith)
+refused_status (NotCoarser from to) e = absurd (omega arith)
+refused_status OutOfMemory e = absurd (omega arith)
+refused_status PortFault e = absurd (omega arith)
+refused_status (Unfit misfit) e = absurd (omega arith)
 
--- the answer is what was asked of a base map; or the step is too high; or the base map is refused
-pub record Done (q : Question) (m : BaseMap) (a : Answer) : Type 0 where
-  pub status : a.status ≡ 0
-  pub done : IsDone q m a.text
+above_status : (o : Outcome) → status_of o ≡ 5 → ((steps : ℕ) × (o ≡ StepTooHigh steps)) ⊎ ((steps : ℕ × ℕ) × (o ≡ not_coarser steps))
+above_status (Done text) e = absurd (omega arith)
+above_status Usage e = absurd (omega arith)
+above_status (LoadFault which) e = absurd (omega arith)
+above_status (Refused fault) e = absurd (omega arith)
+above_status (StepTooHigh steps) e = inl (steps, refl)
+above_status (NotCoarser from to) e = inr ((from, to), refl)
+above_status OutOfMemory e = absurd (omega arith)
+above_status PortFault e = absurd (omega arith)
+above_status (Unfit misfit) e = absurd (omega arith)
 
-pub record TooHigh (q : Question) (m : BaseMap) (a : Answer) : Type 0 where
-  pub status : a.status ≡ 5
-  pub high : IsTooHigh q m
+usage_apart : (o : Outcome) → status_of o ≡ 2 → IsOfFiles o → ⊥
+usage_apart (Done text) e h = omega arith
+usage_apart Usage e h = h
+usage_apart (LoadFault which) e h = h
+usage_apart (Refused fault) e h = omega arith
+usage_apart (StepTooHigh steps) e h = omega arith
+usage_apart (NotCoarser from to) e h = omega arith
+usage_apart OutOfMemory e h = h
+usage_apart PortFault e h = omega arith
+usage_apart (Unfit misfit) e h = omega arith
 
-pub record Fails (q : Question) (m : BaseMap) (a : Answer) : Type 0 where
-  pub fault : MapFault
-  pub fails : FailsFor q m fault
-  pub answer : a ≡ refused fault
+six_apart : (o : Outcome) → status_of o ≡ 6 → ⊥
+six_apart (Done text) e = omega arith
+six_apart Usage e = omega arith
+six_apart (LoadFault which) e = omega arith
+six_apart (Refused fault) e = omega arith
+six_apart (StepTooHigh steps) e = omega arith
+six_apart (NotCoarser from to) e = omega arith
+six_apart OutOfMemory e = omega arith
+six_apart PortFault e = omega arith
+six_apart (Unfit misfit) e = omega arith
 
-borders_cases : (m : BaseMap) (k : ℕ) → Done (Borders k) m (borders_answer m k) ⊎ (TooHigh (Borders k) m (borders_answer m k) ⊎ Fails (Borders k) m (borders_answer m k))
-unfolding borders_answer
-borders_cases m k =
-    elim (cases_lt (length (history_of m)) k) [
-      | inl less ↦ inr (inl (record { status = rw (lt-ltb _ _ less) refl; high = less }))
-      | inr enough ↦ inl (record { status = rw (le-ltb _ _ enough) refl; done = (enough, rw (le-ltb _ _ enough) refl) })
+-- what comes of the files has another status than a failed load or want of memory
+files_status : (o : Outcome) → IsOfFiles o → (status_of o ≢ 3) × (status_of o ≢ 7)
+files_status (Done text) h = (λ e. omega (arith, e), λ e. omega (arith, e))
+files_status Usage h = absurd h
+files_status (LoadFault which) h = absurd h
+files_status (Refused fault) h = (λ e. omega (arith, e), λ e. omega (arith, e))
+files_status (StepTooHigh steps) h = (λ e. omega (arith, e), λ e. omega (arith, e))
+files_status (NotCoarser from to) h = (λ e. omega (arith, e), λ e. omega (arith, e))
+files_status OutOfMemory h = absurd h
+files_status PortFault h = (λ e. omega (arith, e), λ e. omega (arith, e))
+files_status (Unfit misfit) h = (λ e. omega (arith, e), λ e. omega (arith, e))
+
+-- ---- the outcome of words, by what they ask for
+
+by_command : (words : List (List ℕ)) (told : Which → List ℕ → Told) (rose : Which → Type 0) (o : Outcome) (asked : Option Command) → command words ≡ asked
+    → Answers words told rose o → ((command words ≡ None) × (o ≡ Usage)) ⊎ ((c : Command) × (command words ≡ Some c) × AnswersCommand c told rose o)
+by_command words told rose o None e h = let u : o ≡ Usage = rw e at h in inl (e, u)
+by_command words told rose o (Some c) e h = let a : AnswersCommand c told rose o = rw e at h in inr (c, e, a)
+
+-- of a file that is missing there are no contents
+none_held : (told : Which → List ℕ → Told) (names : List FileName) (files : Contents) → MissesOne told names → MayHold told names files → ⊥
+none_held told [] files m h = absurd (omega (arith, m.1.1))
+none_held told (n ∷ names) files m h = by m.1.0 m.1.1 m.1.2 (λ l. none_held told names files (m.0, l, m.2) h.1)
+  where
+    by : (k : ℕ) → k < length (n ∷ names) → get_or (n ∷ names) k m.0 ≡ m.0 → (Contains names m.0 → ⊥) → ⊥
+    by zero l e rest = subst (λ (t : Told). OfFile t (λ bytes. files n.which ≡ bytes)) (ap (λ (f : FileName). told f.which f.name) e ∙ m.2) h.0
+    by (suc k) l e rest = rest (k, omega arith, e)
+
+-- What is put for these words: an outcome of them, the counts of faults that it leaves, and its text.
+pub record Put (words : List (List ℕ)) (told : Which → List ℕ → Told) (rose : Which → Type 0) (before now : Which → ℕ)
+    (old new : Option (List ℕ)) (sunk sinks status : ℕ) : Type 0 where
+  pub outcome : Outcome
+  pub answers : Answers words told rose outcome
+  pub counts : KeepCounts (files_for (command words)) before now (λ kind. outcome ≡ LoadFault kind)
+  pub delivers : Delivers outcome old new sunk sinks status
+
+-- where memory was wanting for the text of an outcome, it is put that memory was wanting
+pub put_is : (words : List (List ℕ)) (told : Which → List ℕ → Told) (rose : Which → Type 0) (before now : Which → ℕ)
+    (old new : Option (List ℕ)) (sunk sinks status : ℕ) (o : Outcome) → Answers words told rose o
+    → KeepCounts (files_for (command words)) before now (λ kind. o ≡ LoadFault kind)
+    → Delivers o old new sunk sinks status ⊎ (TakesMemory o × Delivers OutOfMemory old new sunk sinks status)
+    → Put words told rose before now old new sunk sinks status
+put_is words told rose before now old new sunk sinks status o a k (inl d) = record { outcome = o; answers = a; counts = k; delivers = d }
+put_is words told rose before now old new sunk sinks status o a k (inr d) = record {
+  outcome = OutOfMemory;
+  answers = wanting (command words) refl;
+  counts = λ kind. elim (k kind) [
+    | inl same ↦ inl same
+    | inr failed ↦ absurd (subst TakesMemory failed.3 d.0)
+  ];
+  delivers = d.1;
+}
+  where
+    wanting : (asked : Option Command) → command words ≡ asked → Answers words told rose OutOfMemory
+    wanting asked e = elim (by_command words told rose o (command words) refl a) [
+      | inl none ↦ absurd (subst TakesMemory none.1 d.0)
+      | inr some ↦ rw some.1 (inr (inl refl))
     ]
 
-check_cases : (m : BaseMap) (o : Option MapFault) → map_fault m ≡ o → Done Check m (check_answer m) ⊎ (TooHigh Check m (check_answer m) ⊎ Fails Check m (check_answer m))
-unfolding check_answer
-check_cases m None e = inl (record { status = rw (e, check_answer) refl; done = (e, rw (e, check_answer) refl) })
-check_cases m (Some fault) e = inr (inr (record { fault = fault; fails = e; answer = rw (e, check_answer) refl }))
+module _ {words : List (List ℕ)} {told : Which → List ℕ → Told} {rose : Which → Type 0} {before now : Which → ℕ}
+    {old new : Option (List ℕ)} {sunk sinks status : ℕ} (p : Put words told rose before now old new sunk sinks status) where
+  -- the words are no command, or one that answers so
+  cases : ((command words ≡ None) × (p.outcome ≡ Usage)) ⊎ ((c : Command) × (command words ≡ Some c) × AnswersCommand c told rose p.outcome)
+  cases = by_command words told rose p.outcome (command words) refl p.answers
 
-map_cases : (q : Question) (m : BaseMap) → Done q m (map_answer q m) ⊎ (TooHigh q m (map_answer q m) ⊎ Fails q m (map_answer q m))
-map_cases (Borders k) m = borders_cases m k
-map_cases Check m = check_cases m (map_fault m) refl
+  -- but for status 6 the outcome was put whole
+  whole : status ≢ 6 → (status ≡ status_of p.outcome) × Appends old new (text_of p.outcome)
+  whole other = elim p.delivers [ inl d ↦ (d.0, d.1) | inr d ↦ absurd (other d.0) ]
 
--- what the bytes of a map file give
-abbrev pub FromMap : List ℕ → Question → Answer → Type 0
-FromMap bytes q a = (m : BaseMap) × (listing bytes ≡ Ok m) × (Done q m a ⊎ (TooHigh q m a ⊎ Fails q m a))
+  status_is : (n : ℕ) → n < 6 → status ≡ n → status_of p.outcome ≡ n
+  status_is n low e = sym (whole (λ six. omega (arith, e, six))).0 ∙ e
 
--- what the bytes of a listing with a fault give
-abbrev pub FromFault : List ℕ → Answer → Type 0
-FromFault bytes a = (f : MapFault) × (listing bytes ≡ Err f) × (a ≡ refused f)
-
-read_cases : (bytes : List ℕ) (q : Question) (o : Result BaseMap MapFault) → listing bytes ≡ o → FromFault bytes (answer_from bytes q) ⊎ FromMap bytes q (answer_from bytes q)
-unfolding answer_from
-read_cases bytes q (Err f) e = inl (f, e, rw (e, answer_from) refl)
-read_cases bytes q (Ok m) e =
-    let same : answer_from bytes q ≡ map_answer q m = rw (e, answer_from) refl in
-    inr (m, e, subst (λ (a : Answer). Done q m a ⊎ (TooHigh q m a ⊎ Fails q m a)) (sym same) (map_cases q m))
-
-pub from_cases : (bytes : List ℕ) (q : Question) → FromFault bytes (answer_from bytes q) ⊎ FromMap bytes q (answer_from bytes q)
-from_cases bytes q = read_cases bytes q (listing bytes) refl
-
--- ---- what each status of an answer says
-
--- what was asked of the map of these bytes is the text
-abbrev pub DoneFrom : Answer → Question → List ℕ → Type 0
-DoneFrom a q bytes = (m : BaseMap) × (listing bytes ≡ Ok m) × IsDone q m a.text
-
--- the text tells the fault for which the file is refused
-abbrev pub TellsFault : Answer → Question → List ℕ → Type 0
-TellsFault a q bytes = (f : MapFault) × IsRefused q bytes f × (a.text ≡ fault_text f)
-
--- the step is above the number of steps
-abbrev pub TooHighFrom : Question → List ℕ → Type 0
-TooHighFrom q bytes = (m : BaseMap) × (listing bytes ≡ Ok m) × IsTooHigh q m
-
-pub record StatusSays (told : Option (List ℕ)) (rose : Type 0) (q : Question) (a : Answer) : Type 0 where
-  pub zero_says : a.status ≡ 0 → IfSome told (DoneFrom a q)
-  pub two_never : a.status ≡ 2 → ⊥
-  pub three_says : a.status ≡ 3 → rose
-  pub four_says : a.status ≡ 4 → IfSome told (TellsFault a q)
-  pub five_says : a.status ≡ 5 → IfSome told (TooHighFrom q)
-
-at_load_fault : (told : Option (List ℕ)) (rose : Type 0) (q : Question) (a : Answer) → a ≡ load_fault → rose → StatusSays told rose q a
-at_load_fault told rose q a e r =
-    let status : a.status ≡ 3 = ap status_of e in
-    record { zero_says = λ z. absurd (omega (arith, z, status)); two_never = λ z. omega (arith, z, status); three_says = λ _. r; four_says = λ z. absurd (omega (arith, z, status)); five_says = λ z. absurd (omega (arith, z, status)) }
-
-at_memory : (told : Option (List ℕ)) (rose : Type 0) (q : Question) (a : Answer) → a ≡ out_of_memory → StatusSays told rose q a
-at_memory told rose q a e =
-    let status : a.status ≡ 7 = ap status_of e in
-    record { zero_says = λ z. absurd (omega (arith, z, status)); two_never = λ z. omega (arith, z, status); three_says = λ z. absurd (omega (arith, z, status)); four_says = λ z. absurd (omega (arith, z, status)); five_says = λ z. absurd (omega (arith, z, status)) }
-
-at_refusal : (told : Option (List ℕ)) (rose : Type 0) (q : Question) (a : Answer) → a.status ≡ 4 → IfSome told (TellsFault a q) → StatusSays told rose q a
-at_refusal told rose q a status r =
-    record { zero_says = λ z. absurd (omega (arith, z, status)); two_never = λ z. omega (arith, z, status); three_says = λ z. absurd (omega (arith, z, status)); four_says = λ _. r; five_says = λ z. absurd (omega (arith, z, status)) }
-
-at_too_high : (told : Option (List ℕ)) (rose : Type 0) (q : Question) (a : Answer) → a.status ≡ 5 → IfSome told (TooHighFrom q) → StatusSays told rose q a
-at_too_high told rose q a status r =
-    record { zero_says = λ z. absurd (omega (arith, z, status)); two_never = λ z. omega (arith, z, status); three_says = λ z. absurd (omega (arith, z, status)); four_says = λ z. absurd (omega (arith, z, status)); five_says = λ _. r }
-
-at_done : (told : Option (List ℕ)) (rose : Type 0) (q : Question) (a : Answer) → a.status ≡ 0 → IfSome told (DoneFrom a q) → StatusSays told rose q a
-at_done told rose q a status r =
-    record { zero_says = λ _. r; two_never = λ z. omega (arith, z, status); three_says = λ z. absurd (omega (arith, z, status)); four_says = λ z. absurd (omega (arith, z, status)); five_says = λ z. absurd (omega (arith, z, status)) }
-
--- what holds of some bytes holds of those that are told
-at_told : (P : List ℕ → Type 0) (told : Option (List ℕ)) (bytes : List ℕ) → IfSome told (λ file. file ≡ bytes) → P bytes → IfSome told P
-at_told P None bytes e p = tt
-at_told P (Some file) bytes e p = subst P (sym e) p
-
-refused_when_long : (told : Option (List ℕ)) (q : Question) (a : Answer) → a ≡ input_long → IfSome told (λ file. MAX_MAP_BYTES < length file) → IfSome told (TellsFault a q)
-refused_when_long None q a e h = tt
-refused_when_long (Some file) q a e h = (InputLong MAX_MAP_BYTES, inl (h, refl), ap text_of e)
-
-from_bytes : (told : Option (List ℕ)) (rose : Type 0) (q : Question) (bytes : List ℕ) (a : Answer) → IfSome told (λ file. file ≡ bytes) → length bytes ≤ MAX_MAP_BYTES → a ≡ answer_from bytes q → StatusSays told rose q a
-from_bytes told rose q bytes a same fits e =
-    elim (subst (λ (b : Answer). FromFault bytes b ⊎ FromMap bytes q b) (sym e) (from_cases bytes q)) [
-      | inl bad ↦ at_refusal told rose q a (ap status_of bad.2) (at_told (TellsFault a q) told bytes same (bad.0, inr (fits, inl bad.1), ap text_of bad.2))
-      | inr read ↦ elim read.2 [
-        | inl done ↦ at_done told rose q a done.status (at_told (DoneFrom a q) told bytes same (read.0, read.1, done.done))
-        | inr (inl high) ↦ at_too_high told rose q a high.status (at_told (TooHighFrom q) told bytes same (read.0, read.1, high.high))
-        | inr (inr fails) ↦ at_refusal told rose q a (ap status_of fails.answer) (at_told (TellsFault a q) told bytes same (fails.fault, inr (fits, inr (read.0, read.1, fails.fails)), ap text_of fails.answer))
-      ]
-    ]
-
--- what the status of an answer to a command says
-pub status_says : (told : Option (List ℕ)) (rose : Type 0) (q : Question) (a : Answer) → AnswersCommand told rose q a → StatusSays told rose q a
-status_says told rose q a (inl fault) = at_load_fault told rose q a fault.0 fault.1
-status_says told rose q a (inr (inl memory)) = at_memory told rose q a memory
-status_says told rose q a (inr (inr (inl long))) = at_refusal told rose q a (ap status_of long.0) (refused_when_long told q a long.0 long.1)
-status_says told rose q a (inr (inr (inr read))) = from_bytes told rose q read.0 a read.1 read.2 read.3
-
--- ---- what each status of the program says
-
--- the words are no command, or a command that is answered
-pub words_cases : (words : List (List ℕ)) (told : List ℕ → Option (List ℕ)) (rose : Type 0) (a : Answer) (o : Option Command) → command words ≡ o → Answers words told rose a
-    → ((command words ≡ None) × (a.status ≡ 2)) ⊎ ((asked : Command) × (command words ≡ Some asked) × StatusSays (told asked.map) rose asked.question a)
-words_cases words told rose a None e h =
-    let u : a ≡ usage = rw e at h in
-    inl (e, ap status_of u)
-words_cases words told rose a (Some asked) e h =
-    let c : AnswersCommand (told asked.map) rose asked.question a = rw e at h in
-    inr (asked, e, status_says (told asked.map) rose asked.question a c)
-
--- a status below 6 is that of an answer that was put whole
-pub put_whole : (a : Answer) (old new : Option (List ℕ)) (before now status : ℕ) → Delivers a old new before now status → status ≢ 6 → (status ≡ a.status) × Appends old new a.text
-put_whole a old new before now status (inl whole) other = (whole.0, whole.1)
-put_whole a old new before now status (inr failed) other = absurd (other failed.0)
-
--- what was asked for is put
-abbrev pub PutsDone : Option (List ℕ) → Option (List ℕ) → Question → List ℕ → Type 0
-PutsDone old new q bytes = (m : BaseMap) × (listing bytes ≡ Ok m) × (text : List ℕ) × IsDone q m text × Appends old new text
-
-puts_done : (old new : Option (List ℕ)) (a : Answer) (q : Question) (told : Option (List ℕ)) → Appends old new a.text → IfSome told (DoneFrom a q) → IfSome told (PutsDone old new q)
-puts_done old new a q None puts h = tt
-puts_done old new a q (Some bytes) puts h = (h.0, h.1, a.text, h.2, puts)
-
--- the fault is put
-abbrev pub PutsFault : Option (List ℕ) → Option (List ℕ) → Question → List ℕ → Type 0
-PutsFault old new q bytes = (f : MapFault) × IsRefused q bytes f × Appends old new (fault_text f)
-
-puts_fault : (old new : Option (List ℕ)) (a : Answer) (q : Question) (told : Option (List ℕ)) → Appends old new a.text → IfSome told (TellsFault a q) → IfSome told (PutsFault old new q)
-puts_fault old new a q None puts h = tt
-puts_fault old new a q (Some bytes) puts h = (h.0, h.1, subst (λ (text : List ℕ). Appends old new text) h.2 puts)
-
--- an answer to these words, put with this status
-module _ (words : List (List ℕ)) (told : List ℕ → Option (List ℕ)) (rose : Type 0) (a : Answer) (old new : Option (List ℕ)) (before now status : ℕ)
-    (answers : Answers words told rose a) (delivers : Delivers a old new before now status) where
-  cases : ((command words ≡ None) × (a.status ≡ 2)) ⊎ ((asked : Command) × (command words ≡ Some asked) × StatusSays (told asked.map) rose asked.question a)
-  cases = words_cases words told rose a (command words) refl answers
-
-  -- a status below 6 is the answer's
-  status_is : (n : ℕ) → n < 6 → status ≡ n → a.status ≡ n
-  status_is n low e = sym (put_whole a old new before now status delivers (λ six. omega (arith, e, six))).0 ∙ e
-
-  pub zero_says : status ≡ 0 → (asked : Command) × (command words ≡ Some asked) × IfSome (told asked.map) (PutsDone old new asked.question)
-  zero_says e =
-      let zero = status_is 0 (omega arith) e in
-      let whole = put_whole a old new before now status delivers (λ six. omega (arith, e, six)) in
+  -- what an outcome of this form says of the files, where it is none of words, loads or memory
+  puts : {A : Type 0} (make : A → Outcome) (n : ℕ) (x : A) → p.outcome ≡ make x → status ≡ n → n < 6 → n ≢ 2 → n ≢ 3
+      → PutsAnswer words told old new make
+  puts make n x e s low not_two not_three =
+      let is = status_is n low s in
       elim cases [
-        | inl none ↦ absurd (omega (arith, none.1, zero))
-        | inr asked ↦ (asked.0, asked.1, puts_done old new a asked.0.question (told asked.0.map) whole.1 (asked.2.zero_says zero))
+        | inl none ↦ absurd (not_two (sym is ∙ ap status_of none.1))
+        | inr (c, asked, inl load) ↦ absurd (not_three (sym is ∙ ap status_of load.2))
+        | inr (c, asked, inr (inl memory)) ↦ absurd (omega (arith, low, sym is ∙ ap status_of memory))
+        | inr (c, asked, inr (inr held)) ↦
+            (c, asked, (held.0, held.1, (x, subst (λ (o : Outcome). Says c held.0 o) e held.2,
+            subst (λ (o : Outcome). Appends old new (text_of o)) e (whole (λ six. omega (arith, s, six))).1)))
       ]
+
+  pub zero_says : status ≡ 0 → PutsAnswer words told old new Done
+  zero_says e =
+      let d = done_status p.outcome (status_is 0 (omega arith) e) in
+      puts Done 0 d.0 d.1 e (omega arith) (λ t. omega (arith, t)) (λ t. omega (arith, t))
 
   pub two_says : status ≡ 2 → command words ≡ None
-  two_says e = elim cases [ inl none ↦ none.0 | inr asked ↦ absurd (asked.2.two_never (status_is 2 (omega arith) e)) ]
+  two_says e =
+      let is = status_is 2 (omega arith) e in
+      elim cases [
+        | inl none ↦ none.0
+        | inr (c, asked, inl load) ↦ absurd (omega (arith, is, ap status_of load.2))
+        | inr (c, asked, inr (inl memory)) ↦ absurd (omega (arith, is, ap status_of memory))
+        | inr (c, asked, inr (inr held)) ↦ absurd (usage_apart p.outcome is held.4)
+      ]
 
-  pub three_says : status ≡ 3 → rose
-  three_says e =
-      let three = status_is 3 (omega arith) e in
-      elim cases [ inl none ↦ absurd (omega (arith, none.1, three)) | inr asked ↦ asked.2.three_says three ]
-
-  pub four_says : status ≡ 4 → (asked : Command) × (command words ≡ Some asked) × IfSome (told asked.map) (PutsFault old new asked.question)
+  pub four_says : status ≡ 4 → PutsAnswer words told old new Refused
   four_says e =
-      let four = status_is 4 (omega arith) e in
-      let whole = put_whole a old new before now status delivers (λ six. omega (arith, e, six)) in
-      elim cases [ inl none ↦ absurd (omega (arith, none.1, four)) | inr asked ↦ (asked.0, asked.1, puts_fault old new a asked.0.question (told asked.0.map) whole.1 (asked.2.four_says four)) ]
+      let d = refused_status p.outcome (status_is 4 (omega arith) e) in
+      puts Refused 4 d.0 d.1 e (omega arith) (λ t. omega (arith, t)) (λ t. omega (arith, t))
 
-  pub five_says : status ≡ 5 → (asked : Command) × (command words ≡ Some asked) × IfSome (told asked.map) (TooHighFrom asked.question)
-  five_says e =
-      let five = status_is 5 (omega arith) e in
-      elim cases [ inl none ↦ absurd (omega (arith, none.1, five)) | inr asked ↦ (asked.0, asked.1, asked.2.five_says five) ]
+  pub five_says : status ≡ 5 → PutsAnswer words told old new StepTooHigh ⊎ PutsAnswer words told old new not_coarser
+  five_says e = elim (above_status p.outcome (status_is 5 (omega arith) e)) [
+    | inl d ↦ inl (puts StepTooHigh 5 d.0 d.1 e (omega arith) (λ t. omega (arith, t)) (λ t. omega (arith, t)))
+    | inr d ↦ inr (puts not_coarser 5 d.0 d.1 e (omega arith) (λ t. omega (arith, t)) (λ t. omega (arith, t)))
+  ]
+
+  pub none_says : command words ≡ None → (status ≡ 2) ⊎ (status ≡ 6)
+  none_says e = elim p.delivers [
+    | inr d ↦ inr d.0
+    | inl d ↦ elim cases [
+      | inl none ↦ inl (d.0 ∙ ap status_of none.1)
+      | inr some ↦ absurd (let clash : None ≡ Some some.0 = sym e ∙ some.1 in cc)
+    ]
+  ]
+
+  pub three_says : status ≡ 3 → (c : Command) × (command words ≡ Some c)
+      × ((n : FileName) × Contains (files_of c) n × rose n.which × Appends old new (load_fault_text n.which))
+  three_says e =
+      let is = status_is 3 (omega arith) e in
+      elim cases [
+        | inl none ↦ absurd (omega (arith, is, ap status_of none.1))
+        | inr (c, asked, inl load) ↦
+            (c, asked, (load.0, load.1, load.3, subst (λ (o : Outcome). Appends old new (text_of o)) load.2 (whole (λ six. omega (arith, e, six))).1))
+        | inr (c, asked, inr (inl memory)) ↦ absurd (omega (arith, is, ap status_of memory))
+        | inr (c, asked, inr (inr held)) ↦ absurd ((files_status p.outcome held.4).0 is)
+      ]
+
+  pub missing_says : (c : Command) → command words ≡ Some c → MissesOne told (files_of c) → (status ≡ 3) ⊎ ((status ≡ 6) ⊎ (status ≡ 7))
+  missing_says c asked missing = elim p.delivers [
+    | inr d ↦ inr (inl d.0)
+    | inl d ↦ elim cases [
+      | inl none ↦ absurd (let clash : None ≡ Some c = sym none.0 ∙ asked in cc)
+      | inr (b, found, inl load) ↦ inl (d.0 ∙ ap status_of load.2)
+      | inr (b, found, inr (inl memory)) ↦ inr (inr (d.0 ∙ ap status_of memory))
+      | inr (b, found, inr (inr held)) ↦
+          (let same : Some c ≡ Some b = sym asked ∙ found in
+          let one : c ≡ b = cc in
+          absurd (none_held told (files_of b) held.0 (subst (λ (a : Command). MissesOne told (files_of a)) one missing) held.1))
+    ]
+  ]
+
+  pub exact_says : (c : Command) → command words ≡ Some c → status ≢ 3 → status ≢ 6 → status ≢ 7
+      → (files : Contents) × MayHold told (files_of c) files × ((status ≡ status_of (outcome_of c files)) × Appends old new (text_of (outcome_of c files)))
+  exact_says c asked not_three not_six not_seven =
+      let w = whole not_six in
+      elim cases [
+        | inl none ↦ absurd (let clash : None ≡ Some c = sym none.0 ∙ asked in cc)
+        | inr (b, found, inl load) ↦ absurd (not_three (w.0 ∙ ap status_of load.2))
+        | inr (b, found, inr (inl memory)) ↦ absurd (not_seven (w.0 ∙ ap status_of memory))
+        | inr (b, found, inr (inr held)) ↦
+            (let same : Some c ≡ Some b = sym asked ∙ found in
+            let one : b ≡ c = cc in
+            subst (λ (a : Command). (files : Contents) × MayHold told (files_of a) files
+            × ((status ≡ status_of (outcome_of a files)) × Appends old new (text_of (outcome_of a files)))) one
+            (held.0, held.1, (w.0 ∙ ap status_of held.3, subst (λ (o : Outcome). Appends old new (text_of o)) held.3 w.1)))
+      ]
+
+  pub counts_say : status ≢ 3 → status ≢ 6 → (kind : Which) → now kind ≡ before kind
+  counts_say not_three not_six kind = elim (p.counts kind) [
+    | inl same ↦ same
+    | inr failed ↦ absurd (not_three ((whole not_six).0 ∙ ap status_of failed.3))
+  ]
+
+  pub kinds_say : (kind : Which) → LeavesKind (files_for (command words)) kind → now kind ≡ before kind
+  kinds_say kind leaves = elim (p.counts kind) [ inl same ↦ same | inr failed ↦ absurd (leaves failed.0 failed.1 failed.2) ]
+
+  pub answered_says : (o : Outcome) × Answers words told rose o × Delivers o old new sunk sinks status
+  answered_says = (p.outcome, p.answers, p.delivers)
+
+  pub six_says : status ≡ 6 → Rises sunk sinks
+  six_says e = elim p.delivers [ inr d ↦ d.2 | inl d ↦ absurd (six_apart p.outcome (sym d.0 ∙ e)) ]
+
+  pub sink_stays : status ≢ 6 → sinks ≡ sunk
+  sink_stays other = elim p.delivers [ inl d ↦ d.2 | inr d ↦ absurd (other d.0) ]

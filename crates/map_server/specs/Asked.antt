@@ -1,16 +1,17 @@
--- What the words of a command line ask for, by its bytes.
+-- The commands of the code as those of the definitions.
 use Rattle.std.specs.Prelude.{Option, option_map}
+use Rattle.map_server.specs.declared.command.Source.{Source}
+use Rattle.map_server.specs.declared.command.Source.TheVariants.{Listing}
 use Rattle.map_server.specs.declared.command.Command.{Command}
-use Rattle.map_server.specs.declared.command.Question.{Question}
-use Rattle.map_server.specs.declared.command.Question.TheVariants.{Borders, Check}
-use Rattle.tgap_model.specs.Command as command
+use Rattle.map_server.specs.declared.command.Command.TheVariants.{Borders, Check}
+use Rattle.map_server.specs.Command as spec
 
-abbrev pub question_of : Question → command.Question
-question_of (Borders step) = command.Borders step
-question_of Check = command.Check
+abbrev pub source_of : Source → spec.Source
+source_of (Listing name) = spec.Listing name.now
 
-abbrev pub asks : Option Question → Option command.Question
-asks q = option_map question_of q
+abbrev pub command_of : Command → spec.Command
+command_of (Borders source step) = spec.Borders (source_of source) step
+command_of (Check source) = spec.Check (source_of source)
 
-abbrev pub asked : Option Command → Option command.Command
-asked c = option_map (λ b. record { map = b.map.now; question = question_of b.question }) c
+abbrev pub asked : Option Command → Option spec.Command
+asked command = option_map command_of command

@@ -1,17 +1,21 @@
--- How an answer is put out.
+-- How an outcome is put out.
 use Rattle.std.specs.Prelude.{◌≡◌, ◌⊎◌, ℕ, List, Option}
 use Rattle.plain_io.specs.Faults.{Rises}
 use Rattle.plain_io.specs.Puts.{Appends, AppendsFront}
-use Rattle.tgap_model.specs.Command.{Answer}
+use Rattle.map_server.specs.declared.outcome.Outcome.{Outcome}
+use Rattle.map_server.specs.Outcomes.{status_of, text_of}
 
--- Either the whole text is put, and the status is the answer's; or the put fails, the count of faults rises, a front of
--- the text is put, and the status is 6.
-abbrev pub Delivers : Answer → Option (List ℕ) → Option (List ℕ) → ℕ → ℕ → ℕ → Type 0
-Delivers answer old new before now status =
-    ((status ≡ answer.status) × Appends old new answer.text × (now ≡ before))
-    ⊎ ((status ≡ 6) × AppendsFront old new answer.text × Rises before now)
+-- Either the whole text is put, at once, and the status is its own; or the put fails, the count of faults rises, a front of the
+-- text is put, and the status is 6.
+abbrev pub DeliversText : List ℕ → ℕ → Option (List ℕ) → Option (List ℕ) → ℕ → ℕ → ℕ → Type 0
+DeliversText text own old new before now status =
+    ((status ≡ own) × Appends old new text × (now ≡ before)) ⊎ ((status ≡ 6) × AppendsFront old new text × Rises before now)
 
--- the answer is put whole, or the load, the put or memory failed
-abbrev pub GivesAnswer : Answer → Option (List ℕ) → Option (List ℕ) → ℕ → Type 0
-GivesAnswer answer old new status =
-    ((status ≡ answer.status) × Appends old new answer.text) ⊎ ((status ≡ 3) ⊎ ((status ≡ 6) ⊎ (status ≡ 7)))
+-- the same of the text of an outcome
+abbrev pub Delivers : Outcome → Option (List ℕ) → Option (List ℕ) → ℕ → ℕ → ℕ → Type 0
+Delivers outcome = DeliversText (text_of outcome) (status_of outcome)
+
+-- the outcome is put whole, or a load, the put or memory failed
+abbrev pub GivesOutcome : Outcome → Option (List ℕ) → Option (List ℕ) → ℕ → Type 0
+GivesOutcome outcome old new status =
+    ((status ≡ status_of outcome) × Appends old new (text_of outcome)) ⊎ ((status ≡ 3) ⊎ ((status ≡ 6) ⊎ (status ≡ 7)))

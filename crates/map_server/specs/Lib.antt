@@ -1,3 +1,9 @@
-pub mod Asked
-pub mod Answered
+pub mod Outcomes
 pub mod Delivery
+pub mod Command
+pub mod Asked
+pub mod MapFile
+pub mod Borders
+pub mod Check
+pub mod Commands
+pub mod Answers

@@ -1,73 +1,68 @@
-//! The borders that are left after some steps of the history.
+//! The command that tells the borders of a map after a step of its history.
 
-ghost use Rattle.std.specs.Prelude.{◌≡◌, ◌≤◌, ◌<◌, ◌+◌, ◌^◌, ℕ, length, slice_index, All, IfOk};
-ghost use Rattle.tgap_model.specs.History.{AreNumbered, label_after};
-ghost use Rattle.tgap_model.specs.Border.{border_by};
+ghost use Rattle.std.specs.Prelude.{◌≡◌, ◌⊎◌, string_bytes, map};
+ghost use Rattle.plain_io.specs.Faults.{Rose};
+ghost use Rattle.map_server.specs.declared.outcome.Outcome.TheVariants as outcome;
+ghost use Rattle.map_server.specs.Outcomes.{IsOfFiles};
+ghost use Rattle.map_server.specs.Command as spec;
+ghost use Rattle.map_server.specs.MapFile.{files_of_map};
+ghost use Rattle.map_server.specs.Asked.{asked, source_of};
+ghost use Rattle.map_server.specs.Answers.{AnswersCommand, KeepCounts, outcome_from};
+ghost use Rattle.map_server.specs.Borders.{borders_command, SaysBorders, borders_outcome};
 
+use crate::border_rows::border_rows;
+use crate::command::{Command, Source};
+use crate::load::load_map;
+use crate::outcome::Outcome;
+use face_merge::history;
+use plain_io::{Files, read_number};
 use std::alloc::Global;
-use tgap_model::{Base, BaseArc, BorderRow, List, Memory, MergeStep};
+use tgap_model::{Base, Text};
+use wire_text::borders_text;
 
-/// The arcs of a base map that are borders after these steps, with the faces at their sides.
-pub fn border_rows(
+/// The command of these words after its name.
+pub fn parse(words: &[String]) -> Option<Command<'_>>
+    ensures { asked result ≡ borders_command (map string_bytes words.now) }
+{
+    let [map, step] = words else {
+        return None;
+    };
+    let step = read_number(step.as_bytes(), 0, i64::from(u32::MAX))?;
+    Some(Command::Borders {
+        map: Source::Listing(map.as_str()),
+        step: step as u32,
+    })
+}
+
+/// The borders text of the map after this step, or what comes in its place.
+pub fn answer<F: Files>(
     alloc: Global,
-    base: &Base,
-    steps: &[MergeStep],
-) -> Result<List<BorderRow>, Memory>
-    requires numbered { AreNumbered (length base.now.classes) steps.now }
-    requires few { length steps.now ≤ length base.now.arcs }
-    ensures { IfOk result (λ rows. rows ≡ border_by (label_after steps.now) 0 base.now.arcs) }
+    map: Source<'_>,
+    step: u32,
+    files: &mut F,
+) -> Result<Text, Outcome>
+    ensures answers { AnswersCommand (spec.Borders (source_of map) step) (F.told files.old)
+        (λ kind. Rose (F.faults files.old kind) (F.faults files.new kind)) (outcome_from result) }
+    ensures counts { KeepCounts (files_of_map (source_of map)) (F.faults files.old) (F.faults files.new)
+        (λ kind. outcome_from result ≡ outcome.LoadFault kind) }
 {
-    let labels = labels_after(alloc, base.classes().len(), steps)?;
-    rows_of(alloc, base.arcs().as_slice(), labels.as_slice())
+    let base = load_map(alloc, map, files)?;
+    borders_of(alloc, &base, step)
 }
 
-/// The label of each face after these steps: that of face f stands at place f, and 0 is the outside. It goes back from
-/// the last step, so that each label is looked up once a step.
-fn labels_after(alloc: Global, faces: usize, steps: &[MergeStep]) -> Result<Vec<u32>, Memory>
-    requires numbered { AreNumbered faces steps.now }
-    requires small { faces + length steps.now + 1 < 2 ^ 32 }
-    ensures length { IfOk result (λ labels. length labels.items ≡ faces + length steps.now + 1) }
-    ensures labels { IfOk result (λ labels. (f : ℕ) → f ≤ faces → slice_index labels.items f ≡ label_after steps.now f) }
+/// The borders text of a base map after this step; or the step is above the last one.
+#[tactic(auto, unfolding(crate::specs::Borders::borders_outcome))]
+fn borders_of(alloc: Global, base: &Base, step: u32) -> Result<Text, Outcome>
+    ensures { (outcome_from result ≡ outcome.OutOfMemory)
+        ⊎ (SaysBorders step base.now (outcome_from result) × (outcome_from result ≡ borders_outcome step base.now) × IsOfFiles (outcome_from result)) }
 {
-    let mut labels = numbers_below(alloc, (faces + steps.len() + 1) as u32)?;
-    for i in (0..steps.len()).rev() {
-        let step = steps[i];
-        let label = labels[step.made as usize];
-        labels[step.loser as usize] = label;
-        labels[step.winner as usize] = label;
+    let steps = history(alloc, base)?;
+    let steps = steps.as_slice();
+    if step as usize > steps.len() {
+        return Err(Outcome::StepTooHigh {
+            steps: steps.len() as u32,
+        });
     }
-    Ok(labels)
-}
-
-/// The numbers from 0 to below this one.
-fn numbers_below(alloc: Global, end: u32) -> Result<Vec<u32>, Memory>
-    ensures length { IfOk result (λ numbers. length numbers.items ≡ end) }
-    ensures numbers { IfOk result (λ numbers. (k : ℕ) → k < end → slice_index numbers.items k ≡ k) }
-{
-    let mut numbers = Vec::new(alloc);
-    for n in 0..end {
-        numbers.push(n)?;
-    }
-    Ok(numbers)
-}
-
-/// The arcs whose sides have different labels.
-fn rows_of(alloc: Global, arcs: &[BaseArc], labels: &[u32]) -> Result<List<BorderRow>, Memory>
-    requires labelled { All (λ a. (a.left < length labels.now) × (a.right < length labels.now)) arcs.now }
-    requires few { length arcs.now < 2 ^ 32 }
-    ensures { IfOk result (λ rows. rows ≡ border_by (slice_index labels.now) 0 arcs.now) }
-{
-    let mut rows = List::new(alloc);
-    for (i, arc) in arcs.iter().enumerate() {
-        let left = labels[arc.left as usize];
-        let right = labels[arc.right as usize];
-        if left != right {
-            rows.push(BorderRow {
-                arc: i as u32,
-                left,
-                right,
-            })?;
-        }
-    }
-    Ok(rows)
+    let rows = border_rows(alloc, base, &steps[..step as usize])?;
+    Ok(borders_text(alloc, step, &rows)?)
 }

@@ -1,53 +1,40 @@
-//! What the words of a command line ask for.
+//! The commands, and the words that ask for them.
 
 ghost use Rattle.std.specs.Prelude.{◌≡◌, string_bytes, map};
-ghost use Rattle.tgap_model.specs.Command.{command, question};
-ghost use Rattle.map_server.specs.Asked.{asked, asks, question_of};
+ghost use Rattle.map_server.specs.Commands.{command};
+ghost use Rattle.map_server.specs.Asked.{asked};
 
-use plain_io::read_number;
+use crate::{borders, check};
 
-/// What is asked about a map.
+/// Where a map is read from.
 #[derive(Clone, Copy, Drop)]
-pub enum Question {
-    /// Its borders after this step of its history.
-    Borders { step: u32 },
-    /// Whether it is sound.
-    Check,
+pub enum Source<'a> {
+    /// The listing in the file of this name.
+    Listing(&'a str),
 }
 
-/// A file with a map, and the question.
-#[derive(Drop)]
-pub struct Command<'a> {
-    pub map: &'a str,
-    pub question: Question,
+/// What is asked for.
+#[derive(Clone, Copy, Drop)]
+pub enum Command<'a> {
+    /// The borders of a map after this step of its history.
+    Borders { map: Source<'a>, step: u32 },
+    /// Whether a map is a planar partition.
+    Check { map: Source<'a> },
 }
 
-/// The command that the words are, or none.
-#[tactic(auto, unfolding(tgap_model::specs::Command::command))]
+/// The command that the words are, or None where they are none.
+#[tactic(auto, unfolding(crate::specs::Commands::command))]
 pub fn parse_command(words: &[String]) -> Option<Command<'_>>
     ensures { asked result ≡ command (map string_bytes words.now) }
 {
-    let [name, map, words @ ..] = words else {
+    let [name, words @ ..] = words else {
         return None;
     };
-    let question = parse_question(name.as_str(), words)?;
-    Some(Command {
-        map: map.as_str(),
-        question,
-    })
-}
-
-/// The question of a command with this name and these words after the map.
-#[tactic(auto, unfolding(tgap_model::specs::Command::question))]
-fn parse_question(name: &str, words: &[String]) -> Option<Question>
-    ensures { asks result ≡ question name.now (map string_bytes words.now) }
-{
-    match words {
-        [] => (name == "check").then_some(Question::Check),
-        [step] if name == "borders" => {
-            let step = read_number(step.as_bytes(), 0, i64::from(u32::MAX))?;
-            Some(Question::Borders { step: step as u32 })
-        }
-        _ => None,
+    if name == "borders" {
+        borders::parse(words)
+    } else if name == "check" {
+        check::parse(words)
+    } else {
+        None
     }
 }

@@ -2,14 +2,17 @@
 //! `run`; `main` hands it the real files and the standard output. It stands on all other crates.
 #![tactic(auto)]
 
-mod answer;
+mod border_rows;
 mod borders;
+mod check;
 mod command;
+mod load;
+mod outcome;
 mod run;
 #[cfg(test)]
 mod tests;
-mod text;
 
+use outcome::Outcome;
 use plain_io::{HostFiles, HostSink};
 pub use run::run;
 use std::alloc::Global;
@@ -23,7 +26,7 @@ fn main(rt: HostRuntime) -> ExitCode {
     let mut out = HostSink::new(io::writer(&rt));
     let status = match words(&rt, rt.alloc()) {
         Ok(words) => run(&rt, rt.alloc(), words.as_slice(), &mut files, &mut out),
-        Err(Memory) => answer::Answer::OutOfMemory.put(&mut out),
+        Err(Memory) => Outcome::OutOfMemory.put(rt.alloc(), &mut out),
     };
     ExitCode::from(status)
 }

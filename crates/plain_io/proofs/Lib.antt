@@ -5,3 +5,4 @@ pub mod Rows
 pub mod LineEnds
 pub mod Steps
 pub mod Fields
+pub mod Loops

@@ -17,12 +17,11 @@ line_taken n piece [] some = absurd (some refl)
 line_taken n piece (next ∷ rest) some = refl
 
 -- the same of the lines with their number
-pub next_line_taken : (lines : Lines) (n next : ℕ) (pieces rest : List (List ℕ)) (piece : List ℕ) (words : Row) (done : Bool)
-    → record { number = n; rows = rows pieces } ≡ lines → pieces ≡ piece ∷ rest → (rest ≡ [] → done ≡ true) → done ≡ false
+pub next_line_taken : (lines : Lines) (n next : ℕ) (pieces rest : List (List ℕ)) (piece : List ℕ) (words : Row)
+    → record { number = n; rows = rows pieces } ≡ lines → (pieces ≡ piece ∷ rest) × (rest ≢ [])
     → words ≡ slice_split (λ b. eqb b 32) piece → next ≡ next_number n → line_at lines ≡ Some (words, record { number = next; rows = rows rest })
-next_line_taken lines n next pieces rest piece words done view cut ends more spelled counted =
-    let some : rest ≢ [] = λ none. let yes = ends none in cc in
-    sym (ap line_at view) ∙ ap (λ p. whole_line n (rows p)) cut ∙ line_taken n piece rest some
+next_line_taken lines n next pieces rest piece words view ended spelled counted =
+    sym (ap line_at view) ∙ ap (λ p. whole_line n (rows p)) ended.0 ∙ line_taken n piece rest ended.1
     ∙ ap (λ w. Some (w, record { number = next_number n; rows = rows rest })) (sym spelled)
     ∙ ap (λ m. Some (words, record { number = m; rows = rows rest })) (sym counted)
 
@@ -31,7 +30,7 @@ pub uncut_empty : (separator : ℕ) (bytes : List ℕ) → slice_split (λ b. eq
 uncut_empty separator bytes e = sym (join_with_byte-slice_split separator bytes) ∙ ap (join_with_byte separator) e
 
 -- there is a first piece, be it empty
-some_piece : (separator : ℕ) (bytes : List ℕ) → slice_split (λ b. eqb b separator) bytes ≡ [] → ⊥
+pub some_piece : (separator : ℕ) (bytes : List ℕ) → slice_split (λ b. eqb b separator) bytes ≡ [] → ⊥
 some_piece separator bytes none =
     let empty : bytes ≡ [] = sym (join_with_byte-slice_split separator bytes) ∙ ap (join_with_byte separator) none in
     let one : [] ∷ [] ≡ slice_split (λ b. eqb b separator) bytes = ap (slice_split (λ b. eqb b separator)) (sym empty) in

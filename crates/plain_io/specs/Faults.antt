@@ -1,11 +1,10 @@
--- Counts of faults: a call that answers a failure raises the count of its object, and no other call changes it.
-use Rattle.std.specs.Prelude.{ℕ, ◌+◌, ◌-◌, ◌^◌, ◌≤◌, min}
+-- Counts of faults: a call that answers a failure raises the count of its object by one, and no other call changes it.
+use Rattle.std.specs.Prelude.{◌≡◌, ℕ, ◌+◌, ◌-◌, ◌^◌, ◌≤◌, min}
 
--- A count has risen. One that stands at its type's end counts as risen.
+-- a count after one failure: one more, or the end of its type
+abbrev pub Rises : ℕ → ℕ → Type 0
+Rises before now = now ≡ min (before + 1) (2 ^ 64 - 1)
+
+-- A count after some calls of which one failed. One that stands at its type's end counts as risen.
 abbrev pub Rose : ℕ → ℕ → Type 0
 Rose before now = min (before + 1) (2 ^ 64 - 1) ≤ now
-
--- a count after a failure: it never falls, and it rose
-pub record Rises (before now : ℕ) : Type 0 where
-  pub never_falls : before ≤ now
-  pub rose : Rose before now

@@ -1,8 +1,10 @@
 pub mod Faults
+pub mod Calls
 pub mod Loads
 pub mod Puts
 pub mod Held
 pub mod Rest
 pub mod Pieces
 pub mod Taking
+pub mod Fronts
 pub mod Fields

@@ -1,14 +1,32 @@
--- What a load of a file answers, and what it does to the counts of faults.
-use Rattle.std.specs.Prelude.{◌≡◌, ◌≢◌, ℕ, ◌<◌, ◌≤◌, List, length, Option, Result, Ok, Err, IfSome, ⊤}
+-- What files tell of their bytes, what a load of a file answers, and what it does to the counts of faults.
+use Rattle.std.specs.Prelude.{◌≡◌, ◌≢◌, ℕ, ◌<◌, ◌≤◌, List, length, Result, Ok, Err, ⊤}
 use Rattle.plain_io.specs.declared.files.Which.{Which}
 use Rattle.plain_io.specs.declared.files.LoadFail.{LoadFail}
 use Rattle.plain_io.specs.declared.files.LoadFail.TheVariants.{Failed, TooLong, Memory}
 use Rattle.plain_io.specs.Faults.{Rises}
 
--- A load of a file with these bytes, where they are told: all of them, at most max; or that there are more than max.
-abbrev pub Loads : Option (List ℕ) → ℕ → Result (List ℕ) LoadFail → Type 0
-Loads told max (Ok text) = (length text ≤ max) × IfSome told (λ bytes. text ≡ bytes)
-Loads told max (Err (TooLong limit)) = (limit ≡ max) × IfSome told (λ bytes. max < length bytes)
+-- what is told of the file of a name: nothing, that there is none, or its bytes
+pub data Told : Type 0 where
+  Untold : Told
+  Missing : Told
+  Holds : List ℕ → Told
+
+-- a fact about the bytes, where they are told
+abbrev pub IfHolds : Told → (List ℕ → Type 0) → Type 0
+IfHolds Untold P = ⊤
+IfHolds Missing P = ⊤
+IfHolds (Holds bytes) P = P bytes
+
+-- a fact about the bytes of a file that is there: none where it is told that there is no file
+abbrev pub OfFile : Told → (List ℕ → Type 0) → Type 0
+OfFile Untold P = ⊤
+OfFile Missing P = ⊥
+OfFile (Holds bytes) P = P bytes
+
+-- A load of a file of which this is told: all its bytes, at most max; or that there are more than max.
+abbrev pub Loads : Told → ℕ → Result (List ℕ) LoadFail → Type 0
+Loads told max (Ok text) = (length text ≤ max) × OfFile told (λ bytes. text ≡ bytes)
+Loads told max (Err (TooLong limit)) = (limit ≡ max) × OfFile told (λ bytes. max < length bytes)
 Loads told max (Err Failed) = ⊤
 Loads told max (Err Memory) = ⊤
 

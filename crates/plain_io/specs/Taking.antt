@@ -9,15 +9,20 @@ use Rattle.tgap_model.specs.Words.{Row}
 abbrev pub rows : List (List ℕ) → List Row
 rows lines = map (slice_split (λ b. b == 32)) lines
 
--- what a step took and what it left, or that there is nothing of its form
-abbrev pub Takes : {A S : Type 0} → Option A → S → Option (A × S) → Type 0
-Takes (Some x) rest read = read ≡ Some (x, rest)
-Takes None rest read = read ≡ None
+-- What a step took and what it left; or that there is nothing of its form, and all stays.
+abbrev pub Takes : {A S : Type 0} → Option A → S → S → Option (A × S) → Type 0
+Takes (Some x) before rest read = read ≡ Some (x, rest)
+Takes None before rest read = (read ≡ None) × (rest ≡ before)
 
 -- the same for a step that only leaves
-abbrev pub Skips : {A S : Type 0} → Option A → S → Option S → Type 0
-Skips (Some x) rest read = read ≡ Some rest
-Skips None rest read = read ≡ None
+abbrev pub Skips : {A S : Type 0} → Option A → S → S → Option S → Type 0
+Skips (Some x) before rest read = read ≡ Some rest
+Skips None before rest read = (read ≡ None) × (rest ≡ before)
+
+-- What some steps took and what they left; or that there is nothing of their form. Then nothing is said of what is left.
+abbrev pub Reads : {A S : Type 0} → Option A → S → Option (A × S) → Type 0
+Reads (Some x) rest read = read ≡ Some (x, rest)
+Reads None rest read = read ≡ None
 
 -- the fault that is read; want of memory says nothing
 abbrev pub Refuses : {X F : Type 0} → Or F → Result X F → Type 0

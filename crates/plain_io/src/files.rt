@@ -1,10 +1,17 @@
 //! The files of a program.
 
-ghost use Rattle.std.specs.Prelude.{◌≡◌, ℕ, List, Option};
+ghost use Rattle.std.specs.Prelude.{◌≡◌, ◌≢◌, ℕ, List, Err};
 ghost use Rattle.plain_io.specs.Faults.{Rises};
-ghost use Rattle.plain_io.specs.Loads.{Loads, CountsLoad, OthersStay};
+ghost use Rattle.plain_io.specs.Loads.{Told, Holds, Loads, CountsLoad, OthersStay};
 
+mod host;
+mod memory;
+mod sure;
+
+pub use host::HostFiles;
+pub use memory::{MemoryFile, MemoryFiles};
 use std::alloc::Global;
+pub use sure::{FileTexts, SureFiles};
 use tgap_model::Text;
 
 /// What a file is loaded as.
@@ -31,8 +38,8 @@ pub enum LoadFail {
 pub trait Files {
     ghost use Rattle.plain_io.specs.declared.files.Which.{Which};
 
-    /// The bytes of the file that a load of this kind and name reads, where they are told.
-    ghost told: { Self → Which → List ℕ → Option (List ℕ) };
+    /// What is told of the file that a load of this kind and name reads.
+    ghost told: { Self → Which → List ℕ → Told };
 
     /// How often a load of this kind has failed.
     ghost faults: { Self → Which → ℕ };
@@ -81,4 +88,15 @@ impl FaultCounts {
             Which::Packet => self.packet = self.packet.saturating_add(1),
         }
     }
+}
+
+/// A copy of the bytes, where they are at most `max`.
+fn copy(alloc: Global, bytes: &[u8], max: u64) -> Result<Text, LoadFail>
+    ensures bytes { Loads (Holds bytes.now) max result }
+    ensures fault { result ≢ Err LoadFail.Failed }
+{
+    if bytes.len() as u64 > max {
+        return Err(LoadFail::TooLong { max });
+    }
+    Text::from_slice(alloc, bytes).map_err(|_| LoadFail::Memory)
 }

@@ -3,6 +3,14 @@
 ghost use Rattle.std.specs.Prelude.{ℕ, List, Option};
 ghost use Rattle.plain_io.specs.Puts.{Puts, CountsPut};
 
+mod host;
+mod memory;
+mod sure;
+
+pub use host::HostSink;
+pub use memory::MemorySink;
+pub use sure::SureSink;
+
 /// A fault of the outside.
 #[derive(Clone, Copy, Debug, PartialEq, Eq)]
 pub struct Failed;

@@ -9,7 +9,7 @@ use Rattle.tgap_model.specs.declared.segment.LabelledSegment.{LabelledSegment}
 use Rattle.tgap_model.specs.Base.{in_limits, same_point}
 use Rattle.tgap_model.specs.Segment.{is_on, lies_between, cross_at}
 use Rattle.tgap_model.specs.Partition.{is_proper, shared_ends, meeting_point}
-use Rattle.map_laws.proofs.ChainEnds.{same_point-from}
+use Rattle.tgap_model.proofs.Points.{same_point-from}
 use Rattle.grid_geo.proofs.CommonPoint.{common_point_found}
 
 -- a number between two others is at most one of them, and at least one of them

@@ -1,58 +1,26 @@
 -- The stack of the segments that have begun: what enters it, what leaves it, and that it is the stack of the line one half beyond.
-use Rattle.std.proofs.Common.{◌≡◌, ◌⊎◌, inl, inr, ⊎_elim, ℕ, ◌+◌, ◌-◌, ◌<◌, ◌≤◌, Bool, true, false, cond, ◌||◌, List, [], ◌∷◌, ◌++◌, length, take, drop, filter, get_or, All, AllPairs, Contains, ℤ, pos, ◌<ℤ◌, ◌≤ℤ◌, int_lt, refl, sym, ap, ◌∙◌, subst, true≢false, not, arith}
+use Rattle.std.proofs.Common.{◌≡◌, ◌⊎◌, inl, inr, ⊎_elim, ℕ, ◌+◌, ◌<◌, Bool, true, false, cond, ◌||◌, List, [], ◌∷◌, ◌++◌, length, take, drop, filter, get_or, All, AllPairs, Contains, ℤ, pos, ◌<ℤ◌, ◌≤ℤ◌, int_lt, refl, sym, ap, ◌∙◌, subst, true≢false, not, arith}
 use Rattle.std.specs.Int.{int_min, int_max}
 use Rattle.std.specs.Ordering.{int_eq}
 use Rattle.std.proofs.lemmas.Int.{ints}
 use Rattle.std.proofs.lemmas.Bool.{or_cases, or_left, or_right, not-true, false_from_ne_true}
 use Rattle.std.proofs.lemmas.Bool.Decides.{Decides-int_eq}
-use Rattle.std.proofs.lemmas.List.{take_more, get_or_default, get_or-take, get_or-drop, length-drop, length-take-le, take-append-drop}
-use Rattle.std.proofs.lemmas.List.Elements.{All-nil, All-contains, All-contains_itself, All-filter, All-weaker, All-more, Contains-append_left, Contains-append_cases, Contains-push, Contains-push_cases, filter_passes}
+use Rattle.std.proofs.lemmas.List.{take_more, get_or_default, get_or-drop, length-drop, take-append-drop}
+use Rattle.std.proofs.lemmas.List.Elements.{All-nil, All-contains, All-weaker, All-more, Contains-append_left, Contains-append_cases, Contains-push, Contains-push_cases}
 use Rattle.std.proofs.lemmas.List.Sorted.{Contains-permutation, IsPermutation-sym}
 use Rattle.lemmas.proofs.Signs.{Decides-int_lt, int_lt-false, le_le_trans, le_lt_trans, lt_le_trans, apart_cases}
 use Rattle.lemmas.specs.Sorting.{is_sorted_by, insert_by}
-use Rattle.lemmas.proofs.Sorting.{insert_by-permutation, insert_by-is_sorted, filter-is_sorted, is_sorted_by-agree, sorted_same, Contains-sort_by, Contains-from_sort_by}
+use Rattle.lemmas.proofs.Sorting.{insert_by-is_sorted, filter-is_sorted, is_sorted_by-agree, sorted_same, Contains-sort_by, Contains-from_sort_by}
 use Rattle.tgap_model.specs.declared.segment.LabelledSegment.{LabelledSegment}
 use Rattle.tgap_model.specs.Segment.{line_after, passes}
 use Rattle.tgap_model.specs.Partition.{AreApart, stack}
 use Rattle.planar_stack.specs.Sweep.{EitherApart, crossed_after, higher_after, left_end, right_end, is_slanted, AreStarts, AreReady, IsActive}
-use Rattle.planar_stack.proofs.Ascending.{in_tail, in_cases, All-from_members}
+use Rattle.lemmas.proofs.Members.{All-from_members, Contains-filter, Contains-from_filter, Contains-from_take, related_members, related_to_next}
+use Rattle.lemmas.proofs.Placing.{Contains-insert_by, Contains-from_insert_by}
 use Rattle.grid_geo.proofs.Heights.{passes_parts}
 use Rattle.planar_stack.proofs.Crossings.{passes_from}
-use Rattle.planar_stack.proofs.Heights.{related_members, one_is_higher, higher_same, stack_is_sorted, stack_is_crossed}
+use Rattle.planar_stack.proofs.Heights.{one_is_higher, higher_same, stack_is_sorted, stack_is_crossed}
 use Rattle.planar_stack.proofs.Slabs.{order_after, after_is_rational}
-
--- ---- members of a filter and of a front
-
-pub Contains-filter : {A : Type 0} (p : A → Bool) (xs : List A) (x : A) → Contains xs x → p x ≡ true → Contains (filter p xs) x
-Contains-filter p [] x c e = c
-Contains-filter {A} p (y ∷ ys) x c e = by (p y) refl (λ k. Contains-filter p ys x k e)
-  where
-    by : (b : Bool) → p y ≡ b → (Contains ys x → Contains (filter p ys) x) → Contains (cond b (y ∷ filter p ys) (filter p ys)) x
-    by true f rest = ⊎_elim (λ same. (0, omega arith, same)) (λ k. in_tail y (filter p ys) x (rest k)) (in_cases y ys x c)
-    by false f rest = ⊎_elim (λ same. absurd (true≢false (sym (ap p same ∙ e) ∙ f))) rest (in_cases y ys x c)
-
-pub Contains-from_filter : {A : Type 0} (p : A → Bool) (xs : List A) (x : A) → Contains (filter p xs) x → Contains xs x × (p x ≡ true)
-Contains-from_filter p xs x c = (
-  All-contains (Contains xs) (filter p xs) x (All-filter p (Contains xs) xs (All-contains_itself xs)) c,
-  All-contains (λ y. p y ≡ true) (filter p xs) x (filter_passes p xs) c,
-)
-
-pub Contains-from_take : {A : Type 0} (n : ℕ) (xs : List A) (x : A) → Contains (take n xs) x → Contains xs x
-Contains-from_take n xs x c = subst (λ ys. Contains ys x) (take-append-drop n xs) (Contains-append_left (take n xs) (drop n xs) x c)
-
--- what is inserted is a member, and the others stay
-pub Contains-insert_by : {A : Type 0} (before : A → A → Bool) (x : A) (ys : List A) (z : A) → (x ≡ z) ⊎ Contains ys z → Contains (insert_by before x ys) z
-Contains-insert_by before x ys z h =
-    Contains-permutation (x ∷ ys) (insert_by before x ys) z (insert_by-permutation before x ys) (⊎_elim (λ e. (0, omega arith, e)) (in_tail x ys z) h)
-
-pub Contains-from_insert_by : {A : Type 0} (before : A → A → Bool) (x : A) (ys : List A) (z : A) → Contains (insert_by before x ys) z → (x ≡ z) ⊎ Contains ys z
-Contains-from_insert_by before x ys z c = in_cases x ys z (Contains-permutation (insert_by before x ys) (x ∷ ys) z (IsPermutation-sym (x ∷ ys) (insert_by before x ys) (insert_by-permutation before x ys)) c)
-
--- each member of the front stands in the relation of pairs to the next one
-pub related_to_next : {A : Type 0} (R : A → A → Type 0) (xs : List A) (n : ℕ) (d x : A) → AllPairs R xs → n < length xs → Contains (take n xs) x → R x (get_or xs n d)
-related_to_next R xs n d x pairs short (k, l, e) =
-    let less : k < n = omega (arith, length-take-le n xs (omega arith)) in
-    subst (λ y. R y (get_or xs n d)) (get_or_default xs k d x (omega arith) ∙ sym (get_or-take n xs k x less) ∙ e) (pairs k n d less short)
 
 -- ---- the ends of a segment and the lines that cross it
 
@@ -223,12 +191,6 @@ active_members v starts begun found a P h = (
   All-from_members P found (λ s c. All-contains P starts s h (Contains-from_take begun starts s (a.into s c).0)),
   All-from_members (λ s. crossed_after v s ≡ true) found (λ s c. (a.into s c).1),
 )
-
--- a member from a place on
-pub All-from_drop : {A : Type 0} (P : A → Type 0) (n k : ℕ) (xs : List A) (d : A) → n ≤ k → k < length xs → All P (drop n xs) → P (get_or xs k d)
-All-from_drop P n k xs d le short h =
-    let e : n + (k - n) ≡ k = omega arith in
-    subst P (get_or-drop n xs (k - n) d ∙ ap (λ i. get_or xs i d) e) (h (k - n) d (omega (arith, length-drop n xs)))
 
 -- where the next one begins later, so do all others
 pub all_later : (v : ℤ) (starts : List LabelledSegment) (begun : ℕ) (e : LabelledSegment) → AreReady starts → v <ℤ left_end (get_or starts begun e) → All (λ s. v <ℤ left_end s) (drop begun starts)

@@ -1,9 +1,8 @@
 -- The order of heights on a line: strict on the segments that the line crosses, total on different members of a list whose pairs are
 -- apart, and the same on each line that crosses two of them. So the stack is the only sorted list of the crossing segments.
-use Rattle.std.proofs.Common.{◌≡◌, ◌≢◌, ◌⊎◌, inl, inr, ⊎_elim, Bool, true, false, ◌||◌, List, [], ◌∷◌, filter, get_or, All, AllPairs, Contains, IsPermutation, ℤ, pos, ◌+ℤ◌, ◌-ℤ◌, ◌*ℤ◌, ◌<ℤ◌, refl, sym, ap, ◌∙◌, subst, subst₂, true≢false, arith, ◌<◌}
+use Rattle.std.proofs.Common.{◌≡◌, ◌≢◌, inl, ⊎_elim, Bool, true, false, ◌||◌, List, [], ◌∷◌, filter, get_or, All, AllPairs, Contains, IsPermutation, ℤ, pos, ◌+ℤ◌, ◌-ℤ◌, ◌*ℤ◌, ◌<ℤ◌, refl, sym, ◌∙◌, subst, true≢false, arith}
 use Rattle.std.proofs.lemmas.Int.{ints}
-use Rattle.std.proofs.lemmas.Bool.{or_left, or_right, or_cases, cases_order}
-use Rattle.std.proofs.lemmas.List.{get_or_default}
+use Rattle.std.proofs.lemmas.Bool.{or_left, or_right, or_cases}
 use Rattle.std.proofs.lemmas.List.Elements.{filter_passes}
 use Rattle.std.proofs.lemmas.List.Kept.{AllPairs-filter}
 use Rattle.std.proofs.Math.IntN.{*ℤ_comm}
@@ -19,6 +18,7 @@ use Rattle.tgap_model.specs.declared.segment.LabelledSegment.{LabelledSegment}
 use Rattle.tgap_model.specs.Point.{shoelace_term}
 use Rattle.tgap_model.specs.Segment.{Line, crosses, rightward, run, rise, height, is_higher}
 use Rattle.tgap_model.specs.Partition.{AreApart, stack}
+use Rattle.lemmas.proofs.Members.{related_members}
 use Rattle.planar_stack.specs.Sweep.{EitherApart}
 use Rattle.planar_stack.proofs.Crossings.{Spans, spans_from_crosses, crosses_from_spans, run_positive, heights_differ}
 
@@ -49,18 +49,6 @@ unfolding is_higher
 order_of_heights l c =
     order_on_fewer (λ s h. run_positive l (rightward s.segment) c (spans_from_crosses l s.segment c h))
     (order_reversed (fraction_order (λ (s : LabelledSegment). height l (rightward s.segment)) (λ s. run (rightward s.segment))))
-
--- two members of a list are one, or stand in the relation of its pairs in one order or the other
-pub related_members : {A : Type 0} (R : A → A → Type 0) (xs : List A) → AllPairs R xs → (x y : A) → Contains xs x → Contains xs y → (x ≡ y) ⊎ (R x y ⊎ R y x)
-related_members R xs pairs x y (i, p, e) (j, q, f) = by (cases_order i j)
-  where
-    at_other : get_or xs j x ≡ y
-    at_other = get_or_default xs j x y q ∙ f
-
-    by : (i ≡ j) ⊎ ((i < j) ⊎ (j < i)) → (x ≡ y) ⊎ (R x y ⊎ R y x)
-    by (inl same) = inl (sym e ∙ ap (λ k. get_or xs k x) same ∙ at_other)
-    by (inr (inl less)) = inr (inl (subst₂ R e at_other (pairs i j x less q)))
-    by (inr (inr more)) = inr (inr (subst₂ R at_other e (pairs j i x more p)))
 
 -- two segments that are apart are in one order or the other
 pub one_is_higher : (l : Line) → pos 0 <ℤ l.c → (s t : LabelledSegment) → crosses l s.segment ≡ true → crosses l t.segment ≡ true → EitherApart s t → (higher l s t || higher l t s) ≡ true

@@ -1,8 +1,6 @@
-pub mod Ascending
 pub mod Crossings
 pub mod Heights
 pub mod Slabs
-pub mod Places
 pub mod Lists
 pub mod Active
 pub mod Swept

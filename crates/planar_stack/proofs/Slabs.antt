@@ -5,20 +5,20 @@ use Rattle.std.proofs.lemmas.Int.{ints, by_lt_z}
 use Rattle.std.proofs.lemmas.Bool.{and_parts, and_left, and_right, or_from}
 use Rattle.std.specs.Cmp.Derive.{both_true}
 use Rattle.std.proofs.lemmas.List.Elements.{All-nil, All-cons, All-head, All-tail, All-filter, All-contains, All-contains_itself, filter_passes}
-use Rattle.lemmas.proofs.Signs.{Decides-int_lt, int_lt-false, int_lt-from_le, lt_lt_trans, lt_le_trans, le_lt_trans, le_from_lt, same_from_le, mul_lt_left, mul_le_left}
+use Rattle.lemmas.proofs.Signs.{Decides-int_lt, int_lt-from_le, lt_lt_trans, lt_le_trans, le_lt_trans, le_from_lt, same_from_le, mul_lt_left, mul_le_left}
 use Rattle.lemmas.specs.Sorting.{is_sorted_by, sort_by, IsStrictOrderOn}
-use Rattle.lemmas.proofs.Sorting.{sort_by-agree, sorted_tail, sorted_head}
-use Rattle.lemmas.proofs.Orders.{int_lt_order}
+use Rattle.lemmas.proofs.Sorting.{sort_by-agree, sorted_tail}
 use Rattle.tgap_model.specs.declared.segment.LabelledSegment.{LabelledSegment}
 use Rattle.tgap_model.specs.declared.fault.MapFault.{MapFault}
 use Rattle.tgap_model.specs.declared.fault.MapFault.TheVariants.{StackDisagrees}
 use Rattle.tgap_model.specs.Segment.{Line, IsBetweenColumns, line_after, passes}
 use Rattle.tgap_model.specs.Partition.{AreApart, Sides, sides, stack, agree_from, stack_fault_from, stack_fault, first_fault, abscissas, all_but_last}
 use Rattle.planar_stack.specs.Sweep.{FacesAgree, crossed_after, higher_after}
-use Rattle.planar_stack.proofs.Ascending.{in_head, in_tail, in_cases, All-from_members, distinct_by-is_sorted, Contains-distinct_by}
+use Rattle.lemmas.proofs.Members.{in_head, in_tail, in_cases, All-from_members, filter_agree_on, filter_none, related_members}
+use Rattle.lemmas.proofs.Ascending.{distinct_by-is_sorted, Contains-distinct_by, int_lt_decides, above_head}
 use Rattle.grid_geo.proofs.Heights.{passes_parts}
 use Rattle.planar_stack.proofs.Crossings.{passes_from, passes_up}
-use Rattle.planar_stack.proofs.Heights.{crossed, higher, order_of_heights, related_members, higher_same}
+use Rattle.planar_stack.proofs.Heights.{crossed, higher, order_of_heights, higher_same}
 
 -- an abscissa lies left of a line, or right of it
 abbrev pub left_of : Line → ℤ → Bool
@@ -35,15 +35,6 @@ pub record OnOneSide (k l : Line) (x : ℤ) : Type 0 where
 -- it holds of the abscissas of both ends
 abbrev pub BothEnds : (ℤ → Type 0) → LabelledSegment → Type 0
 BothEnds P s = P s.segment.a.x × P s.segment.b.x
-
--- two tests that agree on the members keep the same
-pub filter_agree_on : {A : Type 0} (p q : A → Bool) (xs : List A) → All (λ x. p x ≡ q x) xs → filter p xs ≡ filter q xs
-filter_agree_on p q [] h = refl
-filter_agree_on p q (x ∷ xs) h = ap₂ (λ (b : Bool) ys. cond b (x ∷ ys) ys) (All-head (λ y. p y ≡ q y) x xs h) (filter_agree_on p q xs (All-tail (λ y. p y ≡ q y) x xs h))
-
-pub filter_none : {A : Type 0} (p : A → Bool) (xs : List A) → All (λ x. p x ≡ false) xs → filter p xs ≡ []
-filter_none p [] h = refl
-filter_none p (x ∷ xs) h = ap₂ (λ (b : Bool) ys. cond b (x ∷ ys) ys) (All-head (λ y. p y ≡ false) x xs h) (filter_none p xs (All-tail (λ y. p y ≡ false) x xs h))
 
 -- ---- lines between the same abscissas
 
@@ -78,9 +69,6 @@ one_stack segments apart k l i j ends = sort_by-agree (CrossedByBoth segments k 
 -- an abscissa is not strictly between two others
 abbrev pub Outside : ℤ → ℤ → ℤ → Type 0
 Outside u v x = (x ≤ℤ u) ⊎ (v ≤ℤ x)
-
-pub int_lt_decides : (x y : ℤ) → int_lt x y ≡ false → int_lt y x ≡ false → x ≡ y
-int_lt_decides x y e f = same_from_le (int_lt-false y x f) (int_lt-false x y e)
 
 -- the abscissas of the ends, as they come
 abbrev pub end_abscissas : List LabelledSegment → List ℤ
@@ -173,10 +161,6 @@ pub Contains-all_but_last : {A : Type 0} (xs : List A) (x : A) → Contains (all
 Contains-all_but_last [] x c = c
 Contains-all_but_last (y ∷ []) x c = in_tail y [] x c
 Contains-all_but_last (y ∷ z ∷ zs) x c = ⊎_elim (λ e. (0, omega arith, e)) (λ k. in_tail y (z ∷ zs) x (Contains-all_but_last (z ∷ zs) x k)) (in_cases y (all_but_last (z ∷ zs)) x c)
-
--- those that follow the head of an ascending list
-above_head : (x : ℤ) (xs : List ℤ) → is_sorted_by int_lt (x ∷ xs) ≡ true → All (λ y. x <ℤ y) xs
-above_head x xs s n d short = (Decides-int_lt x (get_or xs n d)).0 (sorted_head int_lt int_lt_order x xs tt (λ _ _ _. tt) s n d short)
 
 pub locate : (l : Line) → IsBetweenColumns l → (xs : List ℤ) → is_sorted_by int_lt xs ≡ true → Located l xs
 locate l columns [] s = before_all (All-nil (λ x. right_of l x ≡ true))

@@ -1,16 +1,15 @@
 -- The sweep from line to line: what it keeps, each step, and what it has found at its end.
-use Rattle.std.proofs.Common.{◌≡◌, ⊎_elim, inl, inr, ℕ, zero, suc, ◌+◌, ◌-◌, ◌<◌, ◌≤◌, Bool, true, false, cond, List, [], ◌∷◌, length, take, drop, filter, get_or, All, AllPairs, Contains, ℤ, pos, ◌<ℤ◌, ◌≤ℤ◌, int_lt, Option, Some, None, Result, Ok, IfOk, ◌⊎◌, refl, sym, ap, ◌∙◌, subst, arith}
+use Rattle.std.proofs.Common.{◌≡◌, ⊎_elim, inl, inr, ℕ, zero, suc, ◌+◌, ◌-◌, ◌<◌, ◌≤◌, true, false, List, [], ◌∷◌, length, take, drop, filter, get_or, All, AllPairs, Contains, ℤ, pos, ◌<ℤ◌, ◌≤ℤ◌, int_lt, Option, Some, None, Result, Ok, IfOk, refl, sym, ap, ◌∙◌, subst, arith}
 use Rattle.std.specs.Option.{option_map, is_some}
 use Rattle.std.proofs.lemmas.Result.{IfOk-at_ok, IfOk-weaker}
-use Rattle.std.proofs.lemmas.Bool.{cases_order, cond_both}
+use Rattle.std.proofs.lemmas.Bool.{cond_both}
 use Rattle.std.proofs.lemmas.List.{drop_more, get_or-drop, get_or_default, length-drop}
 use Rattle.std.proofs.lemmas.List.Elements.{All-nil, All-cons, All-head, All-tail, All-more, All-contains, All-contains_itself, All-filter, All-weaker, filter_passes}
 use Rattle.std.proofs.lemmas.List.Kept.{AllPairs-filter}
 use Rattle.std.proofs.lemmas.List.Sorted.{All-permutation, Contains-permutation, IsPermutation-sym}
-use Rattle.lemmas.proofs.Signs.{Decides-int_lt, le_lt_trans, le_from_lt, le_from_same, apart_from_lt}
-use Rattle.lemmas.proofs.Orders.{int_lt_order}
+use Rattle.lemmas.proofs.Signs.{le_lt_trans, apart_from_lt}
 use Rattle.lemmas.specs.Sorting.{is_sorted_by}
-use Rattle.lemmas.proofs.Sorting.{sorted_pairs, AllPairs-permutation, length-sort_by}
+use Rattle.lemmas.proofs.Sorting.{AllPairs-permutation, length-sort_by}
 use Rattle.tgap_model.specs.declared.segment.LabelledSegment.{LabelledSegment}
 use Rattle.tgap_model.specs.declared.fault.MapFault.{MapFault}
 use Rattle.tgap_model.specs.Segment.{line_after}
@@ -19,9 +18,11 @@ use Rattle.tgap_model.specs.declared.failure.Memory.{Memory}
 use Rattle.planar_stack.specs.declared.gap.StackGap.{StackGap}
 use Rattle.grid_geo.specs.Heights.{is_near}
 use Rattle.planar_stack.specs.Sweep.{FacesAgree, disagrees, EitherApart, is_slanted, left_end, right_end, crossed_after, higher_after, AreStarts, AreReady, IsActive}
-use Rattle.planar_stack.proofs.Ascending.{in_cases, All-from_members, distinct_by-is_sorted}
+use Rattle.std.proofs.lemmas.List.Sums.{length-filter, count_by-le-length}
+use Rattle.lemmas.proofs.Members.{in_cases, All-from_members, Contains-from_filter}
+use Rattle.lemmas.proofs.Ascending.{distinct_by-is_sorted, ascending, from_place}
 use Rattle.planar_stack.proofs.Slabs.{BothEnds, ends_from_abscissas, end_abscissas, none_from_faults, agree_from_faults, no_faults_from_agree}
-use Rattle.planar_stack.proofs.Active.{Contains-from_filter, ends_from_slanted, active_none, active_out}
+use Rattle.planar_stack.proofs.Active.{ends_from_slanted, active_none, active_out}
 
 -- Before line i: the stack is that of the line before, all other starts begin at line i or after it, and no line before has a fault.
 pub record IsSwept (segments : List LabelledSegment) (lines : List ℤ) (starts : List LabelledSegment) (i next : ℕ) (found : List LabelledSegment) : Type 0 where
@@ -46,23 +47,6 @@ begins_at_abscissa : (segments : List LabelledSegment) (s : LabelledSegment) →
 begins_at_abscissa segments s c =
     let ends = All-contains (BothEnds (Contains (abscissas segments))) segments s (ends_from_abscissas (Contains (abscissas segments)) segments (All-contains_itself (abscissas segments))) c in
     cond_both (int_lt s.segment.b.x s.segment.a.x) s.segment.b.x s.segment.a.x (Contains (abscissas segments)) (λ _. ends.1) (λ _. ends.0)
-
--- ---- the lines
-
--- an ascending list, by its places
-ascending : (xs : List ℤ) → is_sorted_by int_lt xs ≡ true → (i j : ℕ) (d : ℤ) → i ≤ j → j < length xs → get_or xs i d ≤ℤ get_or xs j d
-ascending xs s i j d le short = by (cases_order i j)
-  where
-    by : (i ≡ j) ⊎ ((i < j) ⊎ (j < i)) → get_or xs i d ≤ℤ get_or xs j d
-    by (inl same) = le_from_same (ap (λ k. get_or xs k d) same)
-    by (inr (inl less)) = le_from_lt ((Decides-int_lt _ _).0 (sorted_pairs int_lt_order xs (λ _ _ _. tt) s i j d less short))
-    by (inr (inr more)) = absurd (omega arith)
-
--- what stands from a place on is no less than what stands there
-from_place : (xs : List ℤ) → is_sorted_by int_lt xs ≡ true → (n : ℕ) (d z : ℤ) → n < length xs → Contains (drop n xs) z → get_or xs n d ≤ℤ z
-from_place xs s n d z short (k, l, e) =
-    let long : n + k < length xs = omega (arith, length-drop n xs) in
-    subst (λ (w : ℤ). get_or xs n d ≤ℤ w) (get_or_default xs (n + k) d z long ∙ sym (get_or-drop n xs k z) ∙ e) (ascending xs s n (n + k) d (omega arith) long)
 
 -- ---- the steps
 
@@ -129,15 +113,7 @@ module _ (segments : List LabelledSegment) (lines : List ℤ) (starts : List Lab
 
 -- a stack of a few segments is short
 pub stack_is_short : (segments : List LabelledSegment) (v : ℤ) → length (stack (line_after v) segments) ≤ length segments
-stack_is_short segments v = omega (arith, length-sort_by (higher_after v) (filter (crossed_after v) segments), filter_is_short (crossed_after v) segments)
-  where
-    filter_is_short : {A : Type 0} (p : A → Bool) (xs : List A) → length (filter p xs) ≤ length xs
-    filter_is_short p [] = omega arith
-    filter_is_short p (x ∷ xs) = by (p x) (filter_is_short p xs)
-      where
-        by : (b : Bool) → length (filter p xs) ≤ length xs → length (cond b (x ∷ filter p xs) (filter p xs)) ≤ length (x ∷ xs)
-        by true h = omega (arith, h)
-        by false h = omega (arith, h)
+stack_is_short segments v = omega (arith, length-sort_by (higher_after v) (filter (crossed_after v) segments), length-filter (crossed_after v) segments, count_by-le-length (crossed_after v) segments)
 
 -- the first fault is at a place whose front has none
 first_fault_at : {A : Type 0} (find : A → Option MapFault) (xs : List A) (n : ℕ) (d : A) (fault : MapFault) → n + 1 < length xs → All (λ x. find x ≡ None) (take n xs) → find (get_or xs n d) ≡ Some fault

@@ -6,17 +6,17 @@ use Rattle.std.proofs.lemmas.List.Elements.{All-weaker}
 use Rattle.std.proofs.lemmas.List.Sums.{AllPass-from_list_all}
 use Rattle.tgap_model.specs.declared.base.Rules.{Rules}
 use Rattle.tgap_model.specs.declared.base.BaseArc.{BaseArc}
-use Rattle.tgap_model.specs.declared.limits.TheConstants.{MAX_COMPATIBILITY, MAX_WEIGHT}
+use Rattle.tgap_model.specs.declared.limits.TheConstants.{MAX_CLASSES, MAX_FACES, MAX_ARCS, MAX_POINTS, MAX_COMPATIBILITY, MAX_WEIGHT, MAX_RATIO}
 use Rattle.tgap_model.specs.Base.{BaseMap, is_transform, is_rules, in_limits, no_repeat, is_arc, is_base, count_points, all_faces_bordered}
 
 -- the rules of a base map
 pub record RulesFacts (r : Rules) : Type 0 where
   pub some_class : 1 ≤ length r.weights
-  pub few_classes : length r.weights ≤ 256
+  pub few_classes : length r.weights ≤ MAX_CLASSES
   pub weights : list_all (λ w. nat_le 1 w && nat_le w MAX_WEIGHT) r.weights ≡ true
   pub table : length r.compat ≡ length r.weights * length r.weights
   pub compat : list_all (λ v. nat_le v MAX_COMPATIBILITY) r.compat ≡ true
-  pub ratio : r.ratio ≤ 65535
+  pub ratio : r.ratio ≤ MAX_RATIO
 
 -- an arc of a map with n faces
 pub record ArcFacts (n : ℕ) (a : BaseArc) : Type 0 where
@@ -30,10 +30,10 @@ pub record ArcFacts (n : ℕ) (a : BaseArc) : Type 0 where
 pub record BaseFacts (m : BaseMap) : Type 0 where
   pub transform : is_transform m.transform ≡ true
   pub rules : is_rules m.rules ≡ true
-  pub few_faces : length m.classes ≤ 32768
+  pub few_faces : length m.classes ≤ MAX_FACES
   pub classes : list_all (λ k. nat_lt k (length m.rules.weights)) m.classes ≡ true
-  pub few_arcs : length m.arcs ≤ 65536
-  pub few_points : count_points m.arcs ≤ 131072
+  pub few_arcs : length m.arcs ≤ MAX_ARCS
+  pub few_points : count_points m.arcs ≤ MAX_POINTS
   pub arcs : list_all (is_arc (length m.classes)) m.arcs ≡ true
   pub bordered : all_faces_bordered (length m.classes) m.arcs ≡ true
 

@@ -8,6 +8,7 @@ use Rattle.std.proofs.lemmas.List.Sums.{get_or-le-sum_by, sum_by-cons}
 use Rattle.tgap_model.specs.declared.geometry.Point.{Point}
 use Rattle.tgap_model.specs.declared.base.BaseArc.{BaseArc}
 use Rattle.tgap_model.specs.declared.segment.LabelledSegment.{LabelledSegment}
+use Rattle.tgap_model.specs.declared.limits.TheConstants.{MAX_POINTS}
 use Rattle.tgap_model.specs.Base.{BaseMap, in_limits, same_point, no_repeat, is_arc, is_base, count_points}
 use Rattle.tgap_model.specs.Partition.{is_proper, path_segments, arc_segments, base_segments}
 use Rattle.tgap_model.proofs.BaseFacts.{arc_facts, base_facts}
@@ -44,7 +45,7 @@ few_of_arcs i (a ∷ arcs) =
     omega (arith, first, rest, all, sum)
 
 -- a base map has no more segments than points
-pub few_segments : (m : BaseMap) → is_base m ≡ true → length (base_segments m) ≤ 131072
+pub few_segments : (m : BaseMap) → is_base m ≡ true → length (base_segments m) ≤ MAX_POINTS
 few_segments m h = let few = (base_facts m h).few_points in let part = few_of_arcs 0 m.arcs in omega (arith, few, part)
 
 proper_path : (number left right place : ℕ) (points : List Point) → list_all in_limits points ≡ true → no_repeat points ≡ true → list_all is_proper (path_segments number left right place points) ≡ true

@@ -5,7 +5,7 @@ use Rattle.std.specs.List.{list_all, list_any, range_with_len}
 use Rattle.lemmas.specs.Sorting.{sort_by, is_sorted_by}
 use Rattle.tgap_model.specs.declared.geometry.Point.{Point}
 use Rattle.tgap_model.specs.declared.base.BaseArc.{BaseArc}
-use Rattle.tgap_model.specs.Ascending.{distinct_by}
+use Rattle.lemmas.specs.Ascending.{distinct_by}
 use Rattle.tgap_model.specs.Base.{same_point}
 use Rattle.tgap_model.specs.Segment.{point_before}
 use Rattle.tgap_model.specs.Merged.{MergedMap, is_border}

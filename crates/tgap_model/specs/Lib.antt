@@ -1,10 +1,12 @@
 pub mod Point
 pub mod Base
+pub mod Bounds
+pub mod Limits
 pub mod Parts
 pub mod Marks
-pub mod Ascending
 pub mod Segment
 pub mod Partition
+pub mod Evidence
 pub mod Inside
 pub mod History
 pub mod Border
@@ -20,4 +22,3 @@ pub mod Lines
 pub mod ListingLines
 pub mod Listing
 pub mod SliceTexts
-pub mod Command

@@ -10,8 +10,9 @@ use Rattle.tgap_model.specs.declared.fault.LimitKind.{LimitKind}
 use Rattle.tgap_model.specs.declared.fault.LimitKind.TheVariants.{Classes, Faces, Arcs, Points}
 use Rattle.tgap_model.specs.declared.fault.MapFault.{MapFault}
 use Rattle.tgap_model.specs.declared.fault.MapFault.TheVariants.{BadLine, Limit}
-use Rattle.tgap_model.specs.declared.limits.TheConstants.{MAX_RATIO, MAX_CLASSES, MAX_FACES, MAX_ARCS, MAX_POINTS}
+use Rattle.tgap_model.specs.declared.limits.TheConstants.{MAX_RATIO}
 use Rattle.tgap_model.specs.Base.{BaseMap, is_base, all_faces_bordered}
+use Rattle.tgap_model.specs.Limits.{limit_of, limit_word}
 use Rattle.tgap_model.specs.Texts.{lines}
 use Rattle.tgap_model.specs.Words.{Row, read_words}
 use Rattle.tgap_model.specs.Lines.{Lines, ◌>>=◌, all_lines, line_at, read_line, is_over}
@@ -64,14 +65,14 @@ pub record IsListing (bytes : List ℕ) (m : BaseMap) : Type 0 where
 -- The limits of what is counted keep the number of each line that is asked for far below 2^32.
 
 -- the fault of a limit, where there are more than it allows
-abbrev pub within_limit : LimitKind → ℕ → ℕ → Result (Unit {0}) MapFault
-within_limit which most n = if nat_le n most then Ok tt else Err (Limit which n)
+abbrev pub within_limit : LimitKind → ℕ → Result (Unit {0}) MapFault
+within_limit which n = if nat_le n (limit_of which) then Ok tt else Err (Limit which n)
 
--- a line of this keyword and a count from least on, and then the limit of what is counted
-unfoldable pub count_line : LimitKind → ℕ → List ℕ → ℕ → Lines → Result (ℕ × Lines) MapFault
-count_line which most keyword least lines = do
-  n ← read_line BadLine (read_count keyword least (2 ^ 32 - 1)) lines
-  limited ← within_limit which most n.0
+-- a line that begins with the name of what is counted, and has the count, from least on; and then its limit
+unfoldable pub count_line : LimitKind → ℕ → Lines → Result (ℕ × Lines) MapFault
+count_line which least lines = do
+  n ← read_line BadLine (read_count (limit_word which) least (2 ^ 32 - 1)) lines
+  limited ← within_limit which n.0
   Ok n
 
 -- n classes from number i on, of c in all: weights and compatibilities
@@ -86,7 +87,7 @@ classes_at c i (suc n) lines = do
 unfoldable pub rules_at : Lines → Result (Rules × Lines) MapFault
 rules_at lines = do
   ratio ← read_line BadLine (read_count (codes "ratio") 0 MAX_RATIO) lines
-  c ← count_line Classes MAX_CLASSES (codes "classes") 1 ratio.1
+  c ← count_line Classes 1 ratio.1
   weighed ← classes_at c.0 0 c.0 c.1
   Ok (record { ratio = ratio.0; weights = weighed.0.0; compat = weighed.0.1 }, weighed.1)
 
@@ -101,7 +102,7 @@ faces_at c f (suc n) lines = do
 -- the number of the faces, and the class of each
 unfoldable pub all_faces_at : ℕ → Lines → Result (List ℕ × Lines) MapFault
 all_faces_at c lines = do
-  n ← count_line Faces MAX_FACES (codes "faces") 0 lines
+  n ← count_line Faces 0 lines
   faces_at c 1 n.0 n.1
 
 -- An arc of a map with n faces, after arcs with so many points. The limit of points comes before the points themselves.
@@ -109,7 +110,7 @@ unfoldable pub arc_at : ℕ → ℕ → Lines → Result (BaseArc × Lines) MapF
 arc_at n before lines = do
   line ← ok_or (line_at lines) (BadLine lines.number)
   head ← ok_or (head_at n line.0) (BadLine lines.number)
-  limited ← within_limit Points MAX_POINTS (before + head.0.2)
+  limited ← within_limit Points (before + head.0.2)
   points ← ok_or (read_points head.0.2 head.1) (BadLine lines.number)
   Ok (record { left = head.0.0; right = head.0.1; points = points }, line.1)
 
@@ -124,7 +125,7 @@ arcs_at n before (suc m) lines = do
 -- the number of the arcs, and each arc
 unfoldable pub all_arcs_at : ℕ → Lines → Result (List BaseArc × Lines) MapFault
 all_arcs_at n lines = do
-  m ← count_line Arcs MAX_ARCS (codes "arcs") 0 lines
+  m ← count_line Arcs 0 lines
   arcs_at n 0 m.0 m.1
 
 -- the map that is listed, up to its last line

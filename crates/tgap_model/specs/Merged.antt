@@ -19,7 +19,7 @@ merged m = record { base = m; steps = history_of m }
 abbrev pub label_at : MergedMap → ℕ → ℕ → ℕ
 label_at h k f = label_after (take k h.steps) f
 
--- step number j, from 1 on
+-- step number j, from 1 to the last one
 abbrev pub step_number : MergedMap → ℕ → MergeStep
 step_number h j = slice_index_or h.steps (j - 1) (record { loser = 0; winner = 0; made = 0 })
 

@@ -10,7 +10,7 @@ use Rattle.tgap_model.specs.declared.segment.LabelledSegment.{LabelledSegment}
 use Rattle.tgap_model.specs.declared.slice.Edge.{Edge}
 use Rattle.tgap_model.specs.declared.fault.MapFault.{MapFault}
 use Rattle.tgap_model.specs.declared.fault.MapFault.TheVariants.{Meets, NodeDisagrees, StackDisagrees}
-use Rattle.tgap_model.specs.Ascending.{distinct_by}
+use Rattle.lemmas.specs.Ascending.{distinct_by}
 use Rattle.tgap_model.specs.Base.{BaseMap, in_limits, same_point}
 use Rattle.tgap_model.specs.Segment.{Line, IsBetweenColumns, HaveInCommon, point_before, common_point, turns_before, line_after, crosses, goes_right, is_higher}
 

@@ -86,7 +86,7 @@ mend_of h j finer before now c =
     } in
     if has_side (step_number h j).made e && is_needed (step_number h j).loser m then m ∷ [] else []
 
--- The record of step j, which leads from the slice at j to the slice at j - 1.
+-- The record of step j, which leads from the slice at j to the slice at j - 1. It is meant for j from 1 to the last step.
 abbrev pub step_record : MergedMap → ℕ → StepRecord
 step_record h j =
     let s = step_number h j in
@@ -104,10 +104,15 @@ step_record h j =
       ended = filter (is_edge_between s.loser s.winner) (edges_of h (j - 1) before finer);
     }
 
--- the records of the steps from `from` down to the one after `to`, of which there are n
+-- the map has this step
+abbrev pub has_step : MergedMap → ℕ → Bool
+has_step h j = nat_le 1 j && nat_le j (length h.steps)
+
+-- the records of the n steps from `from` down, of those that the map has
 abbrev pub records_down : MergedMap → ℕ → ℕ → List StepRecord
 records_down h from zero = []
-records_down h from (suc n) = step_record h from ∷ records_down h (from - 1) n
+records_down h from (suc n) =
+    if has_step h from then step_record h from ∷ records_down h (from - 1) n else records_down h (from - 1) n
 
 -- the packet from one slice to a finer one
 unfoldable pub packet_of : MergedMap → ℕ → ℕ → Packet

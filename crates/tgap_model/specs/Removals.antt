@@ -1,5 +1,5 @@
 -- The vertex removal: which vertices a step of the history takes out of the edges that border its new face.
-use Rattle.std.specs.Prelude.{ℕ, zero, suc, ◌-◌, ◌*◌, Bool, true, false, ◌&&◌, ◌||◌, not, ℤ, pos, int_le, ◌==◌, List, [], ◌∷◌, ◌++◌, map, flat_map, filter, if◌then◌else◌}
+use Rattle.std.specs.Prelude.{ℕ, zero, suc, ◌-◌, ◌*◌, Bool, true, false, ◌&&◌, ◌||◌, not, ℤ, pos, int_le, nat_lt, ◌==◌, List, [], ◌∷◌, ◌++◌, map, flat_map, filter, length, if◌then◌else◌}
 use Rattle.std.specs.List.{list_all, list_any}
 use Rattle.tgap_model.specs.declared.geometry.Point.{Point}
 use Rattle.tgap_model.specs.declared.geometry.Seg.{Seg}
@@ -93,14 +93,16 @@ sweep ratio area made edges = if ratio == 0 then [] else sweep_edges ratio area 
 
 -- ---- all steps
 
--- the vertices that step j removes, where those of the steps before are listed
+-- the vertices that step j removes, from 1 to the last one, where those of the steps before are listed
 abbrev pub removed_at : MergedMap → ℕ → List Removal → List Removal
 removed_at h j before =
     map (λ p. record { point = p; step = j })
     (sweep h.base.rules.ratio (face_area h (j - 1) (step_number h j).loser) (step_number h j).made
     (edges_of h j before (chains_at h j)))
 
--- The removals of the first k steps: each vertex that one of them removes, with its step.
+-- The removals of the first k steps: each vertex that one of them removes, with its step. Beyond the last step there are no more.
 unfoldable pub removals_to : MergedMap → ℕ → List Removal
 removals_to h zero = []
-removals_to h (suc k) = let before = removals_to h k in before ++ removed_at h (suc k) before
+removals_to h (suc k) =
+    let before = removals_to h k in
+    if nat_lt k (length h.steps) then before ++ removed_at h (suc k) before else before

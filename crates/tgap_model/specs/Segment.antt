@@ -104,6 +104,10 @@ pub record HaveInCommon (s t : Seg) (shared : Shared) (p : Fraction) : Type 0 wh
   pub second : is_on p t ≡ true
   pub forbidden : is_permitted shared s t p ≡ false
 
+-- Two segments have no rational point in common.
+abbrev pub AreDisjoint : Seg → Seg → Type 0
+AreDisjoint s t = (p : Fraction) → pos 0 <ℤ p.d → is_on p s ≡ true → is_on p t ≡ false
+
 -- ---- directions round a node, counter-clockwise, that of positive x first
 
 -- 0 for a direction that goes up, or to positive x; 1 for the others

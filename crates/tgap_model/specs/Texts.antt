@@ -1,14 +1,13 @@
 -- Texts: numbers, words and lines, and the texts that the program puts out.
-use Rattle.std.specs.Prelude.{ℕ, ◌==◌, ◌&&◌, ℤ, pos, neg_ℤ, List, [], ◌∷◌, ◌++◌, map, flat_map, decimal, codes, bytes_eq, Option, Some, None, if◌then◌else◌}
+use Rattle.std.specs.Prelude.{ℕ, ◌==◌, ◌&&◌, ℤ, pos, neg_ℤ, List, [], ◌∷◌, ◌++◌, map, flat_map, length, decimal, codes, bytes_eq, Option, Some, None, if◌then◌else◌}
 use Rattle.std.specs.Fmt.{signed_decimal}
 use Rattle.std.specs.Str.Parse.{digits_value}
 use Rattle.std.specs.List.{join_with_byte, slice_split}
 use Rattle.tgap_model.specs.declared.border.BorderRow.{BorderRow}
-use Rattle.tgap_model.specs.declared.fault.LimitKind.{LimitKind}
-use Rattle.tgap_model.specs.declared.fault.LimitKind.TheVariants.{Classes, Faces, Arcs, Points}
 use Rattle.tgap_model.specs.declared.fault.MapFault.{MapFault}
 use Rattle.tgap_model.specs.declared.fault.MapFault.TheVariants.{NotJson, Shape, NoObject, ManyObjects, NotWhole, OutOfRange, ArcShort, ArcIndex, Limit, RingOpen, RingFlat, SideTaken, SameSides, Meets, NodeDisagrees, StackDisagrees, BadLine, BadRules, InputLong}
-use Rattle.tgap_model.specs.Base.{within}
+use Rattle.tgap_model.specs.Base.{BaseMap, within, count_points}
+use Rattle.tgap_model.specs.Limits.{limit_word}
 
 -- the number that a word would spell: decimal digits, with a minus before them or not
 abbrev pub word_value : List ℕ → ℤ
@@ -42,13 +41,19 @@ border_words r = codes "border" ∷ decimal r.arc ∷ decimal r.left ∷ decimal
 abbrev pub borders_text : ℕ → List BorderRow → List ℕ
 borders_text k rows = line (codes "borders" ∷ decimal k ∷ []) ++ lines (map border_words rows) ++ line (codes "end" ∷ [])
 
--- ---- why a map is refused
+-- ---- what is told of a map that is not at fault
 
-abbrev pub limit_word : LimitKind → List ℕ
-limit_word Classes = codes "classes"
-limit_word Faces = codes "faces"
-limit_word Arcs = codes "arcs"
-limit_word Points = codes "points"
+-- a base map without a fault, by its numbers of faces, arcs and points
+abbrev pub ok_text : BaseMap → List ℕ
+ok_text m =
+    line (codes "ok" ∷ codes "faces" ∷ decimal (length m.classes) ∷ codes "arcs" ∷ decimal (length m.arcs)
+    ∷ codes "points" ∷ decimal (count_points m.arcs) ∷ [])
+
+-- the step that is asked for is above the last one, which is this
+abbrev pub step_too_high_text : ℕ → List ℕ
+step_too_high_text steps = line (codes "step" ∷ codes "too" ∷ codes "high" ∷ decimal steps ∷ [])
+
+-- ---- why a map is refused
 
 -- the fault of this number and name, with what shows it
 abbrev pub refused_words : List ℕ → List ℕ → List (List ℕ) → List (List ℕ)

@@ -1,6 +1,10 @@
 //! Why a map is refused.
 
+ghost use Rattle.std.specs.Prelude.{◌≡◌};
+ghost use Rattle.tgap_model.specs.Limits.{limit_of, limit_word};
+
 use crate::geometry::{Fraction, Point};
+use crate::limits::{MAX_ARCS, MAX_CLASSES, MAX_FACES, MAX_POINTS};
 
 /// What a limit is set on.
 #[derive(Clone, Copy, Debug, PartialEq, Eq)]
@@ -9,6 +13,32 @@ pub enum LimitKind {
     Faces,
     Arcs,
     Points,
+}
+
+impl LimitKind {
+    /// How many there may be.
+    pub fn limit(self) -> usize
+        ensures { result ≡ limit_of self }
+    {
+        match self {
+            LimitKind::Classes => MAX_CLASSES,
+            LimitKind::Faces => MAX_FACES,
+            LimitKind::Arcs => MAX_ARCS,
+            LimitKind::Points => MAX_POINTS,
+        }
+    }
+
+    /// Its name in a text.
+    pub fn word(self) -> &'static str
+        ensures { result.now ≡ limit_word self }
+    {
+        match self {
+            LimitKind::Classes => "classes",
+            LimitKind::Faces => "faces",
+            LimitKind::Arcs => "arcs",
+            LimitKind::Points => "points",
+        }
+    }
 }
 
 /// Why a map is refused: the first fault, with what shows it.

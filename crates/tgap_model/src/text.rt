@@ -1,6 +1,6 @@
 //! A text: bytes that contracts see as a list.
 
-ghost use Rattle.std.specs.Prelude.{◌≡◌, ◌++◌, ◌↔◌, [], length, if◌then◌else◌, is_ok, IfOk, IsTrue};
+ghost use Rattle.std.specs.Prelude.{◌≡◌, ◌++◌, ◌↔◌, [], length, take, if◌then◌else◌, is_ok, IfOk, IsTrue};
 
 use crate::failure::Memory;
 use std::alloc::Global;
@@ -66,6 +66,13 @@ impl Text {
     {
         self.bytes.extend_from_slice(bytes)?;
         Ok(())
+    }
+
+    /// Keeps the first bytes, at most so many.
+    pub fn truncate(&mut self, len: usize)
+        ensures { self.new ≡ take len self.old }
+    {
+        self.bytes.truncate(len);
     }
 }
 

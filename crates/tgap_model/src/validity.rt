@@ -3,7 +3,7 @@
 ghost use Rattle.std.specs.Prelude.{◌≡◌, ◌&&◌, neg_ℤ, nat_le, nat_lt, length};
 ghost use Rattle.std.specs.List.{list_all};
 ghost use Rattle.tgap_model.specs.Parts.{are_parts};
-ghost use Rattle.tgap_model.specs.Base.{is_rules, is_arc, within, in_limits, same_point, no_repeat, count_points};
+ghost use Rattle.tgap_model.specs.Base.{is_rules, is_arc, within, in_limits, no_repeat, count_points};
 
 use crate::base::{BaseArc, Rules};
 use crate::geometry::Point;
@@ -71,19 +71,12 @@ fn are_in_limits(points: &[Point]) -> bool
         .all(|p| is_coordinate(p.x) && is_coordinate(p.y))
 }
 
-/// Whether two points are one.
-fn is_same(a: &Point, b: &Point) -> bool
-    ensures { result ≡ same_point a.now b.now }
-{
-    a.x == b.x && a.y == b.y
-}
-
 /// Whether no two points in a row are one.
 pub fn are_without_repeat(points: &[Point]) -> bool
     ensures { result ≡ no_repeat points.now }
 {
     for i in 1..points.len() {
-        if is_same(&points[i - 1], &points[i]) {
+        if points[i - 1] == points[i] {
             return false;
         }
     }

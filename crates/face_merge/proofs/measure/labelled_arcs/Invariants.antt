@@ -1,7 +1,7 @@
 use Rattle.std.proofs.Common.{◌≡◌, map, take}
 use Rattle.std.specs.List.{All}
 use Rattle.tgap_model.specs.History.{labelled}
-use Rattle.face_merge.specs.Bounds.{IsMeasured}
+use Rattle.face_merge.specs.Merging.{IsMeasured}
 use Rattle.face_merge.proofs.measure.labelled_arcs.Given as goal
 
 abbrev pub invariant-loop-arc : goal.invariant-loop-arc

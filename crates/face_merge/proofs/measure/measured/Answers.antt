@@ -1,6 +1,8 @@
 -- One more segment, and the end, where nothing is left to measure.
-use Rattle.std.proofs.Common.{arith, ◌<◌, ◌≤◌, ◌^◌, ◌*◌, ◌+◌, ℤ, unsigned_abs, to_z, length, ap, sym, subst}
+use Rattle.std.proofs.Common.{arith, ◌<◌, ◌≤◌, ◌*◌, ◌+◌, ℤ, unsigned_abs, to_z, length, ap, sym, subst}
 use Rattle.std.specs.Int.{w128}
+use Rattle.tgap_model.specs.declared.limits.TheConstants.{MAX_POINTS}
+use Rattle.tgap_model.specs.Bounds.{max_shoelace}
 use Rattle.face_merge.proofs.Terms.{sum_is, sum_size, shoelace_next, shoelace_end, path_next, path_end}
 use Rattle.face_merge.proofs.measure.measured.Goals as goal
 
@@ -12,14 +14,14 @@ loop-i-preserved c =
     let low : 1 ≤ c.loop-i.i = c.loop-i.auto.i in
     let high : c.loop-i.i < length xs = c.loop-i-test.true in
     let same = ap length c.as_slice-points.ensures in
-    let short : c.loop-i.i < 2 ^ 17 = omega (arith, c.requires.short) in
-    let size : unsigned_abs s ≤ c.loop-i.i * 2 ^ 57 = c.loop-i.invariant.area_size in
-    let more : unsigned_abs t ≤ 2 ^ 57 = c.shoelace_of-area.ensures.size in
+    let short : c.loop-i.i < MAX_POINTS = omega (arith, c.requires.short) in
+    let size : unsigned_abs s ≤ c.loop-i.i * max_shoelace = c.loop-i.invariant.area_size in
+    let more : unsigned_abs t ≤ max_shoelace = c.shoelace_of-area.ensures.size in
     let is = sum_is s t (omega arith) (omega arith) in
     record {
       area = rw is (shoelace_next xs c.loop-i.i _ s t low high c.loop-i.invariant.area c.shoelace_of-area.ensures.value);
       extent = path_next xs c.loop-i.i _ c.loop-i.extent c.length_of-extent.result low high c.loop-i.invariant.extent c.length_of-extent.ensures.value;
-      area_size = subst (λ (z : ℤ). unsigned_abs z ≤ (c.loop-i.i + 1) * 2 ^ 57) (sym is) (omega (arith, sum_size s t (c.loop-i.i * 2 ^ 57) (2 ^ 57) size more));
+      area_size = subst (λ (z : ℤ). unsigned_abs z ≤ (c.loop-i.i + 1) * max_shoelace) (sym is) (omega (arith, sum_size s t (c.loop-i.i * max_shoelace) (max_shoelace) size more));
       extent_size = omega (arith, c.loop-i.invariant.extent_size, c.length_of-extent.ensures.size);
     }
 

@@ -1,5 +1,6 @@
 -- Two products of coordinates within the limits, and their difference, fit by far.
-use Rattle.std.proofs.Common.{◌≡◌, ◌≤◌, ◌^◌, ◌*ℤ◌, unsigned_abs, sym, subst, ℤ}
+use Rattle.std.proofs.Common.{◌≡◌, ◌≤◌, ◌*ℤ◌, unsigned_abs, sym, subst, ℤ}
+use Rattle.tgap_model.specs.Bounds.{max_shoelace}
 use Rattle.face_merge.proofs.Terms.{product_is, product_size, difference_fits, difference_is, difference_size}
 use Rattle.face_merge.proofs.measure.shoelace_of.Goals as goal
 
@@ -28,4 +29,4 @@ returns-clause-size c =
     let b = c.args.b in
     let lp = product_size a.x b.y _ c.requires.near_a.x c.requires.near_b.y (product_is a.x b.y _ c.requires.near_a.x c.requires.near_b.y c.product.ensures) in
     let lq = product_size b.x a.y _ c.requires.near_b.x c.requires.near_a.y (product_is b.x a.y _ c.requires.near_b.x c.requires.near_a.y c.product-2.ensures) in
-    subst (λ (z : ℤ). unsigned_abs z ≤ 2 ^ 57) (sym (difference_is c.product.result c.product-2.result lp lq)) (difference_size c.product.result c.product-2.result lp lq)
+    subst (λ (z : ℤ). unsigned_abs z ≤ max_shoelace) (sym (difference_is c.product.result c.product-2.result lp lq)) (difference_size c.product.result c.product-2.result lp lq)

@@ -1,17 +1,21 @@
-use Rattle.map_server.proofs.Statuses.{zero_says, two_says, three_says, four_says, five_says}
+use Rattle.map_server.proofs.Statuses.{put_is, answered_says, zero_says, two_says, none_says, three_says, missing_says, counts_say, kinds_say, four_says, five_says, six_says, sink_stays, exact_says}
 use Rattle.map_server.proofs.run.run.Goals as goal
 
-pub returns-clause-done : goal.returns-clause-done
-returns-clause-done g c = zero_says _ _ _ _ _ _ _ _ _ c.answer.ensures.answers c.put.ensures
-
-pub returns-clause-usage : goal.returns-clause-usage
-returns-clause-usage g c = two_says _ _ _ _ _ _ _ _ _ c.answer.ensures.answers c.put.ensures
-
-pub returns-clause-load_fault : goal.returns-clause-load_fault
-returns-clause-load_fault g c = three_says _ _ _ _ _ _ _ _ _ c.answer.ensures.answers c.put.ensures
-
-pub returns-clause-refused : goal.returns-clause-refused
-returns-clause-refused g c = four_says _ _ _ _ _ _ _ _ _ c.answer.ensures.answers c.put.ensures
-
-pub returns-clause-too_high : goal.returns-clause-too_high
-returns-clause-too_high g c = five_says _ _ _ _ _ _ _ _ _ c.answer.ensures.answers c.put.ensures
+pub returns : goal.returns
+returns g c =
+    let p = put_is _ _ _ _ _ _ _ _ _ _ _ c.outcome.ensures.answers c.outcome.ensures.counts c.put.ensures in
+    record {
+      answered = answered_says p;
+      exact = exact_says p;
+      done = zero_says p;
+      usage = two_says p;
+      no_command = none_says p;
+      load_fault = three_says p;
+      missing = missing_says p;
+      loads_kept = counts_say p;
+      kinds_kept = kinds_say p;
+      refused = four_says p;
+      too_high = five_says p;
+      sink_fault = six_says p;
+      sink_kept = sink_stays p;
+    }

@@ -3,7 +3,7 @@ use Rattle.std.specs.Ordering.{int_eq}
 use Rattle.std.proofs.lemmas.List.{take_all}
 use Rattle.std.proofs.lemmas.List.Filters.{dedup_is}
 use Rattle.planar_stack.proofs.Slabs.{end_abscissas}
-use Rattle.planar_stack.proofs.Lists.{sorted_and_distinct}
+use Rattle.lemmas.proofs.Ascending.{sorted_and_distinct}
 use Rattle.planar_stack.proofs.events.abscissas_of.Goals as goal
 
 pub returns : goal.returns

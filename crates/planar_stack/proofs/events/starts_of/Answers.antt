@@ -1,7 +1,7 @@
 use Rattle.std.proofs.Common.{rules, subst, IsPermutation}
 use Rattle.std.proofs.lemmas.Fn.{always_returns_same}
 use Rattle.planar_stack.specs.Sweep.{left_end}
-use Rattle.planar_stack.proofs.Lists.{ascending_by_key}
+use Rattle.lemmas.proofs.Ascending.{ascending_by_key}
 use Rattle.planar_stack.proofs.events.starts_of.Goals as goal
 
 pub returns : goal.returns

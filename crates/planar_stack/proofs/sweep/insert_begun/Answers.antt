@@ -7,7 +7,8 @@ use Rattle.lemmas.specs.Sorting.{insert_by}
 use Rattle.tgap_model.specs.declared.segment.LabelledSegment.{LabelledSegment}
 use Rattle.grid_geo.specs.Heights.{is_near}
 use Rattle.planar_stack.specs.Sweep.{crossed_after, higher_after, right_end, IsActive}
-use Rattle.planar_stack.proofs.Active.{active_members, active_in, crossed_from_ends, All-from_drop, all_later, no_segment}
+use Rattle.lemmas.proofs.Members.{All-from_drop}
+use Rattle.planar_stack.proofs.Active.{active_members, active_in, crossed_from_ends, all_later, no_segment}
 use Rattle.planar_stack.proofs.sweep.insert_begun.Goals as goal
 
 pub place_of-place-requires-clause-near : goal.place_of-place-requires-clause-near

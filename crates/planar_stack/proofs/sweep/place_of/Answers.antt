@@ -6,7 +6,8 @@ use Rattle.lemmas.specs.Sorting.{is_sorted_by}
 use Rattle.tgap_model.specs.Segment.{line_after}
 use Rattle.planar_stack.specs.Sweep.{crossed_after, higher_after}
 use Rattle.planar_stack.proofs.Slabs.{order_after}
-use Rattle.planar_stack.proofs.Places.{before_from, not_before_up_to, insert-place, greater_test}
+use Rattle.lemmas.proofs.Placing.{before_from, not_before_up_to, insert-place}
+use Rattle.grid_geo.proofs.Heights.{greater_test}
 use Rattle.planar_stack.proofs.sweep.place_of.Goals as goal
 
 pub loop-low-preserved-then-eq : goal.loop-low-preserved-then-eq

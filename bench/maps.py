@@ -1,0 +1,93 @@
+"""Maps of several shapes and sizes. Each is a planar partition whose faces hang together. A shape gives, for its size, the numbers of faces, arcs and
+points and the arcs: left face, right face, number of points and points."""
+
+
+def grid(side):
+    """Square cells, side by side: the cell at (column, row) is face row * side + column + 1, and each arc is one side of a cell."""
+
+    def face(column, row):
+        return row * side + column + 1 if 0 <= column < side and 0 <= row < side else 0
+
+    def arcs():
+        for a in range(side + 1):
+            for b in range(side):
+                yield face(a - 1, b), face(a, b), 2, [(a, b), (a, b + 1)]
+                yield face(b, a), face(b, a - 1), 2, [(b, a), (b + 1, a)]
+
+    return side * side, 2 * side * (side + 1), 4 * side * (side + 1), arcs()
+
+
+def saw(teeth):
+    """One face inside one long arc: a level base, and above it the teeth of a saw from right to left."""
+    end = 2 * teeth
+
+    def points():
+        yield 0, 0
+        yield end, 0
+        for x in range(end, -1, -1):
+            yield x, 10 + x % 2
+        yield 0, 0
+
+    return 1, 1, end + 4, [(1, 0, end + 4, points())]
+
+
+def comb(teeth):
+    """One face inside one long arc: long level teeth over each other, each longer than the one below. A vertical line crosses up to two segments a tooth,
+    and each tooth ends on a line of its own."""
+
+    def points():
+        yield 0, 0
+        for tooth in range(teeth):
+            end, y = teeth + tooth + 2, 2 * tooth
+            yield end, y
+            yield end, y + 1
+            if tooth < teeth - 1:
+                yield 1, y + 1
+                yield 1, y + 2
+        yield 0, 2 * teeth - 1
+        yield 0, 0
+
+    return 1, 1, 4 * teeth + 1, [(1, 0, 4 * teeth + 1, points())]
+
+
+def star(reach):
+    """Arcs that leave one node for the points of the square round it, in counter-clockwise order; a face lies between each two, and an arc of the square
+    closes it."""
+    count = 8 * reach
+
+    def rim(place):
+        side, along = divmod(place % count, 2 * reach)
+        x, y = reach, along - reach
+        for _ in range(side):
+            x, y = -y, x
+        return x, y
+
+    def arcs():
+        for place in range(count):
+            yield place + 1, (place - 1) % count + 1, 2, [(0, 0), rim(place)]
+            yield place + 1, 0, 2, [rim(place), rim(place + 1)]
+
+    return count, 2 * count, 4 * count, arcs()
+
+
+# Each shape with sizes that about double the points, up to what a map may have: 131,072 points, 65,536 arcs and 32,768 faces.
+SHAPES = {
+    "grid of cells": (grid, [22, 32, 45, 64, 90, 128, 180]),
+    "one long arc": (saw, [1024, 2048, 4096, 8192, 16384, 32768, 65534]),
+    "comb": (comb, [512, 1024, 2048, 4096, 8192, 16384, 32767]),
+    "star": (star, [64, 128, 256, 512, 1024, 2048, 4096]),
+}
+
+
+def write(path, shape, size):
+    """Writes the listing of a map to a file."""
+    faces, arc_count, _, arcs = shape(size)
+    with open(path, "w", encoding="ascii") as file:
+        file.write(f"tgap 1\ntransform 1 1 0 0\nratio 16\nclasses 1\nclass 0 1 1\nfaces {faces}\n")
+        file.writelines(f"face {face} 0\n" for face in range(1, faces + 1))
+        file.write(f"arcs {arc_count}\n")
+        for left, right, count, points in arcs:
+            file.write(f"arc {left} {right} {count}")
+            file.writelines(f" {x} {y}" for x, y in points)
+            file.write("\n")
+        file.write("end\n")

@@ -1,0 +1,95 @@
+-- What the program answers, from its words and from what is told of the files.
+use Rattle.std.specs.Prelude.{◌≡◌, ◌⊎◌, ◌<◌, ◌≤◌, ℕ, List, [], ◌∷◌, length, Contains, MatchOption, Option, Some, None, Result, Ok, Err, ⊤}
+use Rattle.tgap_model.specs.declared.fault.MapFault.{MapFault}
+use Rattle.tgap_model.specs.declared.fault.MapFault.TheVariants.{InputLong}
+use Rattle.tgap_model.specs.Base.{BaseMap}
+use Rattle.plain_io.specs.declared.files.Which.{Which}
+use Rattle.plain_io.specs.Loads.{Told, Missing, OfFile}
+use Rattle.plain_io.specs.Puts.{Appends}
+use Rattle.map_server.specs.declared.outcome.Outcome.{Outcome}
+use Rattle.map_server.specs.declared.outcome.Outcome.TheVariants.{Done, Usage, LoadFault, Refused, OutOfMemory}
+use Rattle.map_server.specs.Outcomes.{text_of, IsOfFiles}
+use Rattle.map_server.specs.Command.{Command, Source}
+use Rattle.map_server.specs.MapFile.{Contents, FileName, files_of_map, IsMapFile, IsRefusedFile, read_map}
+use Rattle.map_server.specs.Commands.{command, files_of, Says, outcome_of}
+
+-- ---- what is told of files
+
+-- these may be the contents of the named files
+abbrev pub MayHold : (Which → List ℕ → Told) → List FileName → Contents → Type 0
+MayHold told [] files = ⊤
+MayHold told (n ∷ names) files = OfFile (told n.which n.name) (λ bytes. files n.which ≡ bytes) × MayHold told names files
+
+-- it is told of one of the named files that there is none
+abbrev pub MissesOne : (Which → List ℕ → Told) → List FileName → Type 0
+MissesOne told names = (n : FileName) × Contains names n × (told n.which n.name ≡ Missing)
+
+-- ---- the outcomes of a command
+
+-- a load of one of the named files failed, which the count of its kind shows
+abbrev pub FailsToLoad : List FileName → (Which → Type 0) → Outcome → Type 0
+FailsToLoad names rose outcome = (n : FileName) × Contains names n × (outcome ≡ LoadFault n.which) × rose n.which
+
+-- The outcomes of what reads the named files: a load failed; memory is wanting; or what P says of contents that the files may have,
+-- which f computes.
+abbrev pub Answering : List FileName → (Contents → Outcome → Type 0) → (Contents → Outcome) → (Which → List ℕ → Told) → (Which → Type 0) → Outcome → Type 0
+Answering names P f told rose outcome =
+    FailsToLoad names rose outcome
+    ⊎ ((outcome ≡ OutOfMemory)
+    ⊎ ((files : Contents) × MayHold told names files × P files outcome × (outcome ≡ f files) × IsOfFiles outcome))
+
+-- the outcomes of a command
+abbrev pub AnswersCommand : Command → (Which → List ℕ → Told) → (Which → Type 0) → Outcome → Type 0
+AnswersCommand c = Answering (files_of c) (Says c) (outcome_of c)
+
+-- The outcomes for these words, where `told` says what is told of a file by its kind and name, and `rose` that a load of a kind
+-- failed.
+abbrev pub Answers : List (List ℕ) → (Which → List ℕ → Told) → (Which → Type 0) → Outcome → Type 0
+Answers words told rose outcome = MatchOption (command words) (outcome ≡ Usage) (λ c. AnswersCommand c told rose outcome)
+
+-- what was done, or what came in its place
+abbrev pub outcome_from : Result (List ℕ) Outcome → Outcome
+outcome_from (Ok text) = Done text
+outcome_from (Err outcome) = outcome
+
+-- ---- the steps to it
+
+-- a file is loaded, or what comes of it: a load failed, memory is wanting, or there are too many bytes
+abbrev pub Fetches : Told → ℕ → Which → Type 0 → Result (List ℕ) Outcome → Type 0
+Fetches told max which rose (Ok text) = (length text ≤ max) × OfFile told (λ bytes. text ≡ bytes)
+Fetches told max which rose (Err outcome) =
+    ((outcome ≡ LoadFault which) × rose)
+    ⊎ ((outcome ≡ OutOfMemory) ⊎ ((outcome ≡ Refused (InputLong max)) × OfFile told (λ bytes. max < length bytes)))
+
+-- a map is read, or what comes of it
+abbrev pub ReadsMap : Source → (Which → List ℕ → Told) → (Which → Type 0) → Result BaseMap Outcome → Type 0
+ReadsMap source told rose (Ok m) =
+    (files : Contents) × MayHold told (files_of_map source) files × IsMapFile source files m × (read_map source files ≡ Ok m)
+ReadsMap source told rose (Err outcome) =
+    FailsToLoad (files_of_map source) rose outcome
+    ⊎ ((outcome ≡ OutOfMemory)
+    ⊎ ((files : Contents) × MayHold told (files_of_map source) files
+    × ((fault : MapFault) × (outcome ≡ Refused fault) × IsRefusedFile source files fault × (read_map source files ≡ Err fault))))
+
+-- ---- counts of faults
+
+-- the count of a kind stays, or it is told that a load of it failed, and a file of it is among the named ones
+abbrev pub KeepCounts : List FileName → (Which → ℕ) → (Which → ℕ) → (Which → Type 0) → Type 0
+KeepCounts names before now tells =
+    (which : Which) → (now which ≡ before which) ⊎ ((n : FileName) × Contains names n × (n.which ≡ which) × tells which)
+
+-- no named file is of this kind
+abbrev pub LeavesKind : List FileName → Which → Type 0
+LeavesKind names which = (n : FileName) → Contains names n → ¬ (n.which ≡ which)
+
+-- the files that the words make the program read
+abbrev pub files_for : Option Command → List FileName
+files_for o = elim o [ None ↦ [] | Some c ↦ files_of c ]
+
+-- ---- what a status says
+
+-- What the words ask for says this of contents that the files may have, and its text is put.
+abbrev pub PutsAnswer : {A : Type 0} → List (List ℕ) → (Which → List ℕ → Told) → Option (List ℕ) → Option (List ℕ) → (A → Outcome) → Type 0
+PutsAnswer {A} words told old new make =
+    (c : Command) × (command words ≡ Some c)
+    × ((files : Contents) × MayHold told (files_of c) files × ((x : A) × Says c files (make x) × Appends old new (text_of (make x))))

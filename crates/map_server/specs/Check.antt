@@ -1,0 +1,25 @@
+-- The command that tells whether a map is a planar partition.
+use Rattle.std.specs.Prelude.{◌≡◌, ℕ, List, [], ◌∷◌, Option, Some, None}
+use Rattle.tgap_model.specs.Base.{BaseMap}
+use Rattle.tgap_model.specs.Partition.{IsPartition, base_segments, map_fault}
+use Rattle.tgap_model.specs.Evidence.{IsShownBy}
+use Rattle.tgap_model.specs.Texts.{ok_text}
+use Rattle.map_server.specs.declared.outcome.Outcome.{Outcome}
+use Rattle.map_server.specs.declared.outcome.Outcome.TheVariants.{Done, Refused}
+use Rattle.map_server.specs.Command.{Command, Listing, Check}
+
+-- the word after its name: a file with a listing
+abbrev pub check_command : List (List ℕ) → Option Command
+check_command (map ∷ []) = Some (Check (Listing map))
+check_command words = None
+
+-- What comes of it for a base map: it is a planar partition, and its faces, arcs and points are counted; or it is none, and its
+-- first fault is told.
+abbrev pub SaysCheck : BaseMap → Outcome → Type 0
+SaysCheck m (Done text) = IsPartition (base_segments m) × (text ≡ ok_text m)
+SaysCheck m (Refused fault) = (¬ (IsPartition (base_segments m))) × IsShownBy (base_segments m) fault
+SaysCheck m other = ⊥
+
+-- the same as a function
+unfoldable pub check_outcome : BaseMap → Outcome
+check_outcome m = elim (map_fault m) [ Some fault ↦ Refused fault | None ↦ Done (ok_text m) ]

@@ -1,0 +1,20 @@
+-- The commands: what the words of a command line ask for.
+use Rattle.std.specs.Prelude.{ℕ, ◌-◌, ◌^◌, pos, unsigned_abs, List, Option, Some, None}
+use Rattle.tgap_model.specs.Texts.{number_of}
+
+-- where a map is read from: the listing in a file of this name
+pub data Source : Type 0 where
+  Listing : List ℕ → Source
+
+-- the borders of a map after a step of its history, or whether a map is a planar partition
+pub data Command : Type 0 where
+  Borders : Source → ℕ → Command
+  Check : Source → Command
+
+-- the step that a word names: a canonical decimal from 0 to 4,294,967,295
+abbrev pub step_of : List ℕ → Option ℕ
+step_of word =
+    elim (number_of (pos 0) (pos (2 ^ 32 - 1)) word) [
+      | None ↦ None
+      | Some z ↦ Some (unsigned_abs z)
+    ]

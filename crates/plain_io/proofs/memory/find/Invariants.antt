@@ -1,7 +1,0 @@
-use Rattle.std.proofs.Common.{◌≡◌, drop}
-use Rattle.plain_io.specs.Held.{bytes_of}
-use Rattle.plain_io.proofs.memory.find.Given as goal
-
--- what is found among the files that are left is what is found among all
-abbrev pub invariant-loop-file : goal.invariant-loop-file
-invariant-loop-file l = bytes_of (drop l.file-index l.files) l.name ≡ bytes_of l.files l.name

@@ -1,0 +1,13 @@
+//! Texts: numbers in canonical decimal, and how a text is read line after line and word after word.
+
+mod fault;
+mod lines;
+mod number;
+mod pieces;
+mod word;
+
+pub use fault::{LineFault, at_line};
+pub use lines::Lines;
+pub use number::{put_count, put_field, put_number, put_size, read_number};
+pub use pieces::{Pieces, next_line};
+pub use word::{after_count, after_word, count_at, ended, natural_at, number_at};

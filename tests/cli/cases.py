@@ -1,0 +1,128 @@
+"""What the program answers: words, exit status and text. The words stand between blanks, or in a list; a file has the name of its map. The answers
+are worked out by hand from docs/rules.md and docs/formats.md."""
+
+from maps import MAPS, two_squares_with
+
+USAGE = ("usage: borders MAP STEP | check MAP [OBJECT RULES] | slice MAP STEP [OBJECT RULES] | packet MAP FROM TO [OBJECT RULES] | "
+         "replay SLICE PACKET | grid N | serve MAP PORT WORKERS VERSIONS [OBJECT RULES]\n")
+
+
+def text_of(first, *rows):
+    return "\n".join([first, *rows, "end"]) + "\n"
+
+
+def borders(step, *rows):
+    """The borders text, from rows such as '0 1 0'."""
+    return text_of(f"borders {step}", *(f"border {row}" for row in rows))
+
+
+BORDERS = [
+    ("borders no_faces 0", 0, borders(0)),
+    ("borders one_square 0", 0, borders(0, "0 1 0")),
+    ("borders two_squares 0", 0, borders(0, "0 1 0", "1 2 0", "2 1 2")),
+    ("borders two_squares 1", 0, borders(1, "0 3 0", "1 3 0")),
+    ("borders exchanged_sides 0", 0, borders(0, "0 1 0", "1 2 0", "2 2 1")),
+    ("borders three_squares 0", 0, borders(0, "0 1 0", "1 2 0", "2 3 0", "3 2 0", "4 1 2", "5 2 3")),
+    ("borders three_squares 1", 0, borders(1, "0 1 0", "1 4 0", "2 4 0", "3 4 0", "4 1 4")),
+    ("borders three_squares 2", 0, borders(2, "0 5 0", "1 5 0", "2 5 0", "3 5 0")),
+    ("borders four_squares 0", 0, borders(0, "0 1 0", "1 2 0", "2 4 0", "3 3 0", "4 1 2", "5 2 4", "6 4 3", "7 3 1")),
+    ("borders four_squares 1", 0, borders(1, "0 5 0", "1 5 0", "2 4 0", "3 3 0", "5 5 4", "6 4 3", "7 3 5")),
+    ("borders four_squares 2", 0, borders(2, "0 5 0", "1 5 0", "2 6 0", "3 6 0", "5 5 6", "7 6 5")),
+    ("borders four_squares 3", 0, borders(3, "0 7 0", "1 7 0", "2 7 0", "3 7 0")),
+    ("borders corner 0", 0, borders(0, "0 1 0", "1 2 0")),
+    ("borders hole_with_face 0", 0, borders(0, "0 1 0", "1 2 1")),
+    ("borders hole_with_face 1", 0, borders(1, "0 3 0")),
+    ("borders hole 0", 0, borders(0, "0 1 0", "1 0 1")),
+    ("borders spike 1", 0, borders(1, "0 4 0", "1 4 0", "3 3 0")),
+    ("borders crossing 0", 0, borders(0, "0 1 0", "1 2 0")),
+    (["borders", "a name with spaces", "1"], 0, borders(1, "0 3 0", "1 3 0")),
+    ("borders carte_é 1", 0, borders(1, "0 3 0", "1 3 0")),
+    ("borders ./two_squares 1", 0, borders(1, "0 3 0", "1 3 0")),
+    ("borders two_squares 2", 5, "step too high 1\n"),
+    ("borders two_squares 4294967295", 5, "step too high 1\n"),
+    ("borders no_faces 1", 5, "step too high 0\n"),
+    ("borders two_apart 1", 5, "step too high 0\n"),
+    ("borders corner 1", 5, "step too high 0\n"),
+    ("borders three_squares 3", 5, "step too high 2\n"),
+    ("borders four_squares 4", 5, "step too high 3\n"),
+    ("borders spike 2", 5, "step too high 1\n"),
+]
+
+CHECK = [
+    ("check no_faces", 0, "ok faces 0 arcs 0 points 0\n"),
+    ("check one_square", 0, "ok faces 1 arcs 1 points 5\n"),
+    ("check two_apart", 0, "ok faces 2 arcs 2 points 10\n"),
+    ("check two_squares", 0, "ok faces 2 arcs 3 points 10\n"),
+    ("check three_squares", 0, "ok faces 3 arcs 6 points 16\n"),
+    ("check four_squares", 0, "ok faces 4 arcs 8 points 20\n"),
+    ("check corner", 0, "ok faces 2 arcs 2 points 10\n"),
+    ("check hole_with_face", 0, "ok faces 2 arcs 2 points 10\n"),
+    ("check hole", 0, "ok faces 1 arcs 2 points 10\n"),
+    ("check spike", 0, "ok faces 3 arcs 4 points 15\n"),
+    ("check widest", 0, "ok faces 1 arcs 1 points 4\n"),
+    ("check crossing", 4, "refused 15 meets 0 1 125 125 50\n"),
+    ("check touching", 4, "refused 15 meets 0 1 250 0 50\n"),
+    ("check overlapping", 4, "refused 15 meets 0 1 14 0 2\n"),
+    ("check exchanged_sides", 4, "refused 16 node 10 0 0 1 2 1\n"),
+    ("check open_arc", 4, "refused 16 node 0 0 0 0 1 0\n"),
+    ("check nested", 4, "refused 17 stack 10 1 1 0\n"),
+    ("check inside_out", 4, "refused 17 stack 0 0 0 1\n"),
+]
+
+# Lines in place of a line of the two squares, and the fault that is told then. Both commands tell it.
+BAD_LINES = [
+    (1, b"tgap 2", "18 bad-line 1"),
+    (1, b"tgap 1\r", "18 bad-line 1"),
+    (1, b"\xff\xfe", "18 bad-line 1"),
+    (2, b"transform 1 1 0 2147483648", "18 bad-line 2"),
+    (3, b"ratio 016", "18 bad-line 3"),
+    (3, b"ratio 65536", "18 bad-line 3"),
+    (4, b"classes 257", "9 limit classes 257"),
+    (5, b"class 0 0 1", "18 bad-line 5"),
+    (6, b"faces 32769", "9 limit faces 32769"),
+    (7, b"face  1 0", "18 bad-line 7"),
+    (8, b"face 2 1", "18 bad-line 8"),
+    (9, b"arcs 65537", "9 limit arcs 65537"),
+    (10, b"arc 1 1 4 10 10 0 10 0 0 10 0", "18 bad-line 10"),
+    (10, b"arc 1 0 131073", "9 limit points 131073"),
+    (11, b"arc 2 0 4 10 0 10 0 20 10 10 10", "18 bad-line 11"),
+    (12, b"arc 1 2 2 10 0 10 +10", "18 bad-line 12"),
+    (13, b"end ", "18 bad-line 13"),
+]
+
+FILES = [
+    ("empty", 4, "refused 18 bad-line 1\n"),
+    ("cut", 4, "refused 18 bad-line 13\n"),
+    ("cut_line", 4, "refused 18 bad-line 13\n"),
+    ("more", 4, "refused 18 bad-line 14\n"),
+    ("too_wide", 4, "refused 18 bad-line 9\n"),
+    ("lonely_face", 4, "refused 18 bad-line 9\n"),
+    ("blanks", 4, "refused 18 bad-line 1\n"),
+    ("too_long", 4, "refused 20 input-long 16777216\n"),
+    ("none", 3, "load fault map\n"),
+    ("none/two_squares", 3, "load fault map\n"),
+    ("two_squares/none", 3, "load fault map\n"),
+    ("folder", 3, "load fault map\n"),
+    (".", 3, "load fault map\n"),
+    ("", 3, "load fault map\n"),
+    ("/dev/null", 4, "refused 18 bad-line 1\n"),
+    # It never ends, so that the limit must end the reading.
+    ("/dev/zero", 4, "refused 20 input-long 16777216\n"),
+    # Its first read fails, which is no end of file.
+    ("/proc/self/mem", 3, "load fault map\n"),
+]
+for number, (place, line, fault) in enumerate(BAD_LINES):
+    MAPS[f"bad_{number}"] = two_squares_with(place, line)
+    FILES.append((f"bad_{number}", 4, f"refused {fault}\n"))
+ANY_FILE = [case for name, status, text in FILES for case in ((["check", name], status, text), (["borders", name, "0"], status, text))]
+
+NO_COMMAND = [(words, 2, USAGE) for words in [
+    "", "borders", "check", "borders two_squares", "borders two_squares 1 2", "borders 1 two_squares", "check two_squares 1",
+    "Borders two_squares 1", "Check two_squares", "borders two_squares 01", "borders two_squares -1", "borders two_squares +1",
+    "borders two_squares 1.0", "borders two_squares 4294967296", "borders two_squares 99999999999999999999", "two_squares", "help", "--help",
+    [""], ["check", "two_squares", ""], ["borders", "two_squares", ""], ["borders", "two_squares", " 1"], ["borders", "two_squares", "1\n"],
+    [" check", "two_squares"], [b"check", b"\xff"], [b"\xff", b"two_squares"], [b"borders", b"two_squares", b"\xff"],
+    [b"check", b"two_squares\xc3"], ["check", *["two_squares"] * 1000],
+]]
+
+CASES = [*BORDERS, *CHECK, *ANY_FILE, *NO_COMMAND]

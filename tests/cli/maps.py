@@ -1,0 +1,81 @@
+"""Worked maps, each as the bytes of its listing, and large ones that are made by a rule."""
+
+SQUARE = "0 0 10 0 10 10 0 10 0 0"
+LARGE_SQUARE = "0 0 30 0 30 30 0 30 0 0"
+INNER_SQUARE = "10 10 20 10 20 20 10 20 10 10"
+MOST = 268435456
+
+
+def listing(faces, arcs, ratio=16, classes=("1 1",), class_of=None):
+    """The listing of a base map: the classes without their numbers, the arcs without their word, and the classes that are not 0 by face."""
+    lines = ["tgap 1", "transform 1 1 0 0", f"ratio {ratio}", f"classes {len(classes)}"]
+    lines += [f"class {number} {row}" for number, row in enumerate(classes)]
+    lines += [f"faces {faces}", *(f"face {face} {(class_of or {}).get(face, 0)}" for face in range(1, faces + 1))]
+    lines += [f"arcs {len(arcs)}", *(f"arc {arc}" for arc in arcs), "end"]
+    return ("\n".join(lines) + "\n").encode()
+
+
+def with_line(text, number, line):
+    """A text with another line in place of the one with this number, counted from 1."""
+    lines = text.split(b"\n")
+    lines[number - 1] = line
+    return b"\n".join(lines)
+
+
+TWO_SQUARES = ["1 0 4 10 10 0 10 0 0 10 0", "2 0 4 10 0 20 0 20 10 10 10", "1 2 2 10 0 10 10"]
+SPIKE = ["1 0 5 40 40 0 40 4 20 0 0 40 0", "2 0 4 40 0 60 0 60 40 40 40", "1 2 2 40 0 40 40", "3 0 4 1 20 2 20 1 21 1 20"]
+FOUR_SQUARES = ["1 0 3 0 10 0 0 10 0", "2 0 3 10 0 20 0 20 10", "4 0 3 20 10 20 20 10 20", "3 0 3 10 20 0 20 0 10",
+                "1 2 2 10 0 10 10", "2 4 2 20 10 10 10", "4 3 2 10 20 10 10", "3 1 2 0 10 10 10"]
+THREE_SQUARES = ["1 0 4 10 10 0 10 0 0 10 0", "2 0 2 10 0 20 0", "3 0 4 20 0 30 0 30 10 20 10", "2 0 2 20 10 10 10",
+                 "1 2 2 10 0 10 10", "2 3 2 20 0 20 10"]
+
+MAPS = {
+    # sound maps
+    "no_faces": listing(0, []),
+    "one_square": listing(1, [f"1 0 5 {SQUARE}"]),
+    "two_apart": listing(2, [f"1 0 5 {SQUARE}", "2 0 5 20 0 30 0 30 10 20 10 20 0"]),
+    "two_squares": listing(2, TWO_SQUARES),
+    "three_squares": listing(3, THREE_SQUARES, classes=("3 1 1", "1 1 5"), class_of={2: 1, 3: 1}),
+    "four_squares": listing(4, FOUR_SQUARES, ratio=0),
+    "corner": listing(2, ["1 0 5 10 10 0 10 0 0 10 0 10 10", f"2 0 5 {INNER_SQUARE}"]),
+    "hole_with_face": listing(2, [f"1 0 5 {LARGE_SQUARE}", f"2 1 5 {INNER_SQUARE}"]),
+    "hole": listing(1, [f"1 0 5 {LARGE_SQUARE}", f"0 1 5 {INNER_SQUARE}"]),
+    "spike": listing(3, SPIKE),
+    "widest": listing(1, [f"1 0 4 -{MOST} -{MOST} {MOST} -{MOST} 0 {MOST} -{MOST} -{MOST}"]),
+    # maps that are no planar partition
+    "crossing": listing(2, ["1 0 2 0 0 5 5", "2 0 2 0 5 5 0"]),
+    "touching": listing(2, ["1 0 2 0 0 10 0", "2 0 2 5 0 5 5"]),
+    "overlapping": listing(2, ["1 0 2 0 0 10 0", "2 0 2 14 0 4 0"]),
+    "exchanged_sides": listing(2, [*TWO_SQUARES[:2], "2 1 2 10 0 10 10"]),
+    "open_arc": listing(1, ["1 0 2 0 0 5 5"]),
+    "nested": listing(2, [f"1 0 5 {LARGE_SQUARE}", f"2 0 5 {INNER_SQUARE}"]),
+    "inside_out": listing(1, ["0 1 4 0 0 10 0 0 10 0 0"]),
+    # files that are the listing of no base map
+    "empty": b"",
+    "blanks": b" " * 16777216,
+    "too_long": b" " * 16777217,
+    "too_wide": listing(1, [f"1 0 4 -{MOST} -{MOST} {MOST + 1} -{MOST} 0 {MOST} -{MOST} -{MOST}"]),
+    "lonely_face": listing(1, []),
+}
+MAPS["cut"] = MAPS["two_squares"][: -len(b"end\n")]
+MAPS["cut_line"] = MAPS["two_squares"][:-1]
+MAPS["more"] = MAPS["two_squares"] + b"\n"
+MAPS["a name with spaces"] = MAPS["carte_é"] = MAPS["two_squares"]
+
+
+def two_squares_with(number, line):
+    """The listing of the two squares, with another line in place of the one with this number."""
+    return with_line(MAPS["two_squares"], number, line)
+
+
+def large_map():
+    """A listing near all limits, of about 4 MB: arc A runs down between two of the longest points, with face A / 2 + 1 at its left and nothing at
+    its right. No two faces are neighbours."""
+    high, low = f"-{MOST} {MOST - 1}", f"-{MOST - 1} -{MOST}"
+    return listing(32768, [f"{arc // 2 + 1} 0 2 {high} {low}" for arc in range(65536)])
+
+
+def large_borders():
+    """The borders of the large map before any step."""
+    rows = "".join(f"border {arc} {arc // 2 + 1} 0\n" for arc in range(65536))
+    return f"borders 0\n{rows}end\n".encode()
