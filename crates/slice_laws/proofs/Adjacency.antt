@@ -17,7 +17,8 @@ use Rattle.tgap_model.specs.Records.{is_edge_between}
 use Rattle.tgap_model.specs.Slice.{slice, left_of, right_of}
 use Rattle.map_laws.proofs.ChainMembers.{Among, any_among}
 use Rattle.map_laws.proofs.ChainLinks.{key_among, chains_whole}
-use Rattle.slice_laws.specs.SliceLaws.{ChainsExist, KeepsFaces, FacesAreAdjacent}
+use Rattle.map_laws.proofs.ChainsExist.{chains_exist}
+use Rattle.slice_laws.specs.SliceLaws.{KeepsFaces, FacesAreAdjacent}
 use Rattle.slice_laws.proofs.Members.{all_of}
 use Rattle.slice_laws.proofs.Coverage.{any_from_among, number_among, among_number, border_in_chain}
 use Rattle.slice_laws.proofs.EvenSides.{chains_faces}
@@ -96,9 +97,9 @@ module _ (m : BaseMap) (base : is_base m ≡ true) (nodes : (v : Point) → node
       (all_of (λ d. right_of (merged m) k d ≡ (edge_of (merged m) k removals p.0).right) p.0 p.2 keeps.right p.3)
       (link_between p.2 (ap (λ (i : ℕ). is_between f g (labelled_at (merged m) k (arc_number m.arcs i))) p.4 ∙ between)))
 
-pub faces_are_adjacent : ChainsExist → FacesAreAdjacent
+pub faces_are_adjacent : FacesAreAdjacent
 unfolding slice
-faces_are_adjacent exist m base planar k f g apart = (
-  from_edge m base planar.arcs.nodes k (chains_at (merged m) k) (exist (merged m) k) (removals_to (merged m) k) f g,
-  from_arc m base planar.arcs.nodes k (chains_at (merged m) k) (exist (merged m) k) (removals_to (merged m) k) f g apart,
+faces_are_adjacent m base planar k f g apart = (
+  from_edge m base planar.arcs.nodes k (chains_at (merged m) k) (chains_exist (merged m) k) (removals_to (merged m) k) f g,
+  from_arc m base planar.arcs.nodes k (chains_at (merged m) k) (chains_exist (merged m) k) (removals_to (merged m) k) f g apart,
 )

@@ -1,5 +1,5 @@
 -- The segments of a slice and those of the base map whose labels differ are the same, some of them turned round.
-use Rattle.std.proofs.Common.{◌≡◌, ◌≢◌, ◌⊎◌, inl, inr, ℕ, zero, suc, ◌+◌, ◌<◌, Bool, true, false, not, cond, ◌==◌, List, [], ◌∷◌, map, reverse, All, refl, sym, ap, ap₂, ◌∙◌, subst, ne_eqb, None, arith}
+use Rattle.std.proofs.Common.{◌≡◌, ◌≢◌, ◌⊎◌, inl, inr, ℕ, zero, suc, ◌+◌, ◌<◌, Bool, true, false, not, cond, ◌==◌, List, [], ◌∷◌, map, reverse, length, take, All, refl, sym, ap, ap₂, ◌∙◌, subst, ne_eqb, None, arith}
 use Rattle.std.specs.Prelude.{flat_map}
 use Rattle.tgap_model.specs.declared.geometry.Point.{Point}
 use Rattle.tgap_model.specs.declared.geometry.Seg.{Seg}
@@ -71,27 +71,58 @@ module _ (m : BaseMap) (base : is_base m ≡ true) (nodes : (v : Point) → node
     | inr (g, l, r) ↦ faces_differ n s x (l ∙ sym e ∙ sym r)
   ]
 
-  -- each segment of the base map whose labels differ is shown
-  pub base_shown : (b : LabelledSegment) → Among b (base_segments m) → label_at (merged m) k b.left ≢ label_at (merged m) k b.right
-      → (n : ℕ) × (s : LabelledSegment) × At (edge_segments (edges_of (merged m) k [] cs)) n s × (x : IsShownAt m base k cs t n s) × (x.p.base ≡ b)
-  base_shown b member differ =
+  -- each piece is shown
+  pub piece_shown : (i o : ℕ) (c : Chain) (p : Piece) → StandsAt m base k cs t i o c p
+      → (n : ℕ) × (s : LabelledSegment) × At (edge_segments (edges_of (merged m) k [] cs)) n s × (x : IsShownAt m base k cs t n s) × (x.p.base ≡ p.base)
+  piece_shown i o c p st =
+      let f : Chain → List LabelledSegment = λ (c : Chain). rows (key c) (edge_of (merged m) k [] c).left (edge_of (merged m) k [] c).right 0 (map shown (pieces m c)) in
+      let s = rows_at (key c) (edge_of (merged m) k [] c).left (edge_of (merged m) k [] c).right 0 (pieces m c) o p st.piece in
+      let row = at_rows (key c) (edge_of (merged m) k [] c).left (edge_of (merged m) k [] c).right 0 (pieces m c) o s.0 s.1 in
+      let n : ℕ = length (flat_map f (take i cs)) + o in
+      let all : At (flat_map f cs) n s.0 = flat_map_at f cs i c o s.0 st.chain s.1 in
+      let at : At (edge_segments (edges_of (merged m) k [] cs)) n s.0 = subst (λ ss. At ss n s.0) (sym (slice_segments m base k cs t)) all in
+      let x : IsShownAt m base k cs t n s.0 = record {
+        i = i;
+        o = o;
+        c = c;
+        p = row.0;
+        at = record {
+          stands = record { chain = st.chain; piece = row.1.at };
+          shows = record { segment = row.1.segment; arc = row.1.arc; place = omega (arith, row.1.place); starts = row.1.starts; ends = row.1.ends };
+        };
+        left = row.1.left;
+        right = row.1.right;
+        sum = refl;
+      } in
+      (n, s.0, at, x, ap (λ (q : Piece). q.base) (at_only (pieces m c) o row.0 p row.1.at st.piece))
+
+  -- each segment of the base map whose labels differ is a piece
+  pub base_piece : (b : LabelledSegment) → Among b (base_segments m) → label_at (merged m) k b.left ≢ label_at (merged m) k b.right
+      → (i : ℕ) × (o : ℕ) × (c : Chain) × (p : Piece) × StandsAt m base k cs t i o c p × (p.base ≡ b)
+  base_piece b member differ =
       let g : ℕ → ℕ = label_at (merged m) k in
       let j = among_block (arc_number m.arcs) 0 m.arcs (numbers_lead_all m.arcs) b member in
       let row = of_row _ _ _ 0 _ b j.3 in
       let border : is_border (merged m) k (arc_number m.arcs j.0) ≡ true = ap not (ne_eqb _ _ (λ e. differ (ap g row.left ∙ e ∙ ap g (sym row.right)))) in
       let found = border_in_chain (merged m) k cs t j.0 (omega (arith, j.2)) border in
-      let c : Chain = found.0 in
-      let d : Link = found.2 in
-      let p : Piece = piece d b in
-      let in_block : Among b (block m d.arc) = subst (λ i. Among b (block m i)) (sym found.4) j.3 in
-      let in_link : Among p (pieces_of m d) = among_map (piece d) (cond d.turned (reverse (block m d.arc)) (block m d.arc)) b (turned d.turned (block m d.arc) in_block) in
-      let place = among_at (pieces m c) p (flat_map_among (pieces_of m) c d p found.3 in_link) in
-      let i = among_at cs c found.1 in
-      let in_row = rows_at (key c) (edge_of (merged m) k [] c).left (edge_of (merged m) k [] c).right 0 (pieces m c) place.0 p place.1 in
-      let all = flat_map_at (λ c. rows (key c) (edge_of (merged m) k [] c).left (edge_of (merged m) k [] c).right 0 (map shown (pieces m c))) cs i.0 c place.0 in_row.0 i.1 in_row.1 in
-      let at : At (edge_segments (edges_of (merged m) k [] cs)) all.0 in_row.0 = subst (λ ss. At ss all.0 in_row.0) (sym (slice_segments m base k cs t)) all.1 in
-      ?
+      by found.0 found.1 found.2 found.3 (subst (λ i. Among b (block m i)) (sym found.4) j.3)
     where
       turned : (x : Bool) (ss : List LabelledSegment) → Among b ss → Among b (cond x (reverse ss) ss)
       turned true ss n = among_in_reverse ss b n
       turned false ss n = n
+
+      by : (c : Chain) → Among c cs → (d : Link) → Among d c → Among b (block m d.arc)
+          → (i : ℕ) × (o : ℕ) × (c : Chain) × (p : Piece) × StandsAt m base k cs t i o c p × (p.base ≡ b)
+      by c n d l in_block =
+          let in_link = among_map (piece d) (cond d.turned (reverse (block m d.arc)) (block m d.arc)) b (turned d.turned (block m d.arc) in_block) in
+          let place = among_at (pieces m c) (piece d b) (flat_map_among (pieces_of m) c d (piece d b) l in_link) in
+          let i = among_at cs c n in
+          (i.0, place.0, c, piece d b, record { chain = i.1; piece = place.1 }, refl)
+
+  -- so it is shown
+  pub base_shown : (b : LabelledSegment) → Among b (base_segments m) → label_at (merged m) k b.left ≢ label_at (merged m) k b.right
+      → (n : ℕ) × (s : LabelledSegment) × At (edge_segments (edges_of (merged m) k [] cs)) n s × (x : IsShownAt m base k cs t n s) × (x.p.base ≡ b)
+  base_shown b member differ =
+      let p = base_piece b member differ in
+      let s = piece_shown p.0 p.1 p.2 p.3 p.4 in
+      (s.0, s.1, s.2, s.3, s.4 ∙ p.5)

@@ -16,7 +16,8 @@ use Rattle.map_laws.proofs.ChainMembers.{Among}
 use Rattle.map_laws.proofs.ChainWalks.{row_spread}
 use Rattle.map_laws.proofs.ChainLinks.{key_among, IsWholeChain, chains_whole}
 use Rattle.map_laws.proofs.ChainEnds.{turn, turn_start, turn_border, IsBorderLink, IsWayOn}
-use Rattle.slice_laws.specs.SliceLaws.{ChainsExist, KeepsFaces, ChainsKeepFaces, SlicesAreSlices}
+use Rattle.map_laws.proofs.ChainsExist.{chains_exist}
+use Rattle.slice_laws.specs.SliceLaws.{KeepsFaces, ChainsKeepFaces, SlicesAreSlices}
 use Rattle.slice_laws.proofs.Members.{All-from_among, among_filter, two_members, kept_counts}
 use Rattle.slice_laws.proofs.BaseParts.{base_arcs_have_segments}
 use Rattle.slice_laws.proofs.NodeLinks.{arc_spoke, links_at, arc_spokes, link_listed, ends_are_links, numbers_lead_all}
@@ -151,10 +152,10 @@ module _ (m : BaseMap) (base : is_base m ≡ true) (nodes : (v : Point) → node
 
 -- ---- the laws
 
-pub chains_keep_faces : ChainsExist → ChainsKeepFaces
-chains_keep_faces exist m base planar k removals =
+pub chains_keep_faces : ChainsKeepFaces
+chains_keep_faces m base planar k removals =
     All-from_among (KeepsFaces (merged m) k removals) (chains_at (merged m) k)
-    (chains_faces m base planar.arcs.nodes k (chains_at (merged m) k) (exist (merged m) k) removals)
+    (chains_faces m base planar.arcs.nodes k (chains_at (merged m) k) (chains_exist (merged m) k) removals)
 
 -- the edges of chains are edges of them, where the faces stay the same
 edges_zip : (h : MergedMap) (k : ℕ) (removals : List Removal) (cs : List Chain) → ((c : Chain) → Among c cs → KeepsFaces h k removals c)
@@ -164,14 +165,14 @@ edges_zip h k removals (c ∷ cs) keeps =
     let here = keeps c (inl refl) in
     (record { key = refl; points = refl; left = here.left; right = here.right }, edges_zip h k removals cs (λ d n. keeps d (inr n)))
 
-pub slices_are_slices : ChainsExist → SlicesAreSlices
+pub slices_are_slices : SlicesAreSlices
 unfolding slice
-slices_are_slices exist m base planar k =
+slices_are_slices m base planar k =
     record {
       step = refl;
       faces = refl;
       chains = chains_at (merged m) k;
-      are_chains = exist (merged m) k;
+      are_chains = chains_exist (merged m) k;
       edges = edges_zip (merged m) k (removals_to (merged m) k) (chains_at (merged m) k)
-          (chains_faces m base planar.arcs.nodes k (chains_at (merged m) k) (exist (merged m) k) (removals_to (merged m) k));
+          (chains_faces m base planar.arcs.nodes k (chains_at (merged m) k) (chains_exist (merged m) k) (removals_to (merged m) k));
     }

@@ -11,7 +11,7 @@ use Rattle.tgap_model.specs.declared.segment.LabelledSegment.{LabelledSegment}
 use Rattle.tgap_model.specs.Base.{same_point}
 use Rattle.tgap_model.specs.Segment.{is_at, is_on, cross_at, lies_between, is_permitted, HaveInCommon}
 use Rattle.tgap_model.specs.Partition.{follows, shared_ends, AreApart}
-use Rattle.map_laws.proofs.ChainEnds.{same_point-true, same_point-from}
+use Rattle.tgap_model.proofs.Points.{same_point-true, same_point-from}
 use Rattle.slice_laws.proofs.Paths.{flip}
 use Rattle.slice_laws.proofs.Places.{At, places_from_pairs}
 

@@ -13,7 +13,7 @@ use Rattle.tgap_model.specs.Base.{same_point}
 use Rattle.tgap_model.specs.Partition.{Spoke, spokes_of, path_segments, arc_segments}
 use Rattle.tgap_model.specs.Chains.{Link, first_point, last_point, arc_number, ends_at}
 use Rattle.map_laws.proofs.ChainMembers.{Among}
-use Rattle.map_laws.proofs.ChainEnds.{same_point-from}
+use Rattle.tgap_model.proofs.Points.{same_point-from}
 use Rattle.slice_laws.proofs.Members.{among_left, among_right}
 
 -- the point before the last one of a row

@@ -225,8 +225,5 @@ is_row {A} {R} {a} {b} {xs} p = subst (IsRow R) (sym p.is) p.row
 
 pub among_in_reverse : {A : Type 0} (xs : List A) (x : A) → Among x xs → Among x (reverse xs)
 among_in_reverse [] x m = m
-among_in_reverse (y ∷ ys) x m = subst (Among x) (sym (reverse_cons y ys)) (by m)
-  where
-    by : Among x (y ∷ ys) → Among x (reverse ys ++ y ∷ [])
-    by (inl e) = among_right (reverse ys) (y ∷ []) x (inl e)
-    by (inr n) = among_left (reverse ys) (y ∷ []) x (among_in_reverse ys x n)
+among_in_reverse (y ∷ ys) x (inl e) = subst (Among x) (sym (reverse_cons y ys)) (among_right (reverse ys) (y ∷ []) x (inl e))
+among_in_reverse (y ∷ ys) x (inr n) = subst (Among x) (sym (reverse_cons y ys)) (among_left (reverse ys) (y ∷ []) x (among_in_reverse ys x n))

@@ -178,11 +178,15 @@ at_left [] ys n z a = absurd a
 at_left (x ∷ xs) ys zero z a = a
 at_left (x ∷ xs) ys (suc n) z a = at_left xs ys n z a
 
-at_right : {A : Type 0} (xs ys : List A) (n : ℕ) (z : A) → At ys n z → (o : ℕ) × At (xs ++ ys) o z
-at_right [] ys n z a = (n, a)
-at_right (x ∷ xs) ys n z a = let r = at_right xs ys n z a in (suc r.0, r.1)
+at_right : {A : Type 0} (xs ys : List A) (n : ℕ) (z : A) → At ys n z → At (xs ++ ys) (length xs + n) z
+at_right [] ys n z a = let e : n ≡ 0 + n = omega arith in subst (λ o. At ys o z) e a
+at_right (x ∷ xs) ys n z a = let e : suc (length xs + n) ≡ suc (length xs) + n = omega arith in subst (λ o. At (x ∷ xs ++ ys) o z) e (at_right xs ys n z a)
 
-pub flat_map_at : {A B : Type 0} (f : A → List B) (xs : List A) (i : ℕ) (x : A) (o : ℕ) (z : B) → At xs i x → At (f x) o z → (n : ℕ) × At (flat_map f xs) n z
+pub flat_map_at : {A B : Type 0} (f : A → List B) (xs : List A) (i : ℕ) (x : A) (o : ℕ) (z : B) → At xs i x → At (f x) o z → At (flat_map f xs) (length (flat_map f (take i xs)) + o) z
 flat_map_at f [] i x o z a b = absurd a
-flat_map_at f (y ∷ xs) zero x o z a b = (o, at_left (f y) (flat_map f xs) o z (subst (λ w. At (f w) o z) (sym a) b))
-flat_map_at f (y ∷ xs) (suc i) x o z a b = let r = flat_map_at f xs i x o z a b in at_right (f y) (flat_map f xs) r.0 z r.1
+flat_map_at f (y ∷ xs) zero x o z a b =
+    let e : o ≡ 0 + o = omega arith in
+    subst (λ n. At (flat_map f (y ∷ xs)) n z) e (at_left (f y) (flat_map f xs) o z (subst (λ w. At (f w) o z) (sym a) b))
+flat_map_at f (y ∷ xs) (suc i) x o z a b =
+    let e : length (f y) + (length (flat_map f (take i xs)) + o) ≡ length (f y ++ flat_map f (take i xs)) + o = omega (arith, length-append (f y) (flat_map f (take i xs))) in
+    subst (λ n. At (flat_map f (y ∷ xs)) n z) e (at_right (f y) (flat_map f xs) (length (flat_map f (take i xs)) + o) z (flat_map_at f xs i x o z a b))

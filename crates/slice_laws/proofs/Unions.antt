@@ -1,5 +1,5 @@
 -- A face of a slice is the union of the base faces that it was made of.
-use Rattle.std.proofs.Common.{◌≡◌, ◌≢◌, inl, inr, ℕ, zero, suc, ◌+◌, ◌≤◌, nat_le, ℤ, Bool, true, false, cond, not, ◌&&◌, ◌||◌, ◌==◌, List, [], ◌∷◌, ◌++◌, map, filter, All, refl, sym, ap, ap₂, ◌∙◌, subst, eq-eqb, ne_eqb, arith, length, count_by, sum_by, IsTrue, if◌then◌else◌}
+use Rattle.std.proofs.Common.{◌≡◌, ◌≢◌, inl, inr, ℕ, zero, suc, ◌+◌, ◌≤◌, nat_le, nat_lt, ℤ, Bool, true, false, cond, not, ◌&&◌, ◌||◌, ◌==◌, List, [], ◌∷◌, ◌++◌, map, filter, All, refl, sym, ap, ap₂, ◌∙◌, subst, eq-eqb, ne_eqb, arith, length, count_by, sum_by, IsTrue, if◌then◌else◌}
 use Rattle.std.specs.List.{list_all}
 use Rattle.std.proofs.lemmas.Bool.{and_parts, eqb-true, leb-true}
 use Rattle.std.proofs.lemmas.List.Elements.{All-nil, All-cons, All-append, All-filter}
@@ -22,7 +22,8 @@ use Rattle.tgap_model.specs.Chains.{Chain, are_chains, chains_at}
 use Rattle.tgap_model.specs.Removals.{removed_at, removals_to, sweep, sweep_edges, edges_of}
 use Rattle.tgap_model.specs.Slice.{slice}
 use Rattle.map_laws.proofs.Inside.{reached, inside_parity}
-use Rattle.slice_laws.specs.SliceLaws.{ChainsExist, IsInsideBaseFace, FacesAreUnions}
+use Rattle.map_laws.proofs.ChainsExist.{chains_exist}
+use Rattle.slice_laws.specs.SliceLaws.{IsInsideBaseFace, FacesAreUnions}
 use Rattle.slice_laws.proofs.Paths.{flip}
 use Rattle.slice_laws.proofs.Mirrored.{meets_ray, meets_ray_flip, borders_flip, borders_none}
 use Rattle.slice_laws.proofs.Outside.{outside_label}
@@ -39,7 +40,11 @@ nothing_swept ratio area made edges e = ap (λ (b : Bool). if b then [] else swe
 pub nothing_removed : (h : MergedMap) (k : ℕ) → h.base.rules.ratio ≡ 0 → removals_to h k ≡ []
 unfolding removals_to
 nothing_removed h zero e = refl
-nothing_removed h (suc k) e = ap₂ (λ xs ys. xs ++ map (λ p. record { point = p; step = suc k }) ys) (nothing_removed h k e) (nothing_swept h.base.rules.ratio _ _ _ e)
+nothing_removed h (suc k) e = by (removals_to h k) (nothing_removed h k e) (nat_lt k (length h.steps))
+  where
+    by : (before : List Removal) → before ≡ [] → (b : Bool) → cond b (before ++ removed_at h (suc k) before) before ≡ []
+    by before none true = ap₂ (λ xs ys. xs ++ map (λ p. record { point = p; step = suc k }) ys) none (nothing_swept h.base.rules.ratio _ _ _ e)
+    by before none false = none
 
 -- ---- the faces of a base map
 
@@ -148,13 +153,13 @@ module _ (m : BaseMap) (base : is_base m ≡ true) (planar : IsPartition (base_s
       let same : reached (λ s. is_above s.segment p) 0 (stack (line_through p) (base_segments m)) ≡ i.face = eqb-true _ _ (sym (inside_base i.face other) ∙ i.inside) in
       eq-eqb _ _ (ap (label_at (merged m) k) same ∙ i.ancestor)
 
-pub faces_are_unions : ChainsExist → FacesAreUnions
+pub faces_are_unions : FacesAreUnions
 unfolding slice
-faces_are_unions exist m base planar ratio k f n p between =
+faces_are_unions m base planar ratio k f n p between =
     let cs : List Chain = chains_at (merged m) k in
     let none : removals_to (merged m) k ≡ [] = nothing_removed (merged m) k ratio in
     let same : is_inside (edge_segments (edges_of (merged m) k (removals_to (merged m) k) cs)) f p
     ≡ (label_at (merged m) k (reached (λ s. is_above s.segment p) 0 (stack (line_through p) (base_segments m))) == f)
     = ap (λ (rs : List Removal). is_inside (edge_segments (edges_of (merged m) k rs cs)) f p) none
-        ∙ inside_slice m base planar k p between f cs (exist (merged m) k) ∙ inside_labels m base planar k p between f n in
+        ∙ inside_slice m base planar k p between f cs (chains_exist (merged m) k) ∙ inside_labels m base planar k p between f n in
     (λ h. there m base planar k p between f n (sym same ∙ h), λ i. same ∙ back m base planar k p between f n i)

@@ -9,14 +9,10 @@ use Rattle.tgap_model.specs.Partition.{IsPartition, base_segments, edge_segments
 use Rattle.tgap_model.specs.Inside.{is_inside}
 use Rattle.tgap_model.specs.History.{is_between}
 use Rattle.tgap_model.specs.Merged.{MergedMap, merged, label_at, labelled_at}
-use Rattle.tgap_model.specs.Chains.{Chain, are_chains, chains_at}
+use Rattle.tgap_model.specs.Chains.{Chain, chains_at}
 use Rattle.tgap_model.specs.Removals.{edge_of, removals_to}
 use Rattle.tgap_model.specs.Records.{is_edge_between}
 use Rattle.tgap_model.specs.Slice.{IsSlice, slice, left_of, right_of}
-
--- there are chains after each number of steps
-abbrev pub ChainsExist : Type 0
-ChainsExist = (h : MergedMap) (k : ℕ) → are_chains h k (chains_at h k) ≡ true
 
 -- each arc of a chain, seen in its direction, has the faces of the chain's edge at its sides
 pub record KeepsFaces (h : MergedMap) (k : ℕ) (removals : List Removal) (c : Chain) : Type 0 where
