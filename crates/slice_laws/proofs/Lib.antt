@@ -20,3 +20,4 @@ pub mod ChainPlaces
 pub mod SlicesApart
 pub mod SliceSegments
 pub mod Correspondence
+pub mod SliceStacks

@@ -31,9 +31,9 @@ passes_apart l u v h e =
     let b = and_parts (int_lt (l.c *ℤ u) l.a) (int_lt l.a (l.c *ℤ v)) h in
     never_both (l.c *ℤ u) l.a ((Decides-int_lt _ _).0 b.0) (subst (λ (x : ℤ). l.a <ℤ (l.c *ℤ x)) (sym e) ((Decides-int_lt _ _).0 b.1))
 
--- a segment that a line crosses has one direction to the right
-pub rightward_flip : (l : Line) (s : Seg) → crosses l s ≡ true → rightward (flip s) ≡ rightward s
-rightward_flip l s h = by (goes_right s) refl (goes_right (flip s)) refl
+-- a segment that a line crosses goes to the right in one direction alone
+pub one_direction : (l : Line) (s : Seg) → crosses l s ≡ true → goes_right (flip s) ≡ not (goes_right s)
+one_direction l s h = by (goes_right s) refl (goes_right (flip s)) refl
   where
     upright : s.a.x ≡ s.b.x → ⊥
     upright e = elim (or_cases (passes l s.a.x s.b.x) (passes l s.b.x s.a.x) h) [
@@ -41,11 +41,19 @@ rightward_flip l s h = by (goes_right s) refl (goes_right (flip s)) refl
       | inr c ↦ passes_apart l s.b.x s.a.x c (sym e)
     ]
 
-    by : (b : Bool) → goes_right s ≡ b → (c : Bool) → goes_right (flip s) ≡ c → cond c (flip s) (flip (flip s)) ≡ cond b s (flip s)
+    by : (b : Bool) → goes_right s ≡ b → (c : Bool) → goes_right (flip s) ≡ c → c ≡ not b
     by true e true f = absurd (never_both s.a.x s.b.x ((Decides-int_lt s.a.x s.b.x).0 e) ((Decides-int_lt s.b.x s.a.x).0 f))
     by true e false f = refl
     by false e true f = refl
     by false e false f = absurd (upright (one_abscissa s.a.x s.b.x (int_lt-false s.a.x s.b.x e) (int_lt-false s.b.x s.a.x f)))
+
+-- so it has one direction to the right
+pub rightward_flip : (l : Line) (s : Seg) → crosses l s ≡ true → rightward (flip s) ≡ rightward s
+rightward_flip l s h = ap (λ (b : Bool). cond b (flip s) s) (one_direction l s h) ∙ by (goes_right s)
+  where
+    by : (b : Bool) → cond (not b) (flip s) s ≡ cond b s (flip s)
+    by true = refl
+    by false = refl
 
 -- so it is above a point in both directions
 above_flip : (p : Fraction) (s : Seg) → crosses (line_through p) s ≡ true → is_above (flip s) p ≡ is_above s p
