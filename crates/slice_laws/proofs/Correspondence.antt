@@ -32,22 +32,27 @@ IsMirror g b s =
     ⊎ ((s.segment ≡ flip b.segment) × (s.left ≡ g b.right) × (s.right ≡ g b.left))
 
 module _ (m : BaseMap) (base : is_base m ≡ true) (nodes : (v : Point) → node_fault (base_segments m) v ≡ None) (k : ℕ) (cs : List Chain) (t : are_chains (merged m) k cs ≡ true) where
-  -- a segment of the slice is the segment of its piece, with the labels
-  pub shown_mirror : (n : ℕ) (s : LabelledSegment) → (x : IsShownAt m base k cs t n s) → IsMirror (label_at (merged m) k) x.p.base s
-  shown_mirror n s x =
+  -- a segment of the slice is the segment of its piece, with the labels, turned round where the link is
+  pub shown_labels : (n : ℕ) (s : LabelledSegment) → (x : IsShownAt m base k cs t n s)
+      → (s.left ≡ label_at (merged m) k (cond x.p.link.turned x.p.base.right x.p.base.left)) × (s.right ≡ label_at (merged m) k (cond x.p.link.turned x.p.base.left x.p.base.right))
+  shown_labels n s x =
       let keeps = chains_faces m base nodes k cs t [] x.c (at_among cs x.i x.c x.at.stands.chain) in
       let link = link_of m base k cs t x.at.stands in
       let row = of_row _ _ _ 0 _ x.p.base (base_of m base k cs t x.at.stands) in
-      by x.p.link.turned x.at.shows.segment
-      (x.left ∙ sym (all_of (λ d. left_of (merged m) k d ≡ (edge_of (merged m) k [] x.c).left) x.c x.p.link keeps.left link))
-      (x.right ∙ sym (all_of (λ d. right_of (merged m) k d ≡ (edge_of (merged m) k [] x.c).right) x.c x.p.link keeps.right link)) row.left row.right
+      (
+        x.left ∙ sym (all_of (λ d. left_of (merged m) k d ≡ (edge_of (merged m) k [] x.c).left) x.c x.p.link keeps.left link)
+            ∙ ap₂ (λ (l r : ℕ). label_at (merged m) k (cond x.p.link.turned r l)) (sym row.left) (sym row.right),
+        x.right ∙ sym (all_of (λ d. right_of (merged m) k d ≡ (edge_of (merged m) k [] x.c).right) x.c x.p.link keeps.right link)
+            ∙ ap₂ (λ (l r : ℕ). label_at (merged m) k (cond x.p.link.turned l r)) (sym row.left) (sym row.right),
+      )
+
+  pub shown_mirror : (n : ℕ) (s : LabelledSegment) → (x : IsShownAt m base k cs t n s) → IsMirror (label_at (merged m) k) x.p.base s
+  shown_mirror n s x = let labels = shown_labels n s x in by x.p.link.turned x.at.shows.segment labels.0 labels.1
     where
-      by : (b : Bool) → s.segment ≡ cond b (flip x.p.base.segment) x.p.base.segment
-          → s.left ≡ label_at (merged m) k (cond b (arc_number m.arcs x.p.link.arc).right (arc_number m.arcs x.p.link.arc).left)
-          → s.right ≡ label_at (merged m) k (cond b (arc_number m.arcs x.p.link.arc).left (arc_number m.arcs x.p.link.arc).right)
-          → x.p.base.left ≡ (arc_number m.arcs x.p.link.arc).left → x.p.base.right ≡ (arc_number m.arcs x.p.link.arc).right → IsMirror (label_at (merged m) k) x.p.base s
-      by true g l r e f = inr (g, l ∙ ap (label_at (merged m) k) (sym f), r ∙ ap (label_at (merged m) k) (sym e))
-      by false g l r e f = inl (g, l ∙ ap (label_at (merged m) k) (sym e), r ∙ ap (label_at (merged m) k) (sym f))
+      by : (b : Bool) → s.segment ≡ cond b (flip x.p.base.segment) x.p.base.segment → s.left ≡ label_at (merged m) k (cond b x.p.base.right x.p.base.left)
+          → s.right ≡ label_at (merged m) k (cond b x.p.base.left x.p.base.right) → IsMirror (label_at (merged m) k) x.p.base s
+      by true g l r = inr (g, l, r)
+      by false g l r = inl (g, l, r)
 
   -- which is a segment of the base map
   pub piece_among : {i n : ℕ} {c : Chain} {p : Piece} → StandsAt m base k cs t i n c p → Among p.base (base_segments m)
@@ -88,7 +93,7 @@ module _ (m : BaseMap) (base : is_base m ≡ true) (nodes : (v : Point) → node
         p = row.0;
         at = record {
           stands = record { chain = st.chain; piece = row.1.at };
-          shows = record { segment = row.1.segment; arc = row.1.arc; place = omega (arith, row.1.place); starts = row.1.starts; ends = row.1.ends };
+          shows = record { segment = row.1.segment; arc = row.1.arc; place = omega (arith, row.1.place); starts = row.1.starts; ends = row.1.ends; last = row.1.last };
         };
         left = row.1.left;
         right = row.1.right;

@@ -65,10 +65,15 @@ pub record IsInRow (key l r first : ℕ) (ps : List Piece) (n : ℕ) (p : Piece)
   pub place : s.place ≡ first + n
   pub starts : s.starts ≡ (s.place == 0)
   pub ends : suc n ≡ length ps → s.ends ≡ true
+  pub last : s.ends ≡ true → suc n ≡ length ps
 
 only_one : (p : Piece) (ps : List Piece) → suc zero ≡ length (p ∷ ps) → is_empty (map shown ps) ≡ true
 only_one p [] e = refl
 only_one p (q ∷ ps) e = absurd (omega arith)
+
+only_last : (p : Piece) (ps : List Piece) → is_empty (map shown ps) ≡ true → suc zero ≡ length (p ∷ ps)
+only_last p [] e = refl
+only_last p (q ∷ ps) e = absurd cc
 
 pub at_rows : (key l r place : ℕ) (ps : List Piece) (n : ℕ) (s : LabelledSegment) → At (rows key l r place (map shown ps)) n s → (p : Piece) × IsInRow key l r place ps n p s
 at_rows key l r place [] n s a = absurd a
@@ -81,6 +86,7 @@ at_rows key l r place (p ∷ ps) zero s a = (p, subst (IsInRow key l r place (p 
   place = omega arith;
   starts = refl;
   ends = only_one p ps;
+  last = only_last p ps;
 }))
 at_rows key l r place (p ∷ ps) (suc n) s a =
     let q = at_rows key l r (place + 1) ps n s a in
@@ -93,6 +99,7 @@ at_rows key l r place (p ∷ ps) (suc n) s a =
       place = omega (arith, q.1.place);
       starts = q.1.starts;
       ends = λ e. q.1.ends (omega arith);
+      last = λ e. ap suc (q.1.last e);
     })
 
 -- and each piece is shown
@@ -154,7 +161,7 @@ module _ (m : BaseMap) (base : is_base m ≡ true) (k : ℕ) (cs : List Chain) (
         p = r.0;
         at = record {
           stands = record { chain = f.3; piece = r.1.at };
-          shows = record { segment = r.1.segment; arc = r.1.arc; place = omega (arith, r.1.place); starts = r.1.starts; ends = r.1.ends };
+          shows = record { segment = r.1.segment; arc = r.1.arc; place = omega (arith, r.1.place); starts = r.1.starts; ends = r.1.ends; last = r.1.last };
         };
         left = r.1.left;
         right = r.1.right;

@@ -31,6 +31,7 @@ pub record Shows (m : BaseMap) (n : ℕ) (c : Chain) (p : Piece) (s : LabelledSe
   pub place : s.place ≡ n
   pub starts : s.starts ≡ (s.place == 0)
   pub ends : suc n ≡ length (pieces m c) → s.ends ≡ true
+  pub last : s.ends ≡ true → suc n ≡ length (pieces m c)
 
 module _ (m : BaseMap) (base : is_base m ≡ true) (k : ℕ) (cs : List Chain) (t : are_chains (merged m) k cs ≡ true) where
   -- a segment of a slice at its place
@@ -40,13 +41,7 @@ module _ (m : BaseMap) (base : is_base m ≡ true) (k : ℕ) (cs : List Chain) (
 
   -- ---- an end of an arc is at the front or at the back of a link
 
-  front_at : Piece → Point → Type 0
-  front_at p v = IsFront p × ((shown p).a ≡ v) × (link_start m.arcs p.link ≡ v)
-
-  back_at : Piece → Point → Type 0
-  back_at p v = IsBack p × ((shown p).b ≡ v) × (link_end m.arcs p.link ≡ v)
-
-  end_side : {i n : ℕ} {c : Chain} {p : Piece} → StandsAt m base k cs t i n c p → (v : Point) → IsEnd p.base v
+  pub end_side : {i n : ℕ} {c : Chain} {p : Piece} → StandsAt m base k cs t i n c p → (v : Point) → IsEnd p.base v
       → (IsFront p × ((shown p).a ≡ v) × (link_start m.arcs p.link ≡ v)) ⊎ (IsBack p × ((shown p).b ≡ v) × (link_end m.arcs p.link ≡ v))
   end_side {p = p} s v e = by p.link.turned (base_of m base k cs t s) e
     where
@@ -64,7 +59,7 @@ module _ (m : BaseMap) (base : is_base m ≡ true) (k : ℕ) (cs : List Chain) (
   -- ---- it is an end of the edge, or the chain goes on there
 
   -- before the front of a link: none, or the back of the link before
-  before_front : {i n : ℕ} {c : Chain} {p : Piece} {s : LabelledSegment} → IsSegmentAt i n c p s → IsFront p
+  pub before_front : {i n : ℕ} {c : Chain} {p : Piece} {s : LabelledSegment} → IsSegmentAt i n c p s → IsFront p
       → (s.starts ≡ true) ⊎ ((o : ℕ) × (q : Piece) × (n ≡ suc o) × StandsAt m base k cs t i o c q × IsWayOn (merged m) k q.link p.link × IsBack q)
   before_front {i} {n} {c} {p} {s} x f =
       elim (prev_at (IsNextPiece m k) (pieces m c) n p (is_row (known_of m base k cs t x.stands).are.row) x.stands.piece) [
@@ -76,7 +71,7 @@ module _ (m : BaseMap) (base : is_base m ≡ true) (k : ℕ) (cs : List Chain) (
       ]
 
   -- after the back of a link: none, or the front of its way on
-  after_back : {i n : ℕ} {c : Chain} {p : Piece} {s : LabelledSegment} → IsSegmentAt i n c p s → IsBack p
+  pub after_back : {i n : ℕ} {c : Chain} {p : Piece} {s : LabelledSegment} → IsSegmentAt i n c p s → IsBack p
       → (s.ends ≡ true) ⊎ ((q : Piece) × StandsAt m base k cs t i (suc n) c q × IsWayOn (merged m) k p.link q.link × IsFront q)
   after_back {i} {n} {c} {p} {s} x f =
       elim (next_at (IsNextPiece m k) (pieces m c) n p (is_row (known_of m base k cs t x.stands).are.row) x.stands.piece) [
@@ -116,13 +111,14 @@ module _ (m : BaseMap) (base : is_base m ≡ true) (k : ℕ) (cs : List Chain) (
         inr (inl (is_next there.0 there.1, ap (λ (g : Seg). g.b) x.shows.segment ∙ a, ap (λ (g : Seg). g.a) y.shows.segment ∙ b))
 
     -- a chain that goes on after the back of the first goes on to the second
-    after_first : (v : Point) → IsBack p → (shown p).b ≡ v → link_end m.arcs p.link ≡ v
+    pub after_first : (v : Point) → IsBack p → (shown p).b ≡ v → link_end m.arcs p.link ≡ v
         → (r : Piece) → StandsAt m base k cs t i (suc n) c r → IsWayOn (merged m) k p.link r.link → IsFront r
-        → (IsFront q × ((shown q).a ≡ v) × (link_start m.arcs q.link ≡ v)) ⊎ (IsBack q × ((shown q).b ≡ v) × (link_end m.arcs q.link ≡ v)) → MayMeet s u v
+        → (IsFront q × ((shown q).a ≡ v) × (link_start m.arcs q.link ≡ v)) ⊎ (IsBack q × ((shown q).b ≡ v) × (link_end m.arcs q.link ≡ v))
+        → (c ≡ e) × (o ≡ suc n) × ((shown p).b ≡ v) × ((shown q).a ≡ v)
     after_first v back at end r there way front (inl (fq, aq, sq)) =
         let on : IsWayOn (merged m) k p.link q.link = record { from = border_p; to = border_q; meets = end ∙ sym sq; two = way.two; apart = unturned } in
         let same = one_place m base k cs t there y.stands (front_once m base k cs t there y.stands (way_on_only way on) front fq) in
-        inr (inl (is_next same.1 (sym same.2), ap (λ (g : Seg). g.b) x.shows.segment ∙ at, ap (λ (g : Seg). g.a) y.shows.segment ∙ aq))
+        (same.1, sym same.2, at, aq)
     after_first v back at end r there way front (inr (bq, aq, eq)) =
         let on : IsWayOn (merged m) k p.link (turn q.link) = record {
           from = border_p;
@@ -135,9 +131,10 @@ module _ (m : BaseMap) (base : is_base m ≡ true) (k : ℕ) (cs : List Chain) (
         absurd (turn_apart q.link (sym turned ∙ one_link m base k cs t there y.stands (ap (λ (d : Link). d.arc) turned)))
 
     -- and before its front it comes from the second
-    before_first : (v : Point) → IsFront p → (shown p).a ≡ v → link_start m.arcs p.link ≡ v
+    pub before_first : (v : Point) → IsFront p → (shown p).a ≡ v → link_start m.arcs p.link ≡ v
         → (h : ℕ) (r : Piece) → n ≡ suc h → StandsAt m base k cs t i h c r → IsWayOn (merged m) k r.link p.link → IsBack r
-        → (IsFront q × ((shown q).a ≡ v) × (link_start m.arcs q.link ≡ v)) ⊎ (IsBack q × ((shown q).b ≡ v) × (link_end m.arcs q.link ≡ v)) → MayMeet s u v
+        → (IsFront q × ((shown q).a ≡ v) × (link_start m.arcs q.link ≡ v)) ⊎ (IsBack q × ((shown q).b ≡ v) × (link_end m.arcs q.link ≡ v))
+        → (c ≡ e) × (n ≡ suc o) × ((shown q).b ≡ v) × ((shown p).a ≡ v)
     before_first v front at start h r number there way back (inr (bq, aq, eq)) =
         let on : IsWayOn (merged m) k q.link p.link = record {
           from = border_q;
@@ -147,9 +144,7 @@ module _ (m : BaseMap) (base : is_base m ≡ true) (k : ℕ) (cs : List Chain) (
           apart = λ f. unturned (sym (ap turn f) ∙ turn_twice q.link);
         } in
         let same = one_place m base k cs t there y.stands (back_once m base k cs t there y.stands (way_on_back way on) back bq) in
-        let next : follows u s ≡ true = and_from (u.arc == s.arc) (u.place + 1 == s.place)
-        (eq-eqb _ _ (y.shows.arc ∙ sym (ap key same.1) ∙ sym x.shows.arc)) (eq-eqb _ _ (omega (arith, x.shows.place, y.shows.place, number, same.2))) in
-        inr (inr (next, ap (λ (g : Seg). g.b) y.shows.segment ∙ aq, ap (λ (g : Seg). g.a) x.shows.segment ∙ at))
+        (same.1, omega (arith, number, same.2), aq, at)
     before_first v front at start h r number there way back (inl (fq, aq, sq)) =
         let on : IsWayOn (merged m) k (turn q.link) p.link = record {
           from = turn_border border_q;
@@ -166,11 +161,19 @@ module _ (m : BaseMap) (base : is_base m ≡ true) (k : ℕ) (cs : List Chain) (
     first_end v a b = elim (end_side x.stands v a) [
       | inl (f, g, h) ↦ elim (before_front x f) [
         | inl w ↦ inl (inl (w, ap (λ (z : Seg). z.a) x.shows.segment ∙ g))
-        | inr (o, r, number, there, way, back) ↦ inr (before_first v f g h o r number there way back (end_side y.stands v b))
+        | inr (o, r, number, there, way, back) ↦
+            let e = before_first v f g h o r number there way back (end_side y.stands v b) in
+            inr (inr (inr (
+              and_from (u.arc == s.arc) (u.place + 1 == s.place) (eq-eqb _ _ (y.shows.arc ∙ sym (ap key e.0) ∙ sym x.shows.arc)) (eq-eqb _ _ (omega (arith, x.shows.place, y.shows.place, e.1))),
+              ap (λ (g : Seg). g.b) y.shows.segment ∙ e.2,
+              ap (λ (g : Seg). g.a) x.shows.segment ∙ e.3,
+            )))
       ]
       | inr (f, g, h) ↦ elim (after_back x f) [
         | inl w ↦ inl (inr (w, ap (λ (z : Seg). z.b) x.shows.segment ∙ g))
-        | inr (r, there, way, front) ↦ inr (after_first v f g h r there way front (end_side y.stands v b))
+        | inr (r, there, way, front) ↦
+            let e = after_first v f g h r there way front (end_side y.stands v b) in
+            inr (inr (inl (is_next e.0 e.1, ap (λ (g : Seg). g.b) x.shows.segment ∙ e.2, ap (λ (g : Seg). g.a) y.shows.segment ∙ e.3)))
       ]
     ]
 
