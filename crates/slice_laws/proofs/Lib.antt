@@ -21,3 +21,5 @@ pub mod SlicesApart
 pub mod SliceSegments
 pub mod Correspondence
 pub mod SliceStacks
+pub mod SpokeRings
+pub mod SliceNodes

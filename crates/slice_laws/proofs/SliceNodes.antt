@@ -1,0 +1,203 @@
+-- Round each node of a slice the faces agree: where an edge ends at a node, all border arcs there are ends of edges, and these are the
+-- spokes of the base map with their labels, less those with one label.
+use Rattle.std.proofs.Common.{◌≡◌, ◌≢◌, ◌⊎◌, inl, inr, ℕ, zero, suc, ◌+◌, ◌<◌, Bool, true, false, not, cond, ◌&&◌, ◌==◌, List, [], ◌∷◌, map, filter, length, All, Contains, Option, None, option_map, refl, sym, ap, ap₂, ◌∙◌, subst, eq-eqb, ne_eqb, arith}
+use Rattle.std.specs.List.{list_all}
+use Rattle.std.proofs.lemmas.Bool.{and_from, eqb-true, eqb-false, not-true, cases_eq, true≢false}
+use Rattle.std.proofs.lemmas.List.Sums.{AllPass-from_list_all, list_all-from_AllPass}
+use Rattle.lemmas.specs.Sorting.{is_sorted_by, sort_by}
+use Rattle.lemmas.proofs.Sorting.{filter-is_sorted, map-is_sorted, sorted_same}
+use Rattle.lemmas.proofs.Members.{Contains-filter, Contains-from_filter, Contains-map, Contains-from_map}
+use Rattle.tgap_model.specs.declared.geometry.Point.{Point}
+use Rattle.tgap_model.specs.declared.geometry.Seg.{Seg}
+use Rattle.tgap_model.specs.declared.segment.LabelledSegment.{LabelledSegment}
+use Rattle.tgap_model.specs.declared.fault.MapFault.{MapFault}
+use Rattle.tgap_model.specs.Base.{BaseMap, is_base, in_limits, same_point}
+use Rattle.tgap_model.specs.Partition.{base_segments, edge_segments, node_fault, is_proper, IsPartition}
+use Rattle.tgap_model.specs.Merged.{MergedMap, merged, label_at}
+use Rattle.tgap_model.specs.Removals.{edges_of}
+use Rattle.tgap_model.specs.Chains.{Link, Chain, arc_number, first_point, last_point, link_start, link_end, are_chains}
+use Rattle.tgap_model.proofs.Points.{same_point-true}
+use Rattle.tgap_model.proofs.Proper.{proper_parts}
+use Rattle.tgap_model.proofs.Segments.{proper_segments}
+use Rattle.base_check.specs.declared.spoke.Spoke.{Spoke}
+use Rattle.base_check.specs.declared.ring.NodeGap.{NodeGap}
+use Rattle.base_check.specs.Spokes.{disagrees, spoke, before}
+use Rattle.base_check.proofs.Order.{before_strict}
+use Rattle.base_check.proofs.Nodes.{all_spokes, is_at_node}
+use Rattle.base_check.proofs.Rings.{ring_of}
+use Rattle.map_laws.proofs.ChainMembers.{Among}
+use Rattle.slice_laws.proofs.Members.{All-from_among, all_of}
+use Rattle.slice_laws.proofs.Paths.{flip}
+use Rattle.slice_laws.proofs.Places.{At, at_among, at_only, among_at, at_place, at_first, at_last}
+use Rattle.slice_laws.proofs.Blocks.{starts_at, ends_at_last}
+use Rattle.slice_laws.proofs.Pieces.{Piece, shown, IsFront, IsBack, block, pieces}
+use Rattle.slice_laws.proofs.ChainPlaces.{StandsAt, base_of, known_of}
+use Rattle.slice_laws.proofs.Meetings.{IsEnd}
+use Rattle.slice_laws.proofs.SlicesApart.{IsSegmentAt, end_side, before_front, after_back, before_first, after_first}
+use Rattle.slice_laws.proofs.SliceSegments.{IsShownAt, shown_at, slice_apart}
+use Rattle.slice_laws.proofs.Correspondence.{shown_labels, piece_among, labels_differ, base_piece, piece_shown}
+use Rattle.slice_laws.proofs.SpokeRings.{IsPath, with_faces, has_two, path_relabelled, closed_from_ring, ring_from_closed, IsSpokeAt, spoke_from_ring, ring_has_spoke, ring_is_sorted, fault_of_ring, no_gap}
+
+module _ (m : BaseMap) (base : is_base m ≡ true) (planar : IsPartition (base_segments m)) (k : ℕ) (cs : List Chain) (t : are_chains (merged m) k cs ≡ true) where
+  -- ---- segments of the slice lie between two different points within the limits
+
+  proper_base : (b : LabelledSegment) → Among b (base_segments m) → is_proper b ≡ true
+  proper_base b n = all_of (λ s. is_proper s ≡ true) (base_segments m) b (AllPass-from_list_all is_proper (base_segments m) (proper_segments m base)) n
+
+  -- the two points differ
+  shown_points : {i n : ℕ} {c : Chain} {p : Piece} → StandsAt m base k cs t i n c p → (shown p).a ≢ (shown p).b
+  shown_points {p = p} s =
+      let apart = (proper_parts p.base (proper_base p.base (piece_among m base planar.arcs.nodes k cs t s))).apart in
+      by p.link.turned apart
+    where
+      by : (b : Bool) → p.base.segment.a ≢ p.base.segment.b → (cond b (flip p.base.segment) p.base.segment).a ≢ (cond b (flip p.base.segment) p.base.segment).b
+      by true n e = n (sym e)
+      by false n e = n e
+
+  differ_test : (a b : Point) → a ≢ b → not (same_point a b) ≡ true
+  differ_test a b n = by (same_point a b) refl
+    where
+      by : (x : Bool) → same_point a b ≡ x → not x ≡ true
+      by true e = absurd (n (same_point-true a b e))
+      by false e = refl
+
+  proper_shown : (n : ℕ) (s : LabelledSegment) → At (edge_segments (edges_of (merged m) k [] cs)) n s → is_proper s ≡ true
+  proper_shown n s a =
+      let x = shown_at m base k cs t n s a in
+      let b = proper_parts x.p.base (proper_base x.p.base (piece_among m base planar.arcs.nodes k cs t x.at.stands)) in
+      ap (λ (g : Seg). (in_limits g.a && in_limits g.b) && not (same_point g.a g.b)) x.at.shows.segment
+      ∙ by x.p.base x.p.link.turned b.first b.second b.apart
+    where
+      by : (b : LabelledSegment) (v : Bool) → in_limits b.segment.a ≡ true → in_limits b.segment.b ≡ true → b.segment.a ≢ b.segment.b
+          → (let g : Seg = cond v (flip b.segment) b.segment in (in_limits g.a && in_limits g.b) && not (same_point g.a g.b)) ≡ true
+      by b true e f n = and_from _ _ (and_from _ _ f e) (differ_test b.segment.b b.segment.a (λ w. n (sym w)))
+      by b false e f n = and_from _ _ (and_from _ _ e f) (differ_test b.segment.a b.segment.b n)
+
+  pub slice_proper : list_all is_proper (edge_segments (edges_of (merged m) k [] cs)) ≡ true
+  slice_proper =
+      list_all-from_AllPass is_proper (edge_segments (edges_of (merged m) k [] cs)) (All-from_among (λ s. is_proper s ≡ true) (edge_segments (edges_of (merged m) k [] cs))
+      (λ s n. let a = among_at (edge_segments (edges_of (merged m) k [] cs)) s n in proper_shown a.0 s a.1))
+
+  -- ---- an end of an edge is an end of a link
+
+  front_points : {i n : ℕ} {c : Chain} {p : Piece} → StandsAt m base k cs t i n c p → IsFront p → (shown p).a ≡ link_start m.arcs p.link
+  front_points {p = p} s f = by p.link.turned (base_of m base k cs t s) f
+    where
+      by : (b : Bool) → Among p.base (block m p.link.arc) → cond b p.base.ends p.base.starts ≡ true
+          → (cond b (flip p.base.segment) p.base.segment).a ≡ cond b (last_point (arc_number m.arcs p.link.arc).points) (first_point (arc_number m.arcs p.link.arc).points)
+      by true n e = ends_at_last _ _ _ 0 _ p.base n e
+      by false n e = starts_at _ _ _ _ p.base n e
+
+  back_points : {i n : ℕ} {c : Chain} {p : Piece} → StandsAt m base k cs t i n c p → IsBack p → (shown p).b ≡ link_end m.arcs p.link
+  back_points {p = p} s f = by p.link.turned (base_of m base k cs t s) f
+    where
+      by : (b : Bool) → Among p.base (block m p.link.arc) → cond b p.base.starts p.base.ends ≡ true
+          → (cond b (flip p.base.segment) p.base.segment).b ≡ cond b (first_point (arc_number m.arcs p.link.arc).points) (last_point (arc_number m.arcs p.link.arc).points)
+      by true n e = starts_at _ _ _ _ p.base n e
+      by false n e = ends_at_last _ _ _ 0 _ p.base n e
+
+  -- the segment that starts an edge shows the front of a link, and that which ends it the back of one
+  start_front : {i n : ℕ} {c : Chain} {p : Piece} {s : LabelledSegment} → IsSegmentAt m base k cs t i n c p s → s.starts ≡ true → IsFront p
+  start_front {i} {n} {c} {p} {s} x e =
+      let w = (known_of m base k cs t x.stands).are in
+      let first : n ≡ 0 = sym x.shows.place ∙ eqb-true _ _ (sym x.shows.starts ∙ e) in
+      subst IsFront (sym (at_first w.row p (subst (λ o. At (pieces m c) o p) first x.stands.piece))) w.front
+
+  end_back : {i n : ℕ} {c : Chain} {p : Piece} {s : LabelledSegment} → IsSegmentAt m base k cs t i n c p s → s.ends ≡ true → IsBack p
+  end_back {i} {n} {c} {p} {s} x e =
+      let w = (known_of m base k cs t x.stands).are in
+      subst IsBack (sym (at_last w.row n p x.stands.piece (x.shows.last e))) w.back
+
+  edge_side : {i n : ℕ} {c : Chain} {p : Piece} {s : LabelledSegment} → IsSegmentAt m base k cs t i n c p s → (v : Point) → IsEnd s v
+      → (IsFront p × ((shown p).a ≡ v) × (link_start m.arcs p.link ≡ v)) ⊎ (IsBack p × ((shown p).b ≡ v) × (link_end m.arcs p.link ≡ v))
+  edge_side x v (inl (e, f)) =
+      let front = start_front x e in
+      let at = sym (ap (λ (g : Seg). g.a) x.shows.segment) ∙ f in
+      inl (front, at, sym (front_points x.stands front) ∙ at)
+  edge_side x v (inr (e, f)) =
+      let back = end_back x e in
+      let at = sym (ap (λ (g : Seg). g.b) x.shows.segment) ∙ f in
+      inr (back, at, sym (back_points x.stands back) ∙ at)
+
+  -- ---- where an edge ends at a node, each border arc that has an end there is the end of an edge
+
+  module _ {i n j o : ℕ} {c e : Chain} {p q : Piece} {s u : LabelledSegment} (x : IsSegmentAt m base k cs t i n c p s) (y : IsSegmentAt m base k cs t j o e q u) (v : Point) (ends : IsEnd u v) where
+    -- the segment u is not the next one after s, nor the one before, with v between them
+    no_next : (c ≡ e) × (o ≡ suc n) × ((shown p).b ≡ v) × ((shown q).a ≡ v) → ⊥
+    no_next (same, number, b, a) = by ends
+      where
+        by : IsEnd u v → ⊥
+        by (inl (z, f)) =
+            let first : u.place ≡ 0 = eqb-true _ _ (sym y.shows.starts ∙ z) in
+            omega (arith, first, y.shows.place, number)
+        by (inr (z, f)) = shown_points y.stands (a ∙ sym f ∙ ap (λ (g : Seg). g.b) y.shows.segment)
+
+    no_last : (c ≡ e) × (n ≡ suc o) × ((shown q).b ≡ v) × ((shown p).a ≡ v) → ⊥
+    no_last (same, number, b, a) = by ends
+      where
+        by : IsEnd u v → ⊥
+        by (inl (z, f)) = shown_points y.stands (sym (ap (λ (g : Seg). g.a) y.shows.segment) ∙ f ∙ sym b)
+        by (inr (z, f)) =
+            let long : n < length (pieces m e) = subst (λ d. n < length (pieces m d)) same (at_place (pieces m c) n p p x.stands.piece).0 in
+            omega (arith, y.shows.last z, number, long)
+
+    -- at one place they are one
+    one_segment : i ≡ j → n ≡ o → p ≡ q
+    one_segment f g =
+        let chains : c ≡ e = at_only cs j c e (subst (λ z. At cs z c) f x.stands.chain) y.stands.chain in
+        at_only (pieces m e) o p q (subst (λ z. At (pieces m e) z p) g (subst (λ z. At (pieces m z) n p) chains x.stands.piece)) y.stands.piece
+
+    starts_there : i ≡ j → n ≡ o → (shown p).a ≡ v → s.starts ≡ true
+    starts_there f g a = by ends
+      where
+        by : IsEnd u v → s.starts ≡ true
+        by (inl (z, w)) =
+            let first : u.place ≡ 0 = eqb-true _ _ (sym y.shows.starts ∙ z) in
+            x.shows.starts ∙ eq-eqb _ _ (omega (arith, x.shows.place, y.shows.place, g, first))
+        by (inr (z, w)) =
+            absurd (shown_points x.stands (a ∙ sym w ∙ ap (λ (h : Seg). h.b) y.shows.segment ∙ sym (ap (λ (r : Piece). (shown r).b) (one_segment f g))))
+
+    ends_there : i ≡ j → n ≡ o → (shown p).b ≡ v → s.ends ≡ true
+    ends_there f g b = by ends
+      where
+        chains : c ≡ e
+        chains = at_only cs j c e (subst (λ z. At cs z c) f x.stands.chain) y.stands.chain
+
+        by : IsEnd u v → s.ends ≡ true
+        by (inl (z, w)) =
+            absurd (shown_points x.stands (ap (λ (r : Piece). (shown r).a) (one_segment f g) ∙ sym (ap (λ (h : Seg). h.a) y.shows.segment) ∙ w ∙ sym b))
+        by (inr (z, w)) = x.shows.ends (ap suc g ∙ y.shows.last z ∙ sym (ap (λ d. length (pieces m d)) chains))
+
+    -- a front there starts an edge
+    front_starts : IsFront p → (shown p).a ≡ v → link_start m.arcs p.link ≡ v → s.starts ≡ true
+    front_starts f a l = elim (cases_eq i j) [
+      | inr other ↦ elim (before_front m base k cs t x f) [
+        | inl w ↦ w
+        | inr (h, r, number, there, way, back) ↦
+            absurd (no_last (before_first m base k cs t x y (λ g w. other g) v f a l h r number there way back (edge_side y v ends)))
+      ]
+      | inl same ↦ elim (cases_eq n o) [
+        | inl g ↦ starts_there same g a
+        | inr other ↦ elim (before_front m base k cs t x f) [
+          | inl w ↦ w
+          | inr (h, r, number, there, way, back) ↦
+              absurd (no_last (before_first m base k cs t x y (λ g w. other w) v f a l h r number there way back (edge_side y v ends)))
+        ]
+      ]
+    ]
+
+    -- and a back there ends one
+    back_ends : IsBack p → (shown p).b ≡ v → link_end m.arcs p.link ≡ v → s.ends ≡ true
+    back_ends f b l = elim (cases_eq i j) [
+      | inr other ↦ elim (after_back m base k cs t x f) [
+        | inl w ↦ w
+        | inr (r, there, way, front) ↦ absurd (no_next (after_first m base k cs t x y (λ g w. other g) v f b l r there way front (edge_side y v ends)))
+      ]
+      | inl same ↦ elim (cases_eq n o) [
+        | inl g ↦ ends_there same g b
+        | inr other ↦ elim (after_back m base k cs t x f) [
+          | inl w ↦ w
+          | inr (r, there, way, front) ↦ absurd (no_next (after_first m base k cs t x y (λ g w. other w) v f b l r there way front (edge_side y v ends)))
+        ]
+      ]
+    ]
