@@ -23,3 +23,4 @@ pub mod Correspondence
 pub mod SliceStacks
 pub mod SpokeRings
 pub mod SliceNodes
+pub mod SlicesPlanar

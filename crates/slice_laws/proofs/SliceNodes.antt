@@ -201,3 +201,199 @@ module _ (m : BaseMap) (base : is_base m ≡ true) (planar : IsPartition (base_s
         ]
       ]
     ]
+
+  -- ---- the spokes of the slice and those of the base map
+
+  -- a spoke from one end of a segment to the other
+  abbrev along : Seg → ℕ → ℕ → Spoke
+  along g l r = spoke g.a g.b l r
+
+  two_faces_test : (a b : ℕ) → a ≢ b → not (a == b) ≡ true
+  two_faces_test a b n = ap not (ne_eqb a b n)
+
+  -- a spoke of the slice is one of the base map with the labels, which differ
+  spoke_there : (v : Point) (q : Spoke) → IsSpokeAt (edge_segments (edges_of (merged m) k [] cs)) v q
+      → (r : Spoke) × IsSpokeAt (base_segments m) v r × (has_two (label_at (merged m) k) r ≡ true) × (with_faces (label_at (merged m) k) r ≡ q)
+  spoke_there v q (n, s, a, side) =
+      let x = shown_at m base k cs t n s a in
+      let labels = shown_labels m base planar.arcs.nodes k cs t n s x in
+      let place = among_at (base_segments m) x.p.base (piece_among m base planar.arcs.nodes k cs t x.at.stands) in
+      let differ = labels_differ m base planar.arcs.nodes k cs t n s x in
+      elim side [
+        | inl (e, f, g) ↦ at_start x.p.base place.0 place.1 s differ x.p.link.turned (start_front x.at e) x.at.shows.segment labels.0 labels.1 f g
+        | inr (e, f, g) ↦ at_end x.p.base place.0 place.1 s differ x.p.link.turned (end_back x.at e) x.at.shows.segment labels.0 labels.1 f g
+      ]
+    where
+      at_start : (b : LabelledSegment) (o : ℕ) → At (base_segments m) o b → (s : LabelledSegment) → label_at (merged m) k b.left ≢ label_at (merged m) k b.right
+          → (w : Bool) → cond w b.ends b.starts ≡ true → s.segment ≡ cond w (flip b.segment) b.segment
+          → s.left ≡ label_at (merged m) k (cond w b.right b.left) → s.right ≡ label_at (merged m) k (cond w b.left b.right) → s.segment.a ≡ v → spoke s.segment.a s.segment.b s.left s.right ≡ q
+          → (r : Spoke) × IsSpokeAt (base_segments m) v r × (has_two (label_at (merged m) k) r ≡ true) × (with_faces (label_at (merged m) k) r ≡ q)
+      at_start b o at s differ true e g l r f h = (
+        spoke b.segment.b b.segment.a b.right b.left,
+        (o, b, at, inr (e, ap (λ (z : Seg). z.a) (sym g) ∙ f, refl)),
+        two_faces_test _ _ (λ z. differ (sym z)),
+        sym (ap (λ (z : Seg). spoke z.a z.b s.left s.right) g ∙ ap₂ (λ (y z : ℕ). spoke b.segment.b b.segment.a y z) l r) ∙ h,
+      )
+      at_start b o at s differ false e g l r f h = (
+        spoke b.segment.a b.segment.b b.left b.right,
+        (o, b, at, inl (e, ap (λ (z : Seg). z.a) (sym g) ∙ f, refl)),
+        two_faces_test _ _ differ,
+        sym (ap (λ (z : Seg). spoke z.a z.b s.left s.right) g ∙ ap₂ (λ (y z : ℕ). spoke b.segment.a b.segment.b y z) l r) ∙ h,
+      )
+
+      at_end : (b : LabelledSegment) (o : ℕ) → At (base_segments m) o b → (s : LabelledSegment) → label_at (merged m) k b.left ≢ label_at (merged m) k b.right
+          → (w : Bool) → cond w b.starts b.ends ≡ true → s.segment ≡ cond w (flip b.segment) b.segment
+          → s.left ≡ label_at (merged m) k (cond w b.right b.left) → s.right ≡ label_at (merged m) k (cond w b.left b.right) → s.segment.b ≡ v → spoke s.segment.b s.segment.a s.right s.left ≡ q
+          → (r : Spoke) × IsSpokeAt (base_segments m) v r × (has_two (label_at (merged m) k) r ≡ true) × (with_faces (label_at (merged m) k) r ≡ q)
+      at_end b o at s differ true e g l r f h = (
+        spoke b.segment.a b.segment.b b.left b.right,
+        (o, b, at, inl (e, ap (λ (z : Seg). z.b) (sym g) ∙ f, refl)),
+        two_faces_test _ _ differ,
+        sym (ap (λ (z : Seg). spoke z.b z.a s.right s.left) g ∙ ap₂ (λ (y z : ℕ). spoke b.segment.a b.segment.b z y) l r) ∙ h,
+      )
+      at_end b o at s differ false e g l r f h = (
+        spoke b.segment.b b.segment.a b.right b.left,
+        (o, b, at, inr (e, ap (λ (z : Seg). z.b) (sym g) ∙ f, refl)),
+        two_faces_test _ _ (λ z. differ (sym z)),
+        sym (ap (λ (z : Seg). spoke z.b z.a s.right s.left) g ∙ ap₂ (λ (y z : ℕ). spoke b.segment.b b.segment.a z y) l r) ∙ h,
+      )
+
+  -- where an edge ends at the node, the ends of a segment of a border arc there are ends of an edge
+  module _ (v : Point) (j : ℕ) (u : LabelledSegment) (y : IsShownAt m base k cs t j u) (ends : IsEnd u v) where
+    first_shown : (n : ℕ) (s : LabelledSegment) → At (edge_segments (edges_of (merged m) k [] cs)) n s → (x : IsShownAt m base k cs t n s) → x.p.base.starts ≡ true → x.p.base.segment.a ≡ v
+        → IsSpokeAt (edge_segments (edges_of (merged m) k [] cs)) v (with_faces (label_at (merged m) k) (spoke x.p.base.segment.a x.p.base.segment.b x.p.base.left x.p.base.right))
+    first_shown n s a x e f =
+        let labels = shown_labels m base planar.arcs.nodes k cs t n s x in
+        by x.p.link.turned (λ front at. front_starts x.at y.at v ends front at (sym (front_points x.at.stands front) ∙ at)) (λ back at. back_ends x.at y.at v ends back at (sym (back_points x.at.stands back) ∙ at))
+        x.at.shows.segment labels.0 labels.1
+      where
+        by : (w : Bool)
+            → (cond w x.p.base.ends x.p.base.starts ≡ true → (cond w (flip x.p.base.segment) x.p.base.segment).a ≡ v → s.starts ≡ true)
+            → (cond w x.p.base.starts x.p.base.ends ≡ true → (cond w (flip x.p.base.segment) x.p.base.segment).b ≡ v → s.ends ≡ true)
+            → s.segment ≡ cond w (flip x.p.base.segment) x.p.base.segment
+            → s.left ≡ label_at (merged m) k (cond w x.p.base.right x.p.base.left) → s.right ≡ label_at (merged m) k (cond w x.p.base.left x.p.base.right)
+            → IsSpokeAt (edge_segments (edges_of (merged m) k [] cs)) v (with_faces (label_at (merged m) k) (spoke x.p.base.segment.a x.p.base.segment.b x.p.base.left x.p.base.right))
+        by true start finish g l r = (
+          n,
+          s,
+          a,
+          inr (
+            finish e f,
+            ap (λ (z : Seg). z.b) g ∙ f,
+            ap (λ (z : Seg). spoke z.b z.a s.right s.left) g ∙ ap₂ (λ (c d : ℕ). spoke x.p.base.segment.a x.p.base.segment.b d c) l r,
+          ),
+        )
+        by false start finish g l r = (
+          n,
+          s,
+          a,
+          inl (
+            start e f,
+            ap (λ (z : Seg). z.a) g ∙ f,
+            ap (λ (z : Seg). spoke z.a z.b s.left s.right) g ∙ ap₂ (λ (c d : ℕ). spoke x.p.base.segment.a x.p.base.segment.b c d) l r,
+          ),
+        )
+
+    last_shown : (n : ℕ) (s : LabelledSegment) → At (edge_segments (edges_of (merged m) k [] cs)) n s → (x : IsShownAt m base k cs t n s) → x.p.base.ends ≡ true → x.p.base.segment.b ≡ v
+        → IsSpokeAt (edge_segments (edges_of (merged m) k [] cs)) v (with_faces (label_at (merged m) k) (spoke x.p.base.segment.b x.p.base.segment.a x.p.base.right x.p.base.left))
+    last_shown n s a x e f =
+        let labels = shown_labels m base planar.arcs.nodes k cs t n s x in
+        by x.p.link.turned (λ front at. front_starts x.at y.at v ends front at (sym (front_points x.at.stands front) ∙ at)) (λ back at. back_ends x.at y.at v ends back at (sym (back_points x.at.stands back) ∙ at))
+        x.at.shows.segment labels.0 labels.1
+      where
+        by : (w : Bool)
+            → (cond w x.p.base.ends x.p.base.starts ≡ true → (cond w (flip x.p.base.segment) x.p.base.segment).a ≡ v → s.starts ≡ true)
+            → (cond w x.p.base.starts x.p.base.ends ≡ true → (cond w (flip x.p.base.segment) x.p.base.segment).b ≡ v → s.ends ≡ true)
+            → s.segment ≡ cond w (flip x.p.base.segment) x.p.base.segment
+            → s.left ≡ label_at (merged m) k (cond w x.p.base.right x.p.base.left) → s.right ≡ label_at (merged m) k (cond w x.p.base.left x.p.base.right)
+            → IsSpokeAt (edge_segments (edges_of (merged m) k [] cs)) v (with_faces (label_at (merged m) k) (spoke x.p.base.segment.b x.p.base.segment.a x.p.base.right x.p.base.left))
+        by true start finish g l r = (
+          n,
+          s,
+          a,
+          inl (
+            start e f,
+            ap (λ (z : Seg). z.a) g ∙ f,
+            ap (λ (z : Seg). spoke z.a z.b s.left s.right) g ∙ ap₂ (λ (c d : ℕ). spoke x.p.base.segment.b x.p.base.segment.a c d) l r,
+          ),
+        )
+        by false start finish g l r = (
+          n,
+          s,
+          a,
+          inr (
+            finish e f,
+            ap (λ (z : Seg). z.b) g ∙ f,
+            ap (λ (z : Seg). spoke z.b z.a s.right s.left) g ∙ ap₂ (λ (c d : ℕ). spoke x.p.base.segment.b x.p.base.segment.a d c) l r,
+          ),
+        )
+
+    spoke_back : (r : Spoke) → IsSpokeAt (base_segments m) v r → has_two (label_at (merged m) k) r ≡ true
+        → IsSpokeAt (edge_segments (edges_of (merged m) k [] cs)) v (with_faces (label_at (merged m) k) r)
+    spoke_back r (n, b, a, inl (e, f, h)) two =
+        let g : ℕ → ℕ = label_at (merged m) k in
+        let differ : g b.left ≢ g b.right = eqb-false _ _ (not-true _ (ap (has_two g) h ∙ two)) in
+        let w = base_piece m base planar.arcs.nodes k cs t b (at_among (base_segments m) n b a) differ in
+        let z = piece_shown m base planar.arcs.nodes k cs t w.0 w.1 w.2 w.3 w.4 in
+        let same : z.3.p.base ≡ b = z.4 ∙ w.5 in
+        subst (λ (q : Spoke). IsSpokeAt (edge_segments (edges_of (merged m) k [] cs)) v (with_faces g q)) (ap (λ (c : LabelledSegment). spoke c.segment.a c.segment.b c.left c.right) same ∙ h)
+        (first_shown z.0 z.1 z.2 z.3 (ap (λ (c : LabelledSegment). c.starts) same ∙ e) (ap (λ (c : LabelledSegment). c.segment.a) same ∙ f))
+    spoke_back r (n, b, a, inr (e, f, h)) two =
+        let g : ℕ → ℕ = label_at (merged m) k in
+        let differ : g b.left ≢ g b.right = λ i. eqb-false _ _ (not-true _ (ap (has_two g) h ∙ two)) (sym i) in
+        let w = base_piece m base planar.arcs.nodes k cs t b (at_among (base_segments m) n b a) differ in
+        let z = piece_shown m base planar.arcs.nodes k cs t w.0 w.1 w.2 w.3 w.4 in
+        let same : z.3.p.base ≡ b = z.4 ∙ w.5 in
+        subst (λ (q : Spoke). IsSpokeAt (edge_segments (edges_of (merged m) k [] cs)) v (with_faces g q)) (ap (λ (c : LabelledSegment). spoke c.segment.b c.segment.a c.right c.left) same ∙ h)
+        (last_shown z.0 z.1 z.2 z.3 (ap (λ (c : LabelledSegment). c.ends) same ∙ e) (ap (λ (c : LabelledSegment). c.segment.b) same ∙ f))
+
+    -- ---- one ring
+
+    same_ring : filter (is_at_node v) (sort_by before (all_spokes (edge_segments (edges_of (merged m) k [] cs))))
+        ≡ map (with_faces (label_at (merged m) k)) (filter (has_two (label_at (merged m) k)) (filter (is_at_node v) (sort_by before (all_spokes (base_segments m)))))
+    same_ring =
+        let g : ℕ → ℕ = label_at (merged m) k in
+        let slice : List LabelledSegment = edge_segments (edges_of (merged m) k [] cs) in
+        let ring : List Spoke = filter (is_at_node v) (sort_by before (all_spokes (base_segments m))) in
+        sorted_same before_strict (filter (is_at_node v) (sort_by before (all_spokes slice))) (map (with_faces g) (filter (has_two g) ring)) (λ i d l. tt) (λ i d l. tt)
+        (ring_is_sorted slice slice_proper (slice_apart m base k cs t planar.arcs.apart) v)
+        (map-is_sorted (λ p. Unit {0}) before before (with_faces g) (λ p q a b. refl) (filter (has_two g) ring) (λ i d l. tt)
+        ∙ filter-is_sorted before_strict (has_two g) ring (λ i d l. tt) (ring_is_sorted (base_segments m) (proper_segments m base) planar.arcs.apart v))
+        (λ q c.
+        let r = spoke_there v q (spoke_from_ring slice v q c) in
+        subst (Contains (map (with_faces g) (filter (has_two g) ring))) r.3
+        (Contains-map (with_faces g) (filter (has_two g) ring) r.0 (Contains-filter (has_two g) ring r.0 (ring_has_spoke (base_segments m) v r.0 r.1) r.2)))
+        (λ q c.
+        let r = Contains-from_map (with_faces g) (filter (has_two g) ring) q c in
+        let f = Contains-from_filter (has_two g) ring r.0 r.1 in
+        subst (Contains (filter (is_at_node v) (sort_by before (all_spokes slice)))) r.2
+        (ring_has_spoke slice v (with_faces g r.0) (spoke_back r.0 (spoke_from_ring (base_segments m) v r.0 f.0) f.1)))
+
+  -- round each node the faces agree
+  pub slice_nodes : (v : Point) → node_fault (edge_segments (edges_of (merged m) k [] cs)) v ≡ None
+  slice_nodes v =
+      let slice : List LabelledSegment = edge_segments (edges_of (merged m) k [] cs) in
+      fault_of_ring slice slice_proper (slice_apart m base k cs t planar.arcs.apart) v
+      ∙ ap (option_map disagrees) (by (filter (is_at_node v) (sort_by before (all_spokes slice))) refl)
+    where
+      slice : List LabelledSegment
+      slice = edge_segments (edges_of (merged m) k [] cs)
+
+      no_base_gap : ring_of (filter (is_at_node v) (sort_by before (all_spokes (base_segments m)))) ≡ None
+      no_base_gap = no_gap _ (sym (fault_of_ring (base_segments m) (proper_segments m base) planar.arcs.apart v) ∙ planar.arcs.nodes v)
+
+      by : (ps : List Spoke) → filter (is_at_node v) (sort_by before (all_spokes (edge_segments (edges_of (merged m) k [] cs)))) ≡ ps
+          → ring_of (filter (is_at_node v) (sort_by before (all_spokes (edge_segments (edges_of (merged m) k [] cs))))) ≡ None
+      by [] e = ap ring_of e
+      by (p ∷ ps) e =
+          let c : Contains (filter (is_at_node v) (sort_by before (all_spokes (edge_segments (edges_of (merged m) k [] cs))))) p = subst (λ qs. Contains qs p) (sym e) (0, omega arith, refl) in
+          let there = spoke_from_ring (edge_segments (edges_of (merged m) k [] cs)) v p c in
+          let closed = closed_from_ring (filter (is_at_node v) (sort_by before (all_spokes (base_segments m)))) no_base_gap in
+          let g : ℕ → ℕ = label_at (merged m) k in
+          ap ring_of (same_ring v there.0 there.1 (shown_at m base k cs t there.0 there.1 there.2) (end_of there.1 p there.3))
+          ∙ ring_from_closed _ (g closed.0) (path_relabelled g closed.0 closed.0 (filter (is_at_node v) (sort_by before (all_spokes (base_segments m)))) closed.1)
+        where
+          end_of : (s : LabelledSegment) (q : Spoke) → ((s.starts ≡ true) × (s.segment.a ≡ v) × (spoke s.segment.a s.segment.b s.left s.right ≡ q))
+              ⊎ ((s.ends ≡ true) × (s.segment.b ≡ v) × (spoke s.segment.b s.segment.a s.right s.left ≡ q)) → IsEnd s v
+          end_of s q (inl (a, b, c)) = inl (a, b)
+          end_of s q (inr (a, b, c)) = inr (a, b)

@@ -1,4 +1,5 @@
--- Laws of slices: the faces beside an edge, which faces are adjacent, and which points are inside a face.
+-- Laws of slices: the faces beside an edge, which faces are adjacent, which points are inside a face, and that a
+-- slice is a planar partition.
 use Rattle.std.specs.Prelude.{◌≡◌, ◌≢◌, ◌≤◌, ◌↔◌, ℕ, true, IsTrue, List, length, All}
 use Rattle.std.specs.List.{list_any}
 use Rattle.tgap_model.specs.declared.geometry.Fraction.{Fraction}
@@ -50,3 +51,8 @@ abbrev pub FacesAreUnions : Type 0
 FacesAreUnions =
     (m : BaseMap) → IsTrue (is_base m) → IsPartition (base_segments m) → m.rules.ratio ≡ 0 → (k f : ℕ) → f ≢ 0
     → (p : Fraction) → IsBetweenColumns (line_through p) → IsTrue (is_inside (edge_segments (slice m k).edges) f p) ↔ IsInsideBaseFace m k f p
+
+-- Where no vertex is removed, the slice of a planar partition is a planar partition.
+abbrev pub SlicesArePartitions : Type 0
+SlicesArePartitions =
+    (m : BaseMap) → IsTrue (is_base m) → IsPartition (base_segments m) → m.rules.ratio ≡ 0 → (k : ℕ) → IsPartition (edge_segments (slice m k).edges)

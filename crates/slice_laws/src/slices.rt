@@ -1,6 +1,6 @@
 //! Laws of the faces beside the edges of a slice.
 
-ghost use Rattle.slice_laws.specs.SliceLaws.{ChainsKeepFaces, SlicesAreSlices, FacesAreAdjacent, FacesAreUnions};
+ghost use Rattle.slice_laws.specs.SliceLaws.{ChainsKeepFaces, SlicesAreSlices, FacesAreAdjacent, FacesAreUnions, SlicesArePartitions};
 
 /// Along a chain the faces at the left and at the right stay the same, and they are those of its edge.
 pub fn chains_keep_faces()
@@ -22,4 +22,9 @@ pub fn faces_are_adjacent()
 /// abscissas is inside it exactly where it is inside one of them.
 pub fn faces_are_unions()
     ensures { FacesAreUnions }
+{}
+
+/// Where no vertex is removed, the slice of a planar partition is a planar partition.
+pub fn slices_are_partitions()
+    ensures { SlicesArePartitions }
 {}
