@@ -1,27 +1,25 @@
 -- Two faces are adjacent in a slice where base faces of theirs are at the sides of an arc.
-use Rattle.std.proofs.Common.{◌≡◌, ◌≢◌, inl, inr, ℕ, Bool, true, false, cond, not, ◌&&◌, ◌||◌, ◌==◌, List, [], ◌∷◌, map, refl, sym, ap, ap₂, ◌∙◌, subst, subst₂, ◌<◌, None, length}
+use Rattle.std.proofs.Common.{◌≡◌, ◌≢◌, inl, inr, ℕ, Bool, true, false, cond, not, ◌&&◌, ◌||◌, ◌==◌, List, refl, sym, ap, ◌∙◌, subst, subst₂, ◌<◌, None, length}
 use Rattle.std.specs.List.{list_any}
 use Rattle.std.proofs.lemmas.Bool.{and_parts, or_cases, eqb-true, ne_eqb}
-use Rattle.std.proofs.lemmas.List.Elements.{All-head}
 use Rattle.tgap_model.specs.declared.geometry.Point.{Point}
 use Rattle.tgap_model.specs.declared.base.BaseArc.{BaseArc}
-use Rattle.tgap_model.specs.declared.slice.Edge.{Edge}
 use Rattle.tgap_model.specs.declared.slice.Removal.{Removal}
 use Rattle.tgap_model.specs.Base.{BaseMap, is_base}
 use Rattle.tgap_model.specs.Partition.{base_segments, node_fault}
 use Rattle.tgap_model.specs.History.{is_between}
-use Rattle.tgap_model.specs.Merged.{MergedMap, merged, label_at, labelled_at, is_border}
+use Rattle.tgap_model.specs.Merged.{merged, label_at, labelled_at, is_border}
 use Rattle.tgap_model.specs.Chains.{Link, Chain, arc_number, key, are_chains, chains_at}
 use Rattle.tgap_model.specs.Removals.{edge_of, edges_of, removals_to}
 use Rattle.tgap_model.specs.Records.{is_edge_between}
 use Rattle.tgap_model.specs.Slice.{slice, left_of, right_of}
-use Rattle.map_laws.proofs.ChainMembers.{Among, any_among}
+use Rattle.map_laws.proofs.ChainMembers.{any_among}
 use Rattle.map_laws.proofs.ChainLinks.{key_among, chains_whole}
 use Rattle.map_laws.proofs.ChainsExist.{chains_exist}
-use Rattle.slice_laws.specs.SliceLaws.{KeepsFaces, FacesAreAdjacent}
-use Rattle.slice_laws.proofs.Members.{all_of}
-use Rattle.slice_laws.proofs.Coverage.{any_from_among, number_among, among_number, border_in_chain}
+use Rattle.slice_laws.specs.SliceLaws.{FacesAreAdjacent}
+use Rattle.slice_laws.proofs.Coverage.{number_among, among_number, border_in_chain}
 use Rattle.slice_laws.proofs.EvenSides.{chains_faces}
+use Rattle.map_laws.proofs.Lists.{members_all, any_from, map_among, among_map}
 
 -- two faces at two sides
 abbrev are_between : ℕ → ℕ → ℕ → ℕ → Bool
@@ -49,28 +47,17 @@ two_labels f g l r apart h e =
       | inr s ↦ (let b = and_parts _ _ s in apart (sym (eqb-true _ _ b.1) ∙ sym e ∙ eqb-true _ _ b.0))
     ]
 
--- a member of a list that a function makes
-pub among_map : {A B : Type 0} (f : A → B) (xs : List A) (x : A) → Among x xs → Among (f x) (map f xs)
-among_map f [] x m = absurd m
-among_map f (y ∷ ys) x (inl e) = inl (ap f e)
-among_map f (y ∷ ys) x (inr m) = inr (among_map f ys x m)
-
-pub among_from_map : {A B : Type 0} (f : A → B) (xs : List A) (y : B) → Among y (map f xs) → (x : A) × Among x xs × (f x ≡ y)
-among_from_map f [] y m = absurd m
-among_from_map f (x ∷ xs) y (inl e) = (x, inl refl, e)
-among_from_map f (x ∷ xs) y (inr m) = let n = among_from_map f xs y m in (n.0, inr n.1, n.2)
-
 module _ (m : BaseMap) (base : is_base m ≡ true) (nodes : (v : Point) → node_fault (base_segments m) v ≡ None) (k : ℕ)
     (cs : List Chain) (t : are_chains (merged m) k cs ≡ true) (removals : List Removal) (f g : ℕ) where
   -- the faces of an edge are those of its least arc
   from_edge : list_any (is_edge_between f g) (edges_of (merged m) k removals cs) ≡ true → list_any (λ a. is_between f g (labelled_at (merged m) k a)) m.arcs ≡ true
   from_edge h =
       let e = any_among (is_edge_between f g) (edges_of (merged m) k removals cs) h in
-      let c = among_from_map (edge_of (merged m) k removals) cs e.0 e.1 in
+      let c = map_among (edge_of (merged m) k removals) cs e.0 e.1 in
       let w = chains_whole (merged m) k cs t c.0 c.1 in
       let least = key_among w.0 w.1 in
       let within : key c.0 < length m.arcs = subst (λ i. i < length m.arcs) (least.2 ∙ sym (ap key w.2)) (w.3.border least.0 least.1).within in
-      any_from_among (λ a. is_between f g (labelled_at (merged m) k a)) m.arcs (arc_number m.arcs (key c.0)) (number_among m.arcs (key c.0) within)
+      any_from (λ a. is_between f g (labelled_at (merged m) k a)) m.arcs (arc_number m.arcs (key c.0)) (number_among m.arcs (key c.0) within)
       (ap (is_edge_between f g) c.2 ∙ e.2)
 
   -- a link has the two faces at its sides where its arc has
@@ -92,9 +79,9 @@ module _ (m : BaseMap) (base : is_base m ≡ true) (nodes : (v : Point) → node
       let border : is_border (merged m) k (arc_number m.arcs n.0) ≡ true = ap not (ne_eqb _ _ (two_labels f g _ _ apart between)) in
       let p = border_in_chain (merged m) k cs t n.0 n.1 border in
       let keeps = chains_faces m base nodes k cs t removals p.0 p.1 in
-      any_from_among (is_edge_between f g) (edges_of (merged m) k removals cs) (edge_of (merged m) k removals p.0) (among_map (edge_of (merged m) k removals) cs p.0 p.1)
-      (subst₂ (λ l r. are_between f g l r ≡ true) (all_of (λ d. left_of (merged m) k d ≡ (edge_of (merged m) k removals p.0).left) p.0 p.2 keeps.left p.3)
-      (all_of (λ d. right_of (merged m) k d ≡ (edge_of (merged m) k removals p.0).right) p.0 p.2 keeps.right p.3)
+      any_from (is_edge_between f g) (edges_of (merged m) k removals cs) (edge_of (merged m) k removals p.0) (among_map (edge_of (merged m) k removals) cs p.0 p.1)
+      (subst₂ (λ l r. are_between f g l r ≡ true) (members_all (λ d. left_of (merged m) k d ≡ (edge_of (merged m) k removals p.0).left) p.0 p.2 keeps.left p.3)
+      (members_all (λ d. right_of (merged m) k d ≡ (edge_of (merged m) k removals p.0).right) p.0 p.2 keeps.right p.3)
       (link_between p.2 (ap (λ (i : ℕ). is_between f g (labelled_at (merged m) k (arc_number m.arcs i))) p.4 ∙ between)))
 
 pub faces_are_adjacent : FacesAreAdjacent

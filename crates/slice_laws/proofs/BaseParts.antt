@@ -1,27 +1,25 @@
 -- What the test of a base map tells of its arcs.
-use Rattle.std.proofs.Common.{◌≡◌, ℕ, nat_le, true, List, [], ◌∷◌, length, refl}
+use Rattle.std.proofs.Common.{◌≡◌, ℕ, nat_le, ◌<◌, Bool, true, length}
 use Rattle.std.specs.List.{list_all}
-use Rattle.std.proofs.lemmas.Bool.{and_parts, and_from}
+use Rattle.std.proofs.lemmas.Bool.{le-leb}
 use Rattle.tgap_model.specs.declared.base.BaseArc.{BaseArc}
-use Rattle.tgap_model.specs.Base.{BaseMap, is_arc, is_base, all_faces_bordered, in_limits, no_repeat}
-use Rattle.slice_laws.proofs.NodeLinks.{has_segment}
+use Rattle.tgap_model.specs.Base.{BaseMap, is_arc, is_base}
+use Rattle.tgap_model.specs.Chains.{arc_number}
+use Rattle.tgap_model.proofs.BaseFacts.{ArcFacts, arc_facts, base_facts}
+use Rattle.map_laws.proofs.ChainMembers.{Among, all_among}
+use Rattle.map_laws.proofs.Lists.{all_from}
+use Rattle.slice_laws.proofs.Coverage.{number_among}
 
 -- each arc is one of a map with so many faces
-pub base_arcs : (m : BaseMap) → is_base m ≡ true → list_all (is_arc (length m.classes)) m.arcs ≡ true
-unfolding is_base
-base_arcs m t = (and_parts _ (list_all (is_arc (length m.classes)) m.arcs) (and_parts _ (all_faces_bordered (length m.classes) m.arcs) t).0).1
+pub base_arc : (m : BaseMap) → is_base m ≡ true → (a : BaseArc) → Among a m.arcs → ArcFacts (length m.classes) a
+base_arc m base a n = arc_facts (length m.classes) a (all_among (is_arc (length m.classes)) m.arcs a (base_facts m base).arcs n)
 
--- an arc has two points
-arc_has_segment : (n : ℕ) (a : BaseArc) → is_arc n a ≡ true → has_segment a ≡ true
-unfolding is_arc
-arc_has_segment n a t =
-    let b = and_parts _ (no_repeat a.points) t in
-    let c = and_parts _ (list_all in_limits a.points) b.0 in
-    (and_parts _ (nat_le 2 (length a.points)) c.0).1
+-- so it has a segment
+abbrev pub has_segment : BaseArc → Bool
+has_segment a = nat_le 2 (length a.points)
 
-arcs_have_segments : (n : ℕ) (arcs : List BaseArc) → list_all (is_arc n) arcs ≡ true → list_all has_segment arcs ≡ true
-arcs_have_segments n [] t = refl
-arcs_have_segments n (a ∷ arcs) t = let b = and_parts _ _ t in and_from _ _ (arc_has_segment n a b.0) (arcs_have_segments n arcs b.1)
+pub arcs_have_segments : (m : BaseMap) → is_base m ≡ true → list_all has_segment m.arcs ≡ true
+arcs_have_segments m base = all_from has_segment m.arcs (λ a n. le-leb 2 (length a.points) (base_arc m base a n).two_points)
 
-pub base_arcs_have_segments : (m : BaseMap) → is_base m ≡ true → list_all has_segment m.arcs ≡ true
-base_arcs_have_segments m t = arcs_have_segments (length m.classes) m.arcs (base_arcs m t)
+pub arc_has_segment : (m : BaseMap) → is_base m ≡ true → (i : ℕ) → i < length m.arcs → has_segment (arc_number m.arcs i) ≡ true
+arc_has_segment m base i l = le-leb 2 (length (arc_number m.arcs i).points) (base_arc m base (arc_number m.arcs i) (number_among m.arcs i l)).two_points

@@ -1,16 +1,15 @@
 -- The segments of one arc: each is the next one of the one before, the first one starts the arc and the last one ends it.
-use Rattle.std.proofs.Common.{◌≡◌, ◌≢◌, ◌⊎◌, inl, inr, ℕ, zero, suc, ◌+◌, ◌≤◌, ◌<◌, nat_le, Bool, true, false, ◌&&◌, ◌==◌, List, [], ◌∷◌, length, refl, sym, ap, ap₂, ◌∙◌, subst, eq-eqb, ne_eqb, arith}
+use Rattle.std.proofs.Common.{◌≡◌, inl, inr, ℕ, ◌+◌, ◌≤◌, ◌<◌, nat_le, true, false, ◌&&◌, ◌==◌, List, [], ◌∷◌, length, refl, sym, ap, ◌∙◌, subst, eq-eqb, ne_eqb, arith}
 use Rattle.std.proofs.lemmas.Bool.{and_from, true≢false, cases_eq}
 use Rattle.tgap_model.specs.declared.geometry.Point.{Point}
 use Rattle.tgap_model.specs.declared.base.BaseArc.{BaseArc}
 use Rattle.tgap_model.specs.declared.segment.LabelledSegment.{LabelledSegment}
 use Rattle.tgap_model.specs.Partition.{is_empty, path_segments, arc_segments, follows}
 use Rattle.tgap_model.specs.Chains.{first_point, last_point}
-use Rattle.map_laws.proofs.ChainMembers.{Among, AreDistinct}
-use Rattle.slice_laws.proofs.Members.{among_left, among_right}
+use Rattle.map_laws.proofs.ChainMembers.{Among, AreDistinct, among_left, among_right, append_among}
 use Rattle.slice_laws.proofs.NodeLinks.{AreNumbers}
 use Rattle.slice_laws.proofs.EdgeSums.{row_segment}
-use Rattle.slice_laws.proofs.Places.{IsRowFrom, joined_rows, among_append}
+use Rattle.slice_laws.proofs.Places.{IsRowFrom, joined_rows}
 
 -- the second segment is the next one of the arc
 abbrev pub IsNext : LabelledSegment → LabelledSegment → Type 0
@@ -149,7 +148,7 @@ pub among_block : (number : ℕ → BaseArc) (i : ℕ) (arcs : List BaseArc) →
     → (j : ℕ) × (i ≤ j) × (j < i + length arcs) × Among s (path_segments j (number j).left (number j).right 0 (number j).points)
 among_block number i [] at s m = absurd m
 among_block number i (a ∷ arcs) at s m =
-    elim (among_append (path_segments i a.left a.right 0 a.points) (arc_segments (i + 1) arcs) s m) [
+    elim (append_among (path_segments i a.left a.right 0 a.points) (arc_segments (i + 1) arcs) s m) [
       | inl n ↦ (i, omega arith, omega arith, subst (λ (x : BaseArc). Among s (path_segments i x.left x.right 0 x.points)) (sym at.0) n)
       | inr n ↦ (let r = among_block number (i + 1) arcs at.1 s n in (r.0, omega (arith, r.1), omega (arith, r.2), r.3))
     ]

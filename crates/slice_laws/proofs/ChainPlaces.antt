@@ -1,26 +1,22 @@
 -- The pieces of the chains of a list: which chain and which place each stands at.
-use Rattle.std.proofs.Common.{◌≡◌, ◌≢◌, ◌⊎◌, inl, inr, ℕ, zero, suc, ◌+◌, ◌<◌, ◌≤◌, nat_le, Bool, true, false, not, cond, ◌&&◌, ◌==◌, List, [], ◌∷◌, ◌++◌, length, refl, sym, ap, ap₂, ◌∙◌, subst, eq-eqb, arith, if◌then◌else◌}
+use Rattle.std.proofs.Common.{◌≡◌, inl, inr, ℕ, zero, suc, ◌+◌, ◌<◌, ◌≤◌, Bool, true, false, cond, ◌==◌, List, [], ◌∷◌, length, refl, sym, ap, ap₂, ◌∙◌, subst, eq-eqb, arith, if◌then◌else◌}
 use Rattle.std.specs.Prelude.{count_by, flat_map}
 use Rattle.std.specs.List.{list_any}
-use Rattle.std.proofs.lemmas.Bool.{and_parts, eqb-true, true≢false, cases_order}
+use Rattle.std.proofs.lemmas.Bool.{and_parts, eqb-true, cases_order}
 use Rattle.std.proofs.lemmas.List.Sums.{sum_by-append}
-use Rattle.tgap_model.specs.declared.geometry.Point.{Point}
 use Rattle.tgap_model.specs.declared.segment.LabelledSegment.{LabelledSegment}
 use Rattle.tgap_model.specs.Base.{BaseMap, is_base}
-use Rattle.tgap_model.specs.Partition.{follows, path_segments}
-use Rattle.tgap_model.specs.Merged.{MergedMap, merged}
-use Rattle.tgap_model.specs.Chains.{Link, Chain, arc_number, border_numbers, link_start, link_end, are_chains}
-use Rattle.map_laws.proofs.ChainMembers.{Among, AreDistinct, joined_among, among_counts, all_among}
-use Rattle.map_laws.proofs.ChainWalks.{IsRow, last_of}
-use Rattle.map_laws.proofs.ChainEnds.{IsWayOn, IsBorderLink}
-use Rattle.map_laws.proofs.ChainLinks.{IsWholeChain, chains_count, chains_within, chains_whole}
-use Rattle.slice_laws.proofs.BaseParts.{base_arcs_have_segments}
-use Rattle.slice_laws.proofs.NodeLinks.{has_segment}
-use Rattle.slice_laws.proofs.Coverage.{number_among}
-use Rattle.slice_laws.proofs.Places.{At, at_among, at_only, at_once, IsRowFrom, is_row, next_at, prev_at, at_last}
-use Rattle.slice_laws.proofs.Blocks.{of_row, starts_at, ends_at_last, one_start, one_end, end_greatest, place_once}
-use Rattle.slice_laws.proofs.Pieces.{Piece, piece, shown, IsFront, IsBack, block, pieces, IsNextPiece, ArePieces, chain_pieces, piece_from, pieces_distinct}
-use Rattle.slice_laws.proofs.Meetings.{IsEnd}
+use Rattle.tgap_model.specs.Partition.{follows}
+use Rattle.tgap_model.specs.Merged.{merged}
+use Rattle.tgap_model.specs.Chains.{Link, Chain, border_numbers, are_chains}
+use Rattle.map_laws.proofs.ChainMembers.{Among, AreDistinct, joined_among, among_counts}
+use Rattle.map_laws.proofs.ChainWalks.{last_of}
+use Rattle.map_laws.proofs.ChainEnds.{IsBorderLink}
+use Rattle.map_laws.proofs.ChainLinks.{chains_count, chains_within, chains_whole}
+use Rattle.slice_laws.proofs.BaseParts.{arc_has_segment}
+use Rattle.slice_laws.proofs.Places.{At, at_among, at_only, at_once, is_row, next_at, at_last}
+use Rattle.slice_laws.proofs.Blocks.{of_row, one_start, one_end, end_greatest, place_once}
+use Rattle.slice_laws.proofs.Pieces.{Piece, piece, IsFront, IsBack, block, pieces, IsNextPiece, ArePieces, chain_pieces, piece_from, pieces_distinct}
 
 -- members of two lists at different places that pass a test are counted twice
 two_counted : {A : Type 0} (p : A → Bool) (xss : List (List A)) (i j : ℕ) (xs ys : List A) (x y : A) → At xss i xs → At xss j ys → i < j → Among x xs → Among y ys
@@ -58,7 +54,7 @@ module _ (m : BaseMap) (base : is_base m ≡ true) (k : ℕ) (cs : List Chain) (
       subst IsKnownChain (sym w.2) (record {
         from = w.0;
         to = last_of w.0 w.1;
-        are = chain_pieces m k w.0 w.1 w.3.row (λ e o. all_among has_segment m.arcs (arc_number m.arcs e.arc) (base_arcs_have_segments m base) (number_among m.arcs e.arc (w.3.border e o).within));
+        are = chain_pieces m k w.0 w.1 w.3.row (λ e o. arc_has_segment m base e.arc (w.3.border e o).within);
         distinct = pieces_distinct m k (w.0 ∷ w.1) w.3.distinct;
         once = w.3.once;
         border = w.3.border;

@@ -1,29 +1,25 @@
 -- The segments of a slice and those of the base map whose labels differ are the same, some of them turned round.
-use Rattle.std.proofs.Common.{◌≡◌, ◌≢◌, ◌⊎◌, inl, inr, ℕ, zero, suc, ◌+◌, ◌<◌, Bool, true, false, not, cond, ◌==◌, List, [], ◌∷◌, map, reverse, length, take, All, refl, sym, ap, ap₂, ◌∙◌, subst, ne_eqb, None, arith}
+use Rattle.std.proofs.Common.{◌≡◌, ◌≢◌, ◌⊎◌, inl, inr, ℕ, ◌+◌, Bool, true, false, not, cond, List, [], map, reverse, length, take, refl, sym, ap, ap₂, ◌∙◌, subst, ne_eqb, None, arith}
 use Rattle.std.specs.Prelude.{flat_map}
 use Rattle.tgap_model.specs.declared.geometry.Point.{Point}
-use Rattle.tgap_model.specs.declared.geometry.Seg.{Seg}
-use Rattle.tgap_model.specs.declared.base.BaseArc.{BaseArc}
 use Rattle.tgap_model.specs.declared.segment.LabelledSegment.{LabelledSegment}
 use Rattle.tgap_model.specs.Base.{BaseMap, is_base}
 use Rattle.tgap_model.specs.Partition.{base_segments, edge_segments, node_fault}
-use Rattle.tgap_model.specs.Merged.{MergedMap, merged, label_at, is_border}
+use Rattle.tgap_model.specs.Merged.{merged, label_at, is_border}
 use Rattle.tgap_model.specs.Removals.{edge_of, edges_of}
 use Rattle.tgap_model.specs.Chains.{Link, Chain, arc_number, key, are_chains}
 use Rattle.tgap_model.specs.Slice.{left_of, right_of}
 use Rattle.map_laws.proofs.ChainMembers.{Among}
-use Rattle.slice_laws.proofs.Members.{all_of}
 use Rattle.slice_laws.proofs.NodeLinks.{numbers_lead_all}
 use Rattle.slice_laws.proofs.Coverage.{border_in_chain}
 use Rattle.slice_laws.proofs.EvenSides.{border_faces, chains_faces}
-use Rattle.slice_laws.proofs.Adjacency.{among_map}
 use Rattle.slice_laws.proofs.Paths.{flip}
-use Rattle.slice_laws.proofs.Places.{At, at_among, at_only, among_at, among_in_reverse, flat_map_among}
+use Rattle.slice_laws.proofs.Places.{At, at_among, at_only, among_at, among_in_reverse}
 use Rattle.slice_laws.proofs.Blocks.{of_row, block_among, among_block}
 use Rattle.slice_laws.proofs.Pieces.{Piece, piece, shown, block, pieces_of, pieces}
 use Rattle.slice_laws.proofs.ChainPlaces.{StandsAt, link_of, base_of, known_of}
-use Rattle.slice_laws.proofs.SlicesApart.{IsSegmentAt}
-use Rattle.slice_laws.proofs.SliceSegments.{rows, at_rows, rows_at, flat_map_at, slice_segments, IsShownAt, shown_at}
+use Rattle.slice_laws.proofs.SliceSegments.{rows, at_rows, rows_at, flat_map_at, slice_segments, IsShownAt}
+use Rattle.map_laws.proofs.Lists.{members_all, among_map, among_flat}
 
 -- a segment with other labels, in its direction or turned round
 abbrev pub IsMirror : (ℕ → ℕ) → LabelledSegment → LabelledSegment → Type 0
@@ -38,11 +34,10 @@ module _ (m : BaseMap) (base : is_base m ≡ true) (nodes : (v : Point) → node
   shown_labels n s x =
       let keeps = chains_faces m base nodes k cs t [] x.c (at_among cs x.i x.c x.at.stands.chain) in
       let link = link_of m base k cs t x.at.stands in
-      let row = of_row _ _ _ 0 _ x.p.base (base_of m base k cs t x.at.stands) in
-      (
-        x.left ∙ sym (all_of (λ d. left_of (merged m) k d ≡ (edge_of (merged m) k [] x.c).left) x.c x.p.link keeps.left link)
+      let row = of_row _ _ _ 0 _ x.p.base (base_of m base k cs t x.at.stands) in (
+        x.left ∙ sym (members_all (λ d. left_of (merged m) k d ≡ (edge_of (merged m) k [] x.c).left) x.c x.p.link keeps.left link)
             ∙ ap₂ (λ (l r : ℕ). label_at (merged m) k (cond x.p.link.turned r l)) (sym row.left) (sym row.right),
-        x.right ∙ sym (all_of (λ d. right_of (merged m) k d ≡ (edge_of (merged m) k [] x.c).right) x.c x.p.link keeps.right link)
+        x.right ∙ sym (members_all (λ d. right_of (merged m) k d ≡ (edge_of (merged m) k [] x.c).right) x.c x.p.link keeps.right link)
             ∙ ap₂ (λ (l r : ℕ). label_at (merged m) k (cond x.p.link.turned l r)) (sym row.left) (sym row.right),
       )
 
@@ -66,8 +61,8 @@ module _ (m : BaseMap) (base : is_base m ≡ true) (nodes : (v : Point) → node
       let keeps = chains_faces m base nodes k cs t [] x.c (at_among cs x.i x.c x.at.stands.chain) in
       let link = link_of m base k cs t x.at.stands in
       border_faces (merged m) k x.p.link ((known_of m base k cs t x.at.stands).border x.p.link link).border
-      (all_of (λ d. left_of (merged m) k d ≡ (edge_of (merged m) k [] x.c).left) x.c x.p.link keeps.left link ∙ sym x.left ∙ e ∙ x.right
-      ∙ sym (all_of (λ d. right_of (merged m) k d ≡ (edge_of (merged m) k [] x.c).right) x.c x.p.link keeps.right link))
+      (members_all (λ d. left_of (merged m) k d ≡ (edge_of (merged m) k [] x.c).left) x.c x.p.link keeps.left link ∙ sym x.left ∙ e ∙ x.right
+      ∙ sym (members_all (λ d. right_of (merged m) k d ≡ (edge_of (merged m) k [] x.c).right) x.c x.p.link keeps.right link))
 
   -- so the labels of the segment that it shows do
   pub labels_differ : (n : ℕ) (s : LabelledSegment) → (x : IsShownAt m base k cs t n s) → label_at (merged m) k x.p.base.left ≢ label_at (merged m) k x.p.base.right
@@ -120,7 +115,7 @@ module _ (m : BaseMap) (base : is_base m ≡ true) (nodes : (v : Point) → node
           → (i : ℕ) × (o : ℕ) × (c : Chain) × (p : Piece) × StandsAt m base k cs t i o c p × (p.base ≡ b)
       by c n d l in_block =
           let in_link = among_map (piece d) (cond d.turned (reverse (block m d.arc)) (block m d.arc)) b (turned d.turned (block m d.arc) in_block) in
-          let place = among_at (pieces m c) (piece d b) (flat_map_among (pieces_of m) c d (piece d b) l in_link) in
+          let place = among_at (pieces m c) (piece d b) (among_flat (pieces_of m) c d (piece d b) l in_link) in
           let i = among_at cs c n in
           (i.0, place.0, c, piece d b, record { chain = i.1; piece = place.1 }, refl)
 

@@ -1,15 +1,14 @@
 -- Each border arc stands in a chain, and each link of a chain is of a border arc.
-use Rattle.std.proofs.Common.{◌≡◌, inl, inr, ℕ, zero, suc, ◌+◌, ◌<◌, ◌≤◌, Bool, true, false, ◌||◌, ◌==◌, List, [], ◌∷◌, length, get_or, refl, sym, ap, ◌∙◌, arith, eq-eqb, if◌then◌else◌}
+use Rattle.std.proofs.Common.{◌≡◌, inl, inr, ℕ, zero, suc, ◌+◌, ◌<◌, ◌≤◌, true, ◌==◌, List, [], ◌∷◌, length, refl, ap, ◌∙◌, arith, eq-eqb, if◌then◌else◌}
 use Rattle.std.specs.Prelude.{count_by, flat_map}
-use Rattle.std.specs.List.{list_any, range_with_len}
-use Rattle.std.proofs.lemmas.List.{get_or_default}
+use Rattle.std.specs.List.{range_with_len}
 use Rattle.std.proofs.lemmas.Bool.{eqb-true, cases_eq}
 use Rattle.tgap_model.specs.declared.base.BaseArc.{BaseArc}
 use Rattle.tgap_model.specs.Merged.{MergedMap, is_border}
 use Rattle.tgap_model.specs.Chains.{Link, Chain, arc_number, border_numbers, are_chains}
-use Rattle.map_laws.proofs.ChainMembers.{Among, counted_among, among_joined}
+use Rattle.map_laws.proofs.ChainMembers.{Among, among_joined, counted_among}
 use Rattle.map_laws.proofs.ChainLinks.{chains_count}
-use Rattle.slice_laws.proofs.Members.{among_filter}
+use Rattle.map_laws.proofs.Lists.{any_from, among_kept}
 
 -- ---- members
 
@@ -17,16 +16,6 @@ use Rattle.slice_laws.proofs.Members.{among_filter}
 pub range_holds : (a n i : ℕ) → a ≤ i → i < a + n → Among i (range_with_len a n)
 range_holds a zero i l u = absurd (omega arith)
 range_holds a (suc n) i l u = elim (cases_eq a i) [ inl e ↦ inl e | inr apart ↦ inr (range_holds (a + 1) n i (omega arith) (omega arith)) ]
-
--- a test passes somewhere where a member passes it
-pub any_from_among : {A : Type 0} (p : A → Bool) (xs : List A) (x : A) → Among x xs → p x ≡ true → list_any p xs ≡ true
-any_from_among p [] x m e = absurd m
-any_from_among p (y ∷ ys) x (inl s) e = ap (λ b. b || list_any p ys) (ap p s ∙ e)
-any_from_among p (y ∷ ys) x (inr m) e = ap (λ b. p y || b) (any_from_among p ys x m e) ∙ always (p y)
-  where
-    always : (b : Bool) → (b || true) ≡ true
-    always true = refl
-    always false = refl
 
 -- the arc with a number is a member
 pub number_among : (arcs : List BaseArc) (i : ℕ) → i < length arcs → Among (arc_number arcs i) arcs
@@ -46,9 +35,9 @@ among_number (b ∷ arcs) a (inr m) = let n = among_number arcs a m in (suc n.0,
 pub border_in_chain : (h : MergedMap) (k : ℕ) (cs : List Chain) → are_chains h k cs ≡ true → (i : ℕ) → i < length h.base.arcs → is_border h k (arc_number h.base.arcs i) ≡ true
     → (c : Chain) × Among c cs × (d : Link) × Among d c × (d.arc ≡ i)
 border_in_chain h k cs t i l b =
-    let listed = among_filter (λ j. is_border h k (arc_number h.base.arcs j)) (range_with_len 0 (length h.base.arcs)) i b (range_holds 0 (length h.base.arcs) i (omega arith) (omega arith)) in
+    let listed = among_kept (λ j. is_border h k (arc_number h.base.arcs j)) (range_with_len 0 (length h.base.arcs)) i (range_holds 0 (length h.base.arcs) i (omega arith) (omega arith)) b in
     let one : count_by (λ (d : Link). d.arc == i) (flat_map (λ c. c) cs) ≡ 1
-    = chains_count h k cs t i l ∙ ap (λ b. if b then 1 else 0) (any_from_among (λ j. j == i) (border_numbers h k) i listed (eq-eqb i i refl)) in
+    = chains_count h k cs t i l ∙ ap (λ b. if b then 1 else 0) (any_from (λ j. j == i) (border_numbers h k) i listed (eq-eqb i i refl)) in
     let found = counted_among (λ (d : Link). d.arc == i) (flat_map (λ c. c) cs) (omega arith) in
     let place = among_joined cs found.0 found.1 in
     (place.0, place.1, found.0, place.2, eqb-true _ _ found.2)

@@ -1,8 +1,7 @@
 -- Where no vertex is removed, a sum over the segments of a slice is one over the segments of the border arcs, if it does not
 -- depend on the direction of a segment.
-use Rattle.std.proofs.Common.{◌≡◌, inl, inr, ℕ, ◌+◌, ◌<◌, Bool, true, false, cond, not, ◌==◌, List, [], ◌∷◌, ◌++◌, map, filter, length, get_or, reverse, All, refl, sym, ap, ap₂, ◌∙◌, subst, None}
+use Rattle.std.proofs.Common.{◌≡◌, ℕ, ◌+◌, Bool, true, false, cond, ◌==◌, List, [], ◌∷◌, map, get_or, reverse, refl, sym, ap, ap₂, ◌∙◌, subst, None}
 use Rattle.std.specs.Prelude.{sum_by, flat_map}
-use Rattle.std.specs.List.{list_all}
 use Rattle.std.proofs.lemmas.Bool.{eqb-true, not-false}
 use Rattle.std.proofs.lemmas.List.Sums.{sum_by-cons, sum_by-append}
 use Rattle.std.proofs.lemmas.List.Sorted.{IsPermutation-reverse, sum_by-IsPermutation}
@@ -18,18 +17,15 @@ use Rattle.tgap_model.specs.Merged.{MergedMap, merged, label_at, is_border}
 use Rattle.tgap_model.specs.Removals.{path, without, edge_of, edges_of}
 use Rattle.tgap_model.specs.Chains.{Link, Chain, arc_number, link_points, chain_points, are_chains}
 use Rattle.tgap_model.specs.Slice.{left_of, right_of}
-use Rattle.map_laws.proofs.ChainMembers.{Among, all_among}
+use Rattle.map_laws.proofs.ChainMembers.{Among}
 use Rattle.map_laws.proofs.ChainWalks.{IsRow}
 use Rattle.map_laws.proofs.ChainEnds.{IsWayOn}
 use Rattle.map_laws.proofs.ChainLinks.{IsWholeChain, chains_whole}
-use Rattle.slice_laws.specs.SliceLaws.{KeepsFaces}
-use Rattle.slice_laws.proofs.Members.{All-from_among, all_of}
-use Rattle.slice_laws.proofs.BaseParts.{base_arcs_have_segments}
-use Rattle.slice_laws.proofs.NodeLinks.{has_segment}
-use Rattle.slice_laws.proofs.Coverage.{number_among}
-use Rattle.slice_laws.proofs.Paths.{flip, HasPoint, has_point, path_reversed, Meets, HasPoints, chain_path}
+use Rattle.slice_laws.proofs.BaseParts.{arc_has_segment}
+use Rattle.slice_laws.proofs.Paths.{flip, has_point, path_reversed, Meets, HasPoints, chain_path}
 use Rattle.slice_laws.proofs.CountedSums.{sum_by-flat_map, sum_of_chains}
 use Rattle.slice_laws.proofs.EvenSides.{chains_faces}
+use Rattle.map_laws.proofs.Lists.{all_members, members_all}
 
 -- the segment of a row at a place
 abbrev pub row_segment : ℕ → ℕ → ℕ → ℕ → Point → Point → Bool → LabelledSegment
@@ -57,8 +53,7 @@ row_weaker R S h (x ∷ y ∷ ys) r = (h x y r.0, row_weaker R S h (y ∷ ys) r.
 -- the links of a whole chain have points, and each ends where the next one starts
 pub chain_has_points : (m : BaseMap) → is_base m ≡ true → (k : ℕ) (d : Link) (chain : List Link) → IsWholeChain (merged m) k d chain → HasPoints m.arcs (d ∷ chain)
 chain_has_points m base k d chain w e n =
-    has_point (arc_number m.arcs e.arc).points (all_among has_segment m.arcs (arc_number m.arcs e.arc) (base_arcs_have_segments m base)
-    (number_among m.arcs e.arc (w.border e n).within))
+    has_point (arc_number m.arcs e.arc).points (arc_has_segment m base e.arc (w.border e n).within)
 
 pub chain_meets : (m : BaseMap) (k : ℕ) (d : Link) (chain : List Link) → IsWholeChain (merged m) k d chain → IsRow (Meets m.arcs) (d ∷ chain)
 chain_meets m k d chain w = row_weaker (IsWayOn (merged m) k) (Meets m.arcs) (λ x y u. u.meets) (d ∷ chain) w.row
@@ -140,11 +135,11 @@ module _ (w : Seg → ℕ → ℕ → ℕ) (mirrored : (s : Seg) (l r : ℕ) →
         let whole = chains_whole (merged m) k cs t c n in
         let segments : path e.points ≡ flat_map (λ d. path (link_points m.arcs d)) c
         = ap path (without_none (chain_points m.arcs c)) ∙ subst (λ c. path (chain_points m.arcs c) ≡ flat_map (λ d. path (link_points m.arcs d)) c) (sym whole.2)
-            (chain_path m.arcs whole.0 whole.1 (chain_meets m k whole.0 whole.1 whole.3) (chain_has_points m base k whole.0 whole.1 whole.3)) in
+        (chain_path m.arcs whole.0 whole.1 (chain_meets m k whole.0 whole.1 whole.3) (chain_has_points m base k whole.0 whole.1 whole.3)) in
         row_sum e.key e.left e.right 0 e.points ∙ ap (sum_by (λ g. w g e.left e.right)) segments
         ∙ sum_by-flat_map (λ g. w g e.left e.right) (λ d. path (link_points m.arcs d)) c
-        ∙ sum_by-agree _ (λ d. arc_sum (label_at (merged m) k) (arc_number m.arcs d.arc)) c (All-from_among _ c (λ d o.
-        ap₂ (λ l r. sum_by (λ g. w g l r) (path (link_points m.arcs d))) (sym (all_of (λ d. left_of (merged m) k d ≡ e.left) c d keeps.left o)) (sym (all_of (λ d. right_of (merged m) k d ≡ e.right) c d keeps.right o))
+        ∙ sum_by-agree _ (λ d. arc_sum (label_at (merged m) k) (arc_number m.arcs d.arc)) c (all_members _ c (λ d o.
+        ap₂ (λ l r. sum_by (λ g. w g l r) (path (link_points m.arcs d))) (sym (members_all (λ d. left_of (merged m) k d ≡ e.left) c d keeps.left o)) (sym (members_all (λ d. right_of (merged m) k d ≡ e.right) c d keeps.right o))
         ∙ link_sum (merged m) k d))
 
     -- so do all segments of the slice and all border arcs
@@ -153,8 +148,7 @@ module _ (w : Seg → ℕ → ℕ → ℕ) (mirrored : (s : Seg) (l r : ℕ) →
     slice_sum none =
         sum_by-flat_map (λ s. w s.segment s.left s.right) (λ e. path_segments e.key e.left e.right 0 e.points) (edges_of (merged m) k [] cs)
         ∙ sum_by-map (λ e. sum_by (λ s. w s.segment s.left s.right) (path_segments e.key e.left e.right 0 e.points)) (edge_of (merged m) k []) cs
-        ∙ sum_by-agree _ (λ c. sum_by (λ d. arc_sum (label_at (merged m) k) (arc_number m.arcs d.arc)) c) cs (All-from_among _ cs edge_sum)
-        ∙ sym (sum_by-flat_map (λ d. arc_sum (label_at (merged m) k) (arc_number m.arcs d.arc)) (λ c. c) cs)
+        ∙ sum_by-agree _ (λ c. sum_by (λ d. arc_sum (label_at (merged m) k) (arc_number m.arcs d.arc)) c) cs (all_members _ cs edge_sum)
         ∙ sum_of_chains (merged m) k cs t (arc_sum (label_at (merged m) k))
         ∙ sum_by-agree _ (arc_sum (label_at (merged m) k)) m.arcs (λ i a l. border_sum none (merged m) k (get_or m.arcs i a))
         ∙ sym (base_sum (label_at (merged m) k) 0 m.arcs)

@@ -18,10 +18,11 @@ use Rattle.map_laws.proofs.ChainLinks.{key_among, IsWholeChain, chains_whole}
 use Rattle.map_laws.proofs.ChainEnds.{turn, turn_start, turn_border, IsBorderLink, IsWayOn}
 use Rattle.map_laws.proofs.ChainsExist.{chains_exist}
 use Rattle.slice_laws.specs.SliceLaws.{KeepsFaces, ChainsKeepFaces, SlicesAreSlices}
-use Rattle.slice_laws.proofs.Members.{All-from_among, among_filter, two_members, kept_counts}
-use Rattle.slice_laws.proofs.BaseParts.{base_arcs_have_segments}
+use Rattle.slice_laws.proofs.Members.{two_members, kept_counts}
+use Rattle.slice_laws.proofs.BaseParts.{arcs_have_segments}
 use Rattle.slice_laws.proofs.NodeLinks.{arc_spoke, links_at, arc_spokes, link_listed, ends_are_links, numbers_lead_all}
 use Rattle.slice_laws.proofs.NodeRings.{node_counts, two_opposed}
+use Rattle.map_laws.proofs.Lists.{all_members, among_kept}
 
 -- ---- a link turned round
 
@@ -71,7 +72,7 @@ module _ (m : BaseMap) (base : is_base m ≡ true) (nodes : (v : Point) → node
   links_count : (v : Point) (f : ℕ) → count_by (λ d. left_of (merged m) k d == f) (links_at v 0 m.arcs) ≡ count_by (λ d. right_of (merged m) k d == f) (links_at v 0 m.arcs)
   links_count v f =
       let spoke : Link → Spoke = λ (d : Link). arc_spoke (arc_number m.arcs d.arc) d.turned in
-      let spokes : flat_map (spokes_of v) (base_segments m) ≡ map spoke (links_at v 0 m.arcs) = arc_spokes v (arc_number m.arcs) 0 m.arcs (numbers_lead_all m.arcs) (base_arcs_have_segments m base) in
+      let spokes : flat_map (spokes_of v) (base_segments m) ≡ map spoke (links_at v 0 m.arcs) = arc_spokes v (arc_number m.arcs) 0 m.arcs (numbers_lead_all m.arcs) (arcs_have_segments m base) in
       let l : Spoke → Bool = λ (s : Spoke). label_at (merged m) k s.left == f in
       let r : Spoke → Bool = λ (s : Spoke). label_at (merged m) k s.right == f in
       sym (sum_by-map (λ s. cond (l s) 1 0) spoke (links_at v 0 m.arcs)) ∙ ap (count_by l) (sym spokes)
@@ -90,8 +91,8 @@ module _ (m : BaseMap) (base : is_base m ≡ true) (nodes : (v : Point) → node
   -- a link of a border arc that starts at the node is one of them
   border_listed : (v : Point) (d : Link) → IsBorderLink (merged m) k d → link_start m.arcs d ≡ v → Among d (borders_at m k v)
   border_listed v d b s =
-      among_filter (λ (d : Link). is_border (merged m) k (arc_number m.arcs d.arc)) (links_at v 0 m.arcs) d b.border
-      (link_listed v (arc_number m.arcs) 0 m.arcs (numbers_lead_all m.arcs) d (omega arith) (omega (arith, b.within)) s)
+      among_kept (λ (d : Link). is_border (merged m) k (arc_number m.arcs d.arc)) (links_at v 0 m.arcs) d
+      (link_listed v (arc_number m.arcs) 0 m.arcs (numbers_lead_all m.arcs) d (omega arith) (omega (arith, b.within)) s) b.border
 
   -- two of them that alone are there
   two_borders : (v : Point) (x y : Link) → degree (merged m) k v ≡ 2 → IsBorderLink (merged m) k x → IsBorderLink (merged m) k y → link_start m.arcs x ≡ v → link_start m.arcs y ≡ v → x ≢ y
@@ -128,11 +129,11 @@ module _ (m : BaseMap) (base : is_base m ≡ true) (nodes : (v : Point) → node
       let ahead : first.0.turned ≡ false = w.directed first.0 first.1 first.2 in
       let h : MergedMap = merged m in
       record {
-        left = All-from_among (λ e. left_of h k e ≡ (edge_of h k removals (d ∷ chain)).left) (d ∷ chain) (λ e n.
+        left = all_members (λ e. left_of h k e ≡ (edge_of h k removals (d ∷ chain)).left) (d ∷ chain) (λ e n.
             row_spread (IsWayOn h k) (λ l. left_of h k l ≡ (edge_of h k removals (d ∷ chain)).left)
             (λ x y u p. sym (way_on_faces m base nodes k x y u).0 ∙ p) (λ x y u p. (way_on_faces m base nodes k x y u).0 ∙ p)
             d chain first.0 e w.row first.1 (of_least h first.0 (key (d ∷ chain)) ahead first.2).0 n);
-        right = All-from_among (λ e. right_of h k e ≡ (edge_of h k removals (d ∷ chain)).right) (d ∷ chain) (λ e n.
+        right = all_members (λ e. right_of h k e ≡ (edge_of h k removals (d ∷ chain)).right) (d ∷ chain) (λ e n.
             row_spread (IsWayOn h k) (λ l. right_of h k l ≡ (edge_of h k removals (d ∷ chain)).right)
             (λ x y u p. sym (way_on_faces m base nodes k x y u).1 ∙ p) (λ x y u p. (way_on_faces m base nodes k x y u).1 ∙ p)
             d chain first.0 e w.row first.1 (of_least h first.0 (key (d ∷ chain)) ahead first.2).1 n);
@@ -154,7 +155,7 @@ module _ (m : BaseMap) (base : is_base m ≡ true) (nodes : (v : Point) → node
 
 pub chains_keep_faces : ChainsKeepFaces
 chains_keep_faces m base planar k removals =
-    All-from_among (KeepsFaces (merged m) k removals) (chains_at (merged m) k)
+    all_members (KeepsFaces (merged m) k removals) (chains_at (merged m) k)
     (chains_faces m base planar.arcs.nodes k (chains_at (merged m) k) (chains_exist (merged m) k) removals)
 
 -- the edges of chains are edges of them, where the faces stay the same

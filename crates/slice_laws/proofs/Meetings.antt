@@ -1,5 +1,5 @@
 -- Where two segments may meet: at the ends of arcs, and between two segments of which one is the next of the other.
-use Rattle.std.proofs.Common.{◌≡◌, ◌≢◌, ◌⊎◌, inl, inr, ℕ, ◌+◌, ◌<◌, Bool, true, false, cond, ◌&&◌, ◌||◌, ◌==◌, ℤ, pos, neg_ℤ, ◌+ℤ◌, ◌-ℤ◌, ◌*ℤ◌, ◌<ℤ◌, int_le, List, [], ◌∷◌, AllPairs, refl, sym, ap, ap₂, ◌∙◌, subst, arith}
+use Rattle.std.proofs.Common.{◌≡◌, ◌≢◌, ◌⊎◌, inl, inr, ℕ, Bool, true, false, ◌&&◌, ◌||◌, ℤ, pos, neg_ℤ, ◌*ℤ◌, ◌<ℤ◌, int_le, List, [], ◌∷◌, AllPairs, refl, sym, ap, ◌∙◌, subst}
 use Rattle.std.specs.Ordering.{int_eq}
 use Rattle.std.proofs.lemmas.Bool.{and_parts, and_from, or_cases, or_left, or_right, true≢false, cases_order}
 use Rattle.std.proofs.lemmas.Bool.Decides.{Decides-int_eq}
@@ -9,7 +9,7 @@ use Rattle.tgap_model.specs.declared.geometry.Fraction.{Fraction}
 use Rattle.tgap_model.specs.declared.geometry.Seg.{Seg}
 use Rattle.tgap_model.specs.declared.segment.LabelledSegment.{LabelledSegment}
 use Rattle.tgap_model.specs.Base.{same_point}
-use Rattle.tgap_model.specs.Segment.{is_at, is_on, cross_at, lies_between, is_permitted, HaveInCommon}
+use Rattle.tgap_model.specs.Segment.{is_at, is_on, cross_at, lies_between, is_permitted}
 use Rattle.tgap_model.specs.Partition.{follows, shared_ends, AreApart}
 use Rattle.tgap_model.proofs.Points.{same_point-true, same_point-from}
 use Rattle.slice_laws.proofs.Paths.{flip}

@@ -9,12 +9,12 @@ use Rattle.std.proofs.lemmas.List.Sums.{sum_by-cons}
 use Rattle.std.proofs.lemmas.Bool.{and_parts, ne_eqb, cases_eq}
 use Rattle.tgap_model.specs.declared.geometry.Point.{Point}
 use Rattle.tgap_model.specs.declared.base.BaseArc.{BaseArc}
+use Rattle.slice_laws.proofs.BaseParts.{has_segment}
 use Rattle.tgap_model.specs.Base.{same_point}
 use Rattle.tgap_model.specs.Partition.{Spoke, spokes_of, path_segments, arc_segments}
 use Rattle.tgap_model.specs.Chains.{Link, first_point, last_point, arc_number, ends_at}
-use Rattle.map_laws.proofs.ChainMembers.{Among}
+use Rattle.map_laws.proofs.ChainMembers.{Among, among_left, among_right}
 use Rattle.tgap_model.proofs.Points.{same_point-from}
-use Rattle.slice_laws.proofs.Members.{among_left, among_right}
 
 -- the point before the last one of a row
 abbrev pub next_to_last : List Point → Point
@@ -79,10 +79,6 @@ links_at v i (a ∷ arcs) = links_of v i a ++ links_at v (i + 1) arcs
 abbrev pub AreNumbers : (ℕ → BaseArc) → ℕ → List BaseArc → Type 0
 AreNumbers number i [] = Unit {0}
 AreNumbers number i (a ∷ arcs) = (number i ≡ a) × AreNumbers number (i + 1) arcs
-
--- an arc has a segment
-abbrev pub has_segment : BaseArc → Bool
-has_segment a = nat_le 2 (length a.points)
 
 -- the spokes of an arc are its links
 one_arc_spokes : (v : Point) (number : ℕ → BaseArc) (i l r : ℕ) (points : List Point) → number i ≡ record { left = l; right = r; points = points } → nat_le 2 (length points) ≡ true

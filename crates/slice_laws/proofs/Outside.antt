@@ -1,13 +1,12 @@
 -- No step of a history has the outside as loser or winner, so its label stays 0.
-use Rattle.std.proofs.Common.{◌≡◌, ◌≢◌, inl, inr, ℕ, zero, suc, ◌+◌, Bool, true, false, cond, not, ◌&&◌, ◌||◌, ◌==◌, List, [], ◌∷◌, ◌++◌, map, length, take, Option, Some, None, refl, sym, ap, ap₂, ◌∙◌, subst, ne_eqb, if◌then◌else◌}
-use Rattle.std.specs.Prelude.{flat_map}
+use Rattle.std.proofs.Common.{◌≡◌, ◌≢◌, ℕ, zero, suc, ◌+◌, Bool, true, false, not, ◌&&◌, ◌||◌, ◌==◌, List, [], ◌∷◌, ◌++◌, map, length, take, Option, Some, None, refl, sym, ap, ap₂, ◌∙◌, subst, ne_eqb, if◌then◌else◌}
 use Rattle.std.proofs.lemmas.Bool.{and_parts, not-true, eqb-false}
 use Rattle.tgap_model.specs.declared.base.Rules.{Rules}
 use Rattle.tgap_model.specs.declared.merge.MergeStep.{MergeStep}
 use Rattle.tgap_model.specs.declared.merge.LabelledArc.{LabelledArc}
 use Rattle.tgap_model.specs.Base.{BaseMap}
 use Rattle.tgap_model.specs.History.{relabel, relabel_arc, label_after, classes_after, labelled, loses_before, wins_before, first_from, first_by, is_shared, mergeable, neighbours_of, step_against, next_step, steps_from, history_of}
-use Rattle.tgap_model.specs.Merged.{MergedMap, merged, label_at}
+use Rattle.tgap_model.specs.Merged.{merged, label_at}
 
 -- each member is a face and not the outside
 abbrev AreFaces : List ℕ → Type 0

@@ -1,6 +1,6 @@
 -- The segments of a chain, each as a segment of an arc seen in the direction of a link: each piece is followed by the next one of
 -- its arc, or at the end of the arc by the first one of the next link.
-use Rattle.std.proofs.Common.{◌≡◌, ◌≢◌, ◌⊎◌, inl, inr, ℕ, zero, suc, ◌+◌, ◌<◌, nat_le, Bool, true, false, cond, ◌==◌, List, [], ◌∷◌, ◌++◌, map, length, reverse, refl, sym, ap, ap₂, ◌∙◌, subst, arith}
+use Rattle.std.proofs.Common.{◌≡◌, ◌⊎◌, inl, inr, ℕ, ◌+◌, nat_le, Bool, true, false, cond, List, [], ◌∷◌, ◌++◌, map, length, reverse, refl, sym, ap, ap₂, ◌∙◌, subst}
 use Rattle.std.specs.Prelude.{flat_map}
 use Rattle.std.proofs.lemmas.List.{map-append, append-nil}
 use Rattle.std.proofs.lemmas.Simd.{map-map}
@@ -9,18 +9,17 @@ use Rattle.tgap_model.specs.declared.geometry.Seg.{Seg}
 use Rattle.tgap_model.specs.declared.base.BaseArc.{BaseArc}
 use Rattle.tgap_model.specs.declared.segment.LabelledSegment.{LabelledSegment}
 use Rattle.tgap_model.specs.Base.{BaseMap}
-use Rattle.tgap_model.specs.Partition.{is_empty, path_segments, base_segments, follows}
+use Rattle.tgap_model.specs.Partition.{path_segments, follows}
 use Rattle.tgap_model.specs.Merged.{merged}
 use Rattle.tgap_model.specs.Removals.{path}
-use Rattle.tgap_model.specs.Chains.{Link, Chain, arc_number, first_point, last_point, link_points, link_start, link_end}
+use Rattle.tgap_model.specs.Chains.{Link, Chain, arc_number, link_points}
 use Rattle.map_laws.proofs.ChainMembers.{Among, AreDistinct}
 use Rattle.map_laws.proofs.ChainWalks.{IsRow, last_of}
 use Rattle.map_laws.proofs.ChainEnds.{IsWayOn}
-use Rattle.slice_laws.proofs.NodeLinks.{has_segment, numbers_lead_all}
-use Rattle.slice_laws.proofs.Adjacency.{among_map, among_from_map}
 use Rattle.slice_laws.proofs.Paths.{flip, reverse_cons, path_reversed}
-use Rattle.slice_laws.proofs.Places.{At, IsRowFrom, joined_rows, mapped_row, reversed_from, among_reverse, among_flat_map, distinct_reverse, distinct_map, distinct_flat_map}
-use Rattle.slice_laws.proofs.Blocks.{IsNext, block_row, row_distinct, block_among, starts_at, ends_at_last}
+use Rattle.slice_laws.proofs.Places.{IsRowFrom, joined_rows, mapped_row, reversed_from, among_reverse, among_flat_map, distinct_reverse, distinct_map, distinct_flat_map}
+use Rattle.slice_laws.proofs.Blocks.{IsNext, block_row, row_distinct}
+use Rattle.map_laws.proofs.Lists.{map_among}
 
 -- a segment of an arc as a link shows it
 pub record Piece : Type 0 where
@@ -112,10 +111,9 @@ module _ (m : BaseMap) (k : ℕ) where
   pub piece_from : (c : Chain) (p : Piece) → Among p (pieces m c) → Among p.link c × Among p.base (block m p.link.arc)
   piece_from c p n =
       let l = among_flat_map (pieces_of m) c p n in
-      let s = among_from_map (piece l.0) (cond l.0.turned (reverse (block m l.0.arc)) (block m l.0.arc)) p l.2 in
+      let s = map_among (piece l.0) (cond l.0.turned (reverse (block m l.0.arc)) (block m l.0.arc)) p l.2 in
       let link : l.0 ≡ p.link = ap (λ (q : Piece). q.link) s.2 in
-      let base : s.0 ≡ p.base = ap (λ (q : Piece). q.base) s.2 in
-      (
+      let base : s.0 ≡ p.base = ap (λ (q : Piece). q.base) s.2 in (
         subst (λ x. Among x c) link l.1,
         subst (λ x. Among x (block m p.link.arc)) base (subst (λ (x : Link). Among s.0 (block m x.arc)) link (by l.0.turned (block m l.0.arc) s.0 s.1)),
       )
@@ -129,7 +127,7 @@ module _ (m : BaseMap) (k : ℕ) where
   pieces_distinct c d = distinct_flat_map (pieces_of m) (λ p. p.link) own c d (λ x n. distinct_map (piece x) (λ s t e. ap (λ (q : Piece). q.base) e) (cond x.turned (reverse (block m x.arc)) (block m x.arc)) (by x x.turned))
     where
       own : (x : Link) (p : Piece) → Among p (pieces_of m x) → p.link ≡ x
-      own x p n = let s = among_from_map (piece x) (cond x.turned (reverse (block m x.arc)) (block m x.arc)) p n in sym (ap (λ (q : Piece). q.link) s.2)
+      own x p n = let s = map_among (piece x) (cond x.turned (reverse (block m x.arc)) (block m x.arc)) p n in sym (ap (λ (q : Piece). q.link) s.2)
 
       by : (x : Link) (t : Bool) → AreDistinct (cond t (reverse (block m x.arc)) (block m x.arc))
       by x true = distinct_reverse (block m x.arc) (row_distinct x.arc (arc_number m.arcs x.arc).left (arc_number m.arcs x.arc).right 0 (arc_number m.arcs x.arc).points)

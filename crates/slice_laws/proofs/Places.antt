@@ -1,10 +1,9 @@
 -- Members of lists by their places, rows of which each member stands in a relation to the next one, and lists of which no
 -- member stands twice.
-use Rattle.std.proofs.Common.{◌≡◌, ◌≢◌, ◌⊎◌, inl, inr, ℕ, zero, suc, ◌+◌, ◌<◌, Bool, true, false, List, [], ◌∷◌, ◌++◌, map, length, reverse, get_or, AllPairs, refl, sym, ap, ap₂, ◌∙◌, subst, arith}
+use Rattle.std.proofs.Common.{◌≡◌, ◌⊎◌, inl, inr, ℕ, zero, suc, ◌<◌, List, [], ◌∷◌, ◌++◌, map, length, reverse, get_or, AllPairs, refl, sym, ap, ap₂, ◌∙◌, subst, arith}
 use Rattle.std.specs.Prelude.{flat_map}
-use Rattle.map_laws.proofs.ChainMembers.{Among, AreDistinct}
+use Rattle.map_laws.proofs.ChainMembers.{Among, AreDistinct, among_left, among_right, append_among}
 use Rattle.map_laws.proofs.ChainWalks.{IsRow, last_of}
-use Rattle.slice_laws.proofs.Members.{among_left, among_right}
 use Rattle.slice_laws.proofs.Paths.{reverse_cons}
 
 -- the list has x at place n
@@ -139,21 +138,16 @@ mapped_row {A} {B} {R} S f keeps {a} {b} {xs} p = record {
 
 -- ---- distinct members
 
-pub among_append : {A : Type 0} (xs ys : List A) (x : A) → Among x (xs ++ ys) → Among x xs ⊎ Among x ys
-among_append [] ys x m = inr m
-among_append (z ∷ zs) ys x (inl e) = inl (inl e)
-among_append (z ∷ zs) ys x (inr m) = elim (among_append zs ys x m) [ inl l ↦ inl (inr l) | inr r ↦ inr r ]
-
 pub distinct_append : {A : Type 0} (xs ys : List A) → AreDistinct xs → AreDistinct ys → ((x : A) → Among x xs → Among x ys → ⊥) → AreDistinct (xs ++ ys)
 distinct_append [] ys d e apart = e
 distinct_append (x ∷ xs) ys d e apart = (
-  (λ m. elim (among_append xs ys x m) [ inl l ↦ d.0 l | inr r ↦ apart x (inl refl) r ]),
+  (λ m. elim (append_among xs ys x m) [ inl l ↦ d.0 l | inr r ↦ apart x (inl refl) r ]),
   distinct_append xs ys d.1 e (λ y l r. apart y (inr l) r),
 )
 
 pub among_reverse : {A : Type 0} (xs : List A) (x : A) → Among x (reverse xs) → Among x xs
 among_reverse [] x m = m
-among_reverse (y ∷ ys) x m = elim (among_append (reverse ys) (y ∷ []) x (subst (Among x) (reverse_cons y ys) m)) [
+among_reverse (y ∷ ys) x m = elim (append_among (reverse ys) (y ∷ []) x (subst (Among x) (reverse_cons y ys) m)) [
   | inl l ↦ inr (among_reverse ys x l)
   | inr r ↦ elim r [ inl e ↦ inl e | inr n ↦ absurd n ]
 ]
@@ -176,15 +170,10 @@ distinct_map {A} f one (x ∷ xs) d = ((λ m. d.0 (back xs m)), distinct_map f o
 
 pub among_flat_map : {A B : Type 0} (f : A → List B) (xs : List A) (y : B) → Among y (flat_map f xs) → (x : A) × Among x xs × Among y (f x)
 among_flat_map f [] y m = absurd m
-among_flat_map f (x ∷ xs) y m = elim (among_append (f x) (flat_map f xs) y m) [
+among_flat_map f (x ∷ xs) y m = elim (append_among (f x) (flat_map f xs) y m) [
   | inl l ↦ (x, inl refl, l)
   | inr r ↦ (let n = among_flat_map f xs y r in (n.0, inr n.1, n.2))
 ]
-
-pub flat_map_among : {A B : Type 0} (f : A → List B) (xs : List A) (x : A) (y : B) → Among x xs → Among y (f x) → Among y (flat_map f xs)
-flat_map_among f [] x y m n = absurd m
-flat_map_among f (z ∷ zs) x y (inl e) n = among_left (f z) (flat_map f zs) y (subst (λ w. Among y (f w)) (sym e) n)
-flat_map_among f (z ∷ zs) x y (inr m) n = among_right (f z) (flat_map f zs) y (flat_map_among f zs x y m n)
 
 -- lists of which each has distinct members and a mark of its own
 pub distinct_flat_map : {A B : Type 0} (f : A → List B) (mark : B → A) → ((x : A) (y : B) → Among y (f x) → mark y ≡ x) → (xs : List A) → AreDistinct xs

@@ -1,48 +1,46 @@
 -- Round each node of a slice the faces agree: where an edge ends at a node, all border arcs there are ends of edges, and these are the
 -- spokes of the base map with their labels, less those with one label.
-use Rattle.std.proofs.Common.{◌≡◌, ◌≢◌, ◌⊎◌, inl, inr, ℕ, zero, suc, ◌+◌, ◌<◌, Bool, true, false, not, cond, ◌&&◌, ◌==◌, List, [], ◌∷◌, map, filter, length, All, Contains, Option, None, option_map, refl, sym, ap, ap₂, ◌∙◌, subst, eq-eqb, ne_eqb, arith}
+use Rattle.std.proofs.Common.{◌≡◌, ◌≢◌, ◌⊎◌, inl, inr, ℕ, suc, ◌<◌, Bool, true, false, not, cond, ◌&&◌, ◌==◌, List, [], ◌∷◌, map, filter, length, Contains, None, option_map, refl, sym, ap, ap₂, ◌∙◌, subst, eq-eqb, ne_eqb, arith}
 use Rattle.std.specs.List.{list_all}
-use Rattle.std.proofs.lemmas.Bool.{and_from, eqb-true, eqb-false, not-true, cases_eq, true≢false}
+use Rattle.std.proofs.lemmas.Bool.{and_from, eqb-true, eqb-false, not-true, cases_eq}
 use Rattle.std.proofs.lemmas.List.Sums.{AllPass-from_list_all, list_all-from_AllPass}
-use Rattle.lemmas.specs.Sorting.{is_sorted_by, sort_by}
+use Rattle.lemmas.specs.Sorting.{sort_by}
 use Rattle.lemmas.proofs.Sorting.{filter-is_sorted, map-is_sorted, sorted_same}
 use Rattle.lemmas.proofs.Members.{Contains-filter, Contains-from_filter, Contains-map, Contains-from_map}
 use Rattle.tgap_model.specs.declared.geometry.Point.{Point}
 use Rattle.tgap_model.specs.declared.geometry.Seg.{Seg}
 use Rattle.tgap_model.specs.declared.segment.LabelledSegment.{LabelledSegment}
-use Rattle.tgap_model.specs.declared.fault.MapFault.{MapFault}
 use Rattle.tgap_model.specs.Base.{BaseMap, is_base, in_limits, same_point}
 use Rattle.tgap_model.specs.Partition.{base_segments, edge_segments, node_fault, is_proper, IsPartition}
-use Rattle.tgap_model.specs.Merged.{MergedMap, merged, label_at}
+use Rattle.tgap_model.specs.Merged.{merged, label_at}
 use Rattle.tgap_model.specs.Removals.{edges_of}
-use Rattle.tgap_model.specs.Chains.{Link, Chain, arc_number, first_point, last_point, link_start, link_end, are_chains}
+use Rattle.tgap_model.specs.Chains.{Chain, arc_number, first_point, last_point, link_start, link_end, are_chains}
 use Rattle.tgap_model.proofs.Points.{same_point-true}
 use Rattle.tgap_model.proofs.Proper.{proper_parts}
 use Rattle.tgap_model.proofs.Segments.{proper_segments}
 use Rattle.base_check.specs.declared.spoke.Spoke.{Spoke}
-use Rattle.base_check.specs.declared.ring.NodeGap.{NodeGap}
 use Rattle.base_check.specs.Spokes.{disagrees, spoke, before}
 use Rattle.base_check.proofs.Order.{before_strict}
 use Rattle.base_check.proofs.Nodes.{all_spokes, is_at_node}
 use Rattle.base_check.proofs.Rings.{ring_of}
 use Rattle.map_laws.proofs.ChainMembers.{Among}
-use Rattle.slice_laws.proofs.Members.{All-from_among, all_of}
 use Rattle.slice_laws.proofs.Paths.{flip}
 use Rattle.slice_laws.proofs.Places.{At, at_among, at_only, among_at, at_place, at_first, at_last}
 use Rattle.slice_laws.proofs.Blocks.{starts_at, ends_at_last}
 use Rattle.slice_laws.proofs.Pieces.{Piece, shown, IsFront, IsBack, block, pieces}
 use Rattle.slice_laws.proofs.ChainPlaces.{StandsAt, base_of, known_of}
 use Rattle.slice_laws.proofs.Meetings.{IsEnd}
-use Rattle.slice_laws.proofs.SlicesApart.{IsSegmentAt, end_side, before_front, after_back, before_first, after_first}
+use Rattle.slice_laws.proofs.SlicesApart.{IsSegmentAt, before_front, after_back, before_first, after_first}
 use Rattle.slice_laws.proofs.SliceSegments.{IsShownAt, shown_at, slice_apart}
 use Rattle.slice_laws.proofs.Correspondence.{shown_labels, piece_among, labels_differ, base_piece, piece_shown}
-use Rattle.slice_laws.proofs.SpokeRings.{IsPath, with_faces, has_two, path_relabelled, closed_from_ring, ring_from_closed, IsSpokeAt, spoke_from_ring, ring_has_spoke, ring_is_sorted, fault_of_ring, no_gap}
+use Rattle.slice_laws.proofs.SpokeRings.{with_faces, has_two, path_relabelled, closed_from_ring, ring_from_closed, IsSpokeAt, spoke_from_ring, ring_has_spoke, ring_is_sorted, fault_of_ring, no_gap}
+use Rattle.map_laws.proofs.Lists.{all_members, members_all}
 
 module _ (m : BaseMap) (base : is_base m ≡ true) (planar : IsPartition (base_segments m)) (k : ℕ) (cs : List Chain) (t : are_chains (merged m) k cs ≡ true) where
   -- ---- segments of the slice lie between two different points within the limits
 
   proper_base : (b : LabelledSegment) → Among b (base_segments m) → is_proper b ≡ true
-  proper_base b n = all_of (λ s. is_proper s ≡ true) (base_segments m) b (AllPass-from_list_all is_proper (base_segments m) (proper_segments m base)) n
+  proper_base b n = members_all (λ s. is_proper s ≡ true) (base_segments m) b (AllPass-from_list_all is_proper (base_segments m) (proper_segments m base)) n
 
   -- the two points differ
   shown_points : {i n : ℕ} {c : Chain} {p : Piece} → StandsAt m base k cs t i n c p → (shown p).a ≢ (shown p).b
@@ -75,7 +73,7 @@ module _ (m : BaseMap) (base : is_base m ≡ true) (planar : IsPartition (base_s
 
   pub slice_proper : list_all is_proper (edge_segments (edges_of (merged m) k [] cs)) ≡ true
   slice_proper =
-      list_all-from_AllPass is_proper (edge_segments (edges_of (merged m) k [] cs)) (All-from_among (λ s. is_proper s ≡ true) (edge_segments (edges_of (merged m) k [] cs))
+      list_all-from_AllPass is_proper (edge_segments (edges_of (merged m) k [] cs)) (all_members (λ s. is_proper s ≡ true) (edge_segments (edges_of (merged m) k [] cs))
       (λ s n. let a = among_at (edge_segments (edges_of (merged m) k [] cs)) s n in proper_shown a.0 s a.1))
 
   -- ---- an end of an edge is an end of a link

@@ -1,5 +1,5 @@
 -- The segments of a slice by their places: each shows a piece of a chain.
-use Rattle.std.proofs.Common.{◌≡◌, ◌⊎◌, inl, inr, ℕ, zero, suc, ◌+◌, ◌<◌, Bool, true, false, ◌==◌, List, [], ◌∷◌, ◌++◌, map, length, take, AllPairs, refl, sym, ap, ap₂, ◌∙◌, subst, arith}
+use Rattle.std.proofs.Common.{◌≡◌, ◌⊎◌, inl, inr, ℕ, zero, suc, ◌+◌, Bool, true, false, ◌==◌, List, [], ◌∷◌, ◌++◌, map, length, take, AllPairs, refl, sym, ap, ap₂, ◌∙◌, subst, arith}
 use Rattle.std.specs.Prelude.{flat_map}
 use Rattle.std.proofs.lemmas.List.{length-append}
 use Rattle.std.proofs.lemmas.List.Folds.{flat_map-map}
@@ -8,15 +8,15 @@ use Rattle.tgap_model.specs.declared.geometry.Seg.{Seg}
 use Rattle.tgap_model.specs.declared.segment.LabelledSegment.{LabelledSegment}
 use Rattle.tgap_model.specs.Base.{BaseMap, is_base}
 use Rattle.tgap_model.specs.Partition.{is_empty, path_segments, base_segments, edge_segments, AreApart}
-use Rattle.tgap_model.specs.Merged.{MergedMap, merged}
+use Rattle.tgap_model.specs.Merged.{merged}
 use Rattle.tgap_model.specs.Removals.{path, edge_of, edges_of}
-use Rattle.tgap_model.specs.Chains.{Link, Chain, key, link_points, chain_points, are_chains}
+use Rattle.tgap_model.specs.Chains.{Chain, key, link_points, chain_points, are_chains}
 use Rattle.map_laws.proofs.ChainLinks.{chains_whole}
 use Rattle.slice_laws.proofs.Paths.{chain_path}
 use Rattle.slice_laws.proofs.EdgeSums.{without_none, chain_has_points, chain_meets}
 use Rattle.slice_laws.proofs.Places.{At, at_among, pairs_from_places}
 use Rattle.slice_laws.proofs.Pieces.{Piece, shown, pieces, shown_chain}
-use Rattle.slice_laws.proofs.SlicesApart.{Shows, IsSegmentAt, segments_apart}
+use Rattle.slice_laws.proofs.SlicesApart.{IsSegmentAt, segments_apart}
 
 -- ---- places in lists put together
 
@@ -77,30 +77,35 @@ only_last p (q ∷ ps) e = absurd cc
 
 pub at_rows : (key l r place : ℕ) (ps : List Piece) (n : ℕ) (s : LabelledSegment) → At (rows key l r place (map shown ps)) n s → (p : Piece) × IsInRow key l r place ps n p s
 at_rows key l r place [] n s a = absurd a
-at_rows key l r place (p ∷ ps) zero s a = (p, subst (IsInRow key l r place (p ∷ ps) zero p) a (record {
-  at = refl;
-  segment = refl;
-  left = refl;
-  right = refl;
-  arc = refl;
-  place = omega arith;
-  starts = refl;
-  ends = only_one p ps;
-  last = only_last p ps;
-}))
+at_rows key l r place (p ∷ ps) zero s a = (
+  p,
+  subst (IsInRow key l r place (p ∷ ps) zero p) a (record {
+    at = refl;
+    segment = refl;
+    left = refl;
+    right = refl;
+    arc = refl;
+    place = omega arith;
+    starts = refl;
+    ends = only_one p ps;
+    last = only_last p ps;
+  }),
+)
 at_rows key l r place (p ∷ ps) (suc n) s a =
-    let q = at_rows key l r (place + 1) ps n s a in
-    (q.0, record {
-      at = q.1.at;
-      segment = q.1.segment;
-      left = q.1.left;
-      right = q.1.right;
-      arc = q.1.arc;
-      place = omega (arith, q.1.place);
-      starts = q.1.starts;
-      ends = λ e. q.1.ends (omega arith);
-      last = λ e. ap suc (q.1.last e);
-    })
+    let q = at_rows key l r (place + 1) ps n s a in (
+      q.0,
+      record {
+        at = q.1.at;
+        segment = q.1.segment;
+        left = q.1.left;
+        right = q.1.right;
+        arc = q.1.arc;
+        place = omega (arith, q.1.place);
+        starts = q.1.starts;
+        ends = λ e. q.1.ends (omega arith);
+        last = λ e. ap suc (q.1.last e);
+      },
+    )
 
 -- and each piece is shown
 pub rows_at : (key l r place : ℕ) (ps : List Piece) (n : ℕ) (p : Piece) → At ps n p → (s : LabelledSegment) × At (rows key l r place (map shown ps)) n s
@@ -122,7 +127,7 @@ module _ (m : BaseMap) (base : is_base m ≡ true) (k : ℕ) (cs : List Chain) (
       let whole = chains_whole (merged m) k cs t c (at_among cs i c a) in
       let segments : path (chain_points m.arcs c) ≡ flat_map (λ d. path (link_points m.arcs d)) c
       = subst (λ c. path (chain_points m.arcs c) ≡ flat_map (λ d. path (link_points m.arcs d)) c) (sym whole.2)
-          (chain_path m.arcs whole.0 whole.1 (chain_meets m k whole.0 whole.1 whole.3) (chain_has_points m base k whole.0 whole.1 whole.3)) in
+      (chain_path m.arcs whole.0 whole.1 (chain_meets m k whole.0 whole.1 whole.3) (chain_has_points m base k whole.0 whole.1 whole.3)) in
       path_rows (key c) (edge_of (merged m) k [] c).left (edge_of (merged m) k [] c).right 0 (edge_of (merged m) k [] c).points
       ∙ ap (rows (key c) (edge_of (merged m) k [] c).left (edge_of (merged m) k [] c).right 0)
       (ap path (without_none (chain_points m.arcs c)) ∙ segments ∙ sym (shown_chain m c))

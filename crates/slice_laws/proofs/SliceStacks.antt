@@ -1,24 +1,21 @@
 -- Down each line the segments of a slice are those of the base map whose labels differ, with their labels; so they agree.
-use Rattle.std.proofs.Common.{◌≡◌, ◌≢◌, inl, inr, ℕ, Bool, true, false, not, cond, ◌==◌, ℤ, pos, ◌<ℤ◌, ◌*ℤ◌, int_lt, List, [], ◌∷◌, map, filter, get_or, All, AllPairs, Contains, refl, sym, ap, ap₂, ◌∙◌, subst, ne_eqb, None, arith}
-use Rattle.std.proofs.lemmas.Bool.{true≢false, eqb-false, not-true}
+use Rattle.std.proofs.Common.{◌≡◌, ◌≢◌, inl, inr, ℕ, Bool, true, false, not, cond, ◌==◌, pos, ◌<ℤ◌, ◌*ℤ◌, int_lt, List, [], ◌∷◌, map, filter, get_or, Contains, refl, sym, ap, ap₂, ◌∙◌, subst, ne_eqb}
+use Rattle.std.proofs.lemmas.Bool.{eqb-false, not-true}
 use Rattle.std.proofs.lemmas.List.Elements.{All-filter, All-map}
 use Rattle.std.proofs.lemmas.Simd.{map-map}
 use Rattle.lemmas.specs.Sorting.{is_sorted_by, IsStrictOrderOn}
 use Rattle.lemmas.proofs.Sorting.{filter-is_sorted, map-is_sorted, sorted_same, Contains-sort_by, Contains-from_sort_by}
 use Rattle.lemmas.proofs.Orders.{fraction_order, order_reversed}
 use Rattle.lemmas.proofs.Members.{Contains-filter, Contains-from_filter, Contains-map, Contains-from_map}
-use Rattle.lemmas.proofs.Signs.{Decides-int_lt}
-use Rattle.tgap_model.specs.declared.geometry.Point.{Point}
 use Rattle.tgap_model.specs.declared.geometry.Seg.{Seg}
 use Rattle.tgap_model.specs.declared.segment.LabelledSegment.{LabelledSegment}
 use Rattle.tgap_model.specs.Base.{BaseMap, is_base}
 use Rattle.tgap_model.specs.Segment.{Line, IsBetweenColumns, crosses, goes_right, rightward, run, height, is_higher}
-use Rattle.tgap_model.specs.Partition.{Sides, sides, stack, agree_from, base_segments, edge_segments, AreApart, IsPartition}
-use Rattle.tgap_model.specs.Merged.{MergedMap, merged, label_at}
+use Rattle.tgap_model.specs.Partition.{Sides, sides, stack, agree_from, base_segments, edge_segments, IsPartition}
+use Rattle.tgap_model.specs.Merged.{merged, label_at}
 use Rattle.tgap_model.specs.Removals.{edges_of}
 use Rattle.tgap_model.specs.Chains.{Chain, are_chains}
 use Rattle.map_laws.specs.PlaneLaws.{relabelled}
-use Rattle.map_laws.proofs.ChainMembers.{Among}
 use Rattle.map_laws.proofs.Labels.{labels_agree}
 use Rattle.map_laws.proofs.Inside.{run_positive}
 use Rattle.planar_stack.proofs.Heights.{crossed, higher, order_of_heights, stack_is_crossed, stack_is_sorted}
@@ -27,7 +24,7 @@ use Rattle.slice_laws.proofs.Mirrored.{crosses_flip, one_direction}
 use Rattle.slice_laws.proofs.Relabelled.{with_labels, sides_with_labels}
 use Rattle.slice_laws.proofs.Outside.{outside_label}
 use Rattle.slice_laws.proofs.Places.{At, at_among, among_at, at_place, place_at}
-use Rattle.slice_laws.proofs.SliceSegments.{IsShownAt, shown_at, slice_apart}
+use Rattle.slice_laws.proofs.SliceSegments.{shown_at, slice_apart}
 use Rattle.slice_laws.proofs.Correspondence.{IsMirror, shown_mirror, piece_among, labels_differ, base_shown}
 
 -- ---- members by places

@@ -1,17 +1,15 @@
 -- Where nothing is removed, the segments of a slice have no point in common but a permitted one: they are segments of the base map,
 -- and where two of those may meet, those of the slice may.
-use Rattle.std.proofs.Common.{◌≡◌, ◌≢◌, ◌⊎◌, inl, inr, ℕ, zero, suc, ◌+◌, ◌<◌, Bool, true, false, not, cond, ◌&&◌, ◌==◌, pos, ◌<ℤ◌, List, [], ◌∷◌, ◌++◌, map, length, AllPairs, refl, sym, ap, ap₂, ◌∙◌, subst, eq-eqb, arith}
-use Rattle.std.specs.Prelude.{flat_map}
-use Rattle.std.proofs.lemmas.Bool.{and_parts, and_from, eqb-true, cases_eq}
+use Rattle.std.proofs.Common.{◌≡◌, ◌≢◌, ◌⊎◌, inl, inr, ℕ, suc, ◌+◌, Bool, true, false, cond, ◌==◌, List, length, AllPairs, refl, sym, ap, ◌∙◌, subst, eq-eqb, arith}
+use Rattle.std.proofs.lemmas.Bool.{and_parts, and_from, eqb-true}
 use Rattle.tgap_model.specs.declared.geometry.Point.{Point}
 use Rattle.tgap_model.specs.declared.geometry.Fraction.{Fraction}
 use Rattle.tgap_model.specs.declared.geometry.Seg.{Seg}
 use Rattle.tgap_model.specs.declared.segment.LabelledSegment.{LabelledSegment}
 use Rattle.tgap_model.specs.Base.{BaseMap, is_base}
-use Rattle.tgap_model.specs.Segment.{is_at, is_on}
-use Rattle.tgap_model.specs.Partition.{is_empty, path_segments, base_segments, follows, AreApart}
-use Rattle.tgap_model.specs.Merged.{MergedMap, merged}
-use Rattle.tgap_model.specs.Removals.{path}
+use Rattle.tgap_model.specs.Segment.{is_on}
+use Rattle.tgap_model.specs.Partition.{base_segments, follows, AreApart}
+use Rattle.tgap_model.specs.Merged.{merged}
 use Rattle.tgap_model.specs.Chains.{Link, Chain, arc_number, first_point, last_point, key, degree, link_start, link_end, are_chains}
 use Rattle.map_laws.proofs.ChainMembers.{Among}
 use Rattle.map_laws.proofs.ChainEnds.{turn, turn_twice, turn_apart, turn_start, turn_end, turn_border, IsWayOn, IsBorderLink, way_on_only, way_on_back}
@@ -19,7 +17,7 @@ use Rattle.slice_laws.proofs.NodeLinks.{numbers_lead_all}
 use Rattle.slice_laws.proofs.Paths.{flip}
 use Rattle.slice_laws.proofs.Places.{At, at_only, among_at, is_row, next_at, prev_at}
 use Rattle.slice_laws.proofs.Blocks.{of_row, starts_at, ends_at_last, block_among}
-use Rattle.slice_laws.proofs.Pieces.{Piece, piece, shown, IsFront, IsBack, block, pieces, IsNextPiece}
+use Rattle.slice_laws.proofs.Pieces.{Piece, shown, IsFront, IsBack, block, pieces, IsNextPiece}
 use Rattle.slice_laws.proofs.ChainPlaces.{piece_same, StandsAt, link_of, base_of, known_of, one_link, one_place, front_once, back_once, front_first, back_last, follows_at}
 use Rattle.slice_laws.proofs.Meetings.{on_flip, IsEnd, IsBetween, MayMeet, may_meet_turned, apart_from_meets, members_meet}
 

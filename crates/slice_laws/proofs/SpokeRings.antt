@@ -1,8 +1,7 @@
 -- The ring of the spokes at a node: which spokes it has, and that the faces still agree round it with other labels, where spokes
 -- with one face on both sides are left out.
-use Rattle.std.proofs.Common.{◌≡◌, ◌⊎◌, inl, inr, ℕ, ◌+◌, ◌<◌, Bool, true, false, not, cond, ◌&&◌, ◌||◌, ◌==◌, List, [], ◌∷◌, ◌++◌, map, filter, flat_map, length, get_or, All, AllPairs, Contains, IsPermutation, Option, Some, None, option_map, refl, sym, ap, ap₂, ◌∙◌, subst, eq-eqb, arith, if◌then◌else◌}
+use Rattle.std.proofs.Common.{◌≡◌, ◌⊎◌, inl, inr, ℕ, ◌+◌, Bool, true, false, not, cond, ◌==◌, List, [], ◌∷◌, map, filter, get_or, AllPairs, Contains, Option, Some, None, option_map, refl, sym, ap, ap₂, ◌∙◌, subst, eq-eqb, if◌then◌else◌}
 use Rattle.std.specs.List.{list_all}
-use Rattle.std.specs.List.Sorted.{IsSortedBy}
 use Rattle.std.proofs.lemmas.Bool.{eqb-true}
 use Rattle.std.proofs.lemmas.List.Sums.{AllPass-from_list_all}
 use Rattle.lemmas.specs.Sorting.{sort_by, is_sorted_by}
@@ -12,7 +11,6 @@ use Rattle.lemmas.proofs.Members.{Contains-filter, Contains-from_filter}
 use Rattle.tgap_model.specs.declared.geometry.Point.{Point}
 use Rattle.tgap_model.specs.declared.segment.LabelledSegment.{LabelledSegment}
 use Rattle.tgap_model.specs.declared.fault.MapFault.{MapFault}
-use Rattle.tgap_model.specs.Base.{same_point}
 use Rattle.tgap_model.specs.Partition.{AreApart, is_proper, node_fault}
 use Rattle.tgap_model.proofs.Points.{same_point-true, same_point-from}
 use Rattle.base_check.specs.declared.spoke.Spoke.{Spoke}
@@ -23,10 +21,10 @@ use Rattle.base_check.proofs.Nodes.{all_spokes, is_at_node}
 use Rattle.base_check.proofs.Rings.{ring_from, ring_of}
 use Rattle.base_check.proofs.Apart.{all_decided}
 use Rattle.base_check.proofs.Faults.{node_fault-is}
-use Rattle.map_laws.proofs.ChainMembers.{Among}
-use Rattle.slice_laws.proofs.Members.{among_left, among_right}
-use Rattle.slice_laws.proofs.Places.{At, at_among, among_at, among_append, among_flat_map, flat_map_among}
+use Rattle.map_laws.proofs.ChainMembers.{Among, among_left, among_right, append_among}
+use Rattle.slice_laws.proofs.Places.{At, at_among, among_at, among_flat_map}
 use Rattle.slice_laws.proofs.SliceStacks.{contains_at, at_contains}
+use Rattle.map_laws.proofs.Lists.{among_flat}
 
 -- ---- rings as paths
 
@@ -115,7 +113,7 @@ spoke_from_ring segments v q c =
     let s = among_flat_map spokes_from segments q (at_among (all_spokes segments) a.0 q a.1) in
     let n = among_at segments s.0 s.1 in
     let node : q.node ≡ v = same_point-true q.node v f.1 in
-    (n.0, s.0, n.1, by s.0 node (among_append (if s.0.starts then spoke s.0.segment.a s.0.segment.b s.0.left s.0.right ∷ [] else []) (if s.0.ends then spoke s.0.segment.b s.0.segment.a s.0.right s.0.left ∷ [] else []) q s.2))
+    (n.0, s.0, n.1, by s.0 node (append_among (if s.0.starts then spoke s.0.segment.a s.0.segment.b s.0.left s.0.right ∷ [] else []) (if s.0.ends then spoke s.0.segment.b s.0.segment.a s.0.right s.0.left ∷ [] else []) q s.2))
   where
     by : (s : LabelledSegment) → q.node ≡ v
         → Among q (if s.starts then spoke s.segment.a s.segment.b s.left s.right ∷ [] else []) ⊎ Among q (if s.ends then spoke s.segment.b s.segment.a s.right s.left ∷ [] else [])
@@ -126,7 +124,7 @@ spoke_from_ring segments v q c =
 
 pub ring_has_spoke : (segments : List LabelledSegment) (v : Point) (q : Spoke) → IsSpokeAt segments v q → Contains (ring_at segments v) q
 ring_has_spoke segments v q (n, s, a, e) =
-    let m = among_at (all_spokes segments) q (flat_map_among spokes_from segments s q (at_among segments n s a) (by e)) in
+    let m = among_at (all_spokes segments) q (among_flat spokes_from segments s q (at_among segments n s a) (by e)) in
     Contains-filter (is_at_node v) (sort_by before (all_spokes segments)) q (Contains-sort_by before (all_spokes segments) q (contains_at (all_spokes segments) m.0 q m.1)) (same_point-from q.node v (node e))
   where
     by : ((s.starts ≡ true) × (s.segment.a ≡ v) × (spoke s.segment.a s.segment.b s.left s.right ≡ q))

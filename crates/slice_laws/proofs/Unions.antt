@@ -1,7 +1,6 @@
 -- A face of a slice is the union of the base faces that it was made of.
-use Rattle.std.proofs.Common.{◌≡◌, ◌≢◌, inl, inr, ℕ, zero, suc, ◌+◌, ◌≤◌, nat_le, nat_lt, ℤ, Bool, true, false, cond, not, ◌&&◌, ◌||◌, ◌==◌, List, [], ◌∷◌, ◌++◌, map, filter, All, refl, sym, ap, ap₂, ◌∙◌, subst, eq-eqb, ne_eqb, arith, length, count_by, sum_by, IsTrue, if◌then◌else◌}
-use Rattle.std.specs.List.{list_all}
-use Rattle.std.proofs.lemmas.Bool.{and_parts, eqb-true, leb-true}
+use Rattle.std.proofs.Common.{◌≡◌, ◌≢◌, inl, inr, ℕ, zero, suc, ◌+◌, ◌≤◌, nat_lt, ℤ, Bool, true, false, cond, ◌&&◌, ◌==◌, List, [], ◌∷◌, ◌++◌, map, filter, All, refl, sym, ap, ap₂, ◌∙◌, eq-eqb, ne_eqb, arith, length, if◌then◌else◌}
+use Rattle.std.proofs.lemmas.Bool.{eqb-true}
 use Rattle.std.proofs.lemmas.List.Elements.{All-nil, All-cons, All-append, All-filter}
 use Rattle.lemmas.specs.Parity.{is_odd, either_alone}
 use Rattle.lemmas.proofs.Counts.{sum_by-map}
@@ -13,10 +12,10 @@ use Rattle.tgap_model.specs.declared.base.BaseArc.{BaseArc}
 use Rattle.tgap_model.specs.declared.slice.Removal.{Removal}
 use Rattle.tgap_model.specs.declared.slice.Edge.{Edge}
 use Rattle.tgap_model.specs.declared.segment.LabelledSegment.{LabelledSegment}
-use Rattle.tgap_model.specs.Base.{BaseMap, is_base, is_arc, in_limits, no_repeat}
+use Rattle.tgap_model.specs.Base.{BaseMap, is_base}
 use Rattle.tgap_model.specs.Segment.{Line, IsBetweenColumns, line_through, crosses, is_above, is_higher}
 use Rattle.tgap_model.specs.Partition.{is_empty, sides, stack, agree_from, path_segments, arc_segments, base_segments, edge_segments, IsPartition}
-use Rattle.tgap_model.specs.Inside.{borders, crosses_ray, is_inside}
+use Rattle.tgap_model.specs.Inside.{borders, is_inside}
 use Rattle.tgap_model.specs.Merged.{MergedMap, merged, label_at}
 use Rattle.tgap_model.specs.Chains.{Chain, are_chains, chains_at}
 use Rattle.tgap_model.specs.Removals.{removed_at, removals_to, sweep, sweep_edges, edges_of}
@@ -24,10 +23,11 @@ use Rattle.tgap_model.specs.Slice.{slice}
 use Rattle.map_laws.proofs.Inside.{reached, inside_parity}
 use Rattle.map_laws.proofs.ChainsExist.{chains_exist}
 use Rattle.slice_laws.specs.SliceLaws.{IsInsideBaseFace, FacesAreUnions}
-use Rattle.slice_laws.proofs.Paths.{flip}
 use Rattle.slice_laws.proofs.Mirrored.{meets_ray, meets_ray_flip, borders_flip, borders_none}
 use Rattle.slice_laws.proofs.Outside.{outside_label}
-use Rattle.slice_laws.proofs.BaseParts.{base_arcs}
+use Rattle.tgap_model.proofs.BaseFacts.{ArcFacts}
+use Rattle.map_laws.proofs.ChainMembers.{Among}
+use Rattle.slice_laws.proofs.BaseParts.{base_arc}
 use Rattle.slice_laws.proofs.EdgeSums.{row_segment, slice_sum}
 use Rattle.slice_laws.proofs.Relabelled.{with_labels, stack_with_labels, agree_with_labels, reached_with_labels, reached_bounded}
 
@@ -48,29 +48,18 @@ nothing_removed h (suc k) e = by (removals_to h k) (nothing_removed h k e) (nat_
 
 -- ---- the faces of a base map
 
-arc_faces : (n : ℕ) (a : BaseArc) → is_arc n a ≡ true → (a.left ≤ n) × (a.right ≤ n)
-unfolding is_arc
-arc_faces n a t =
-    let b = and_parts _ (no_repeat a.points) t in
-    let c = and_parts _ (list_all in_limits a.points) b.0 in
-    let d = and_parts _ (nat_le 2 (length a.points)) c.0 in
-    let e = and_parts _ (not (a.left == a.right)) d.0 in
-    let f = and_parts (nat_le a.left n) (nat_le a.right n) e.0 in
-    (leb-true a.left n f.0, leb-true a.right n f.1)
-
 row_faces : (n i l r place : ℕ) (points : List Point) → l ≤ n → r ≤ n → All (λ s. (s.left ≤ n) × (s.right ≤ n)) (path_segments i l r place points)
 row_faces n i l r place [] p q = All-nil _
 row_faces n i l r place (a ∷ []) p q = All-nil _
 row_faces n i l r place (a ∷ b ∷ points) p q =
     All-cons (λ s. (s.left ≤ n) × (s.right ≤ n)) (row_segment i l r place a b (is_empty points)) _ (p, q) (row_faces n i l r (place + 1) (b ∷ points) p q)
 
-pub segment_faces : (n i : ℕ) (arcs : List BaseArc) → list_all (is_arc n) arcs ≡ true → All (λ s. (s.left ≤ n) × (s.right ≤ n)) (arc_segments i arcs)
-segment_faces n i [] t = All-nil _
-segment_faces n i (a ∷ arcs) t =
-    let both = and_parts _ _ t in
-    let f = arc_faces n a both.0 in
+segment_faces : (n i : ℕ) (arcs : List BaseArc) → ((a : BaseArc) → Among a arcs → ArcFacts n a) → All (λ s. (s.left ≤ n) × (s.right ≤ n)) (arc_segments i arcs)
+segment_faces n i [] facts = All-nil _
+segment_faces n i (a ∷ arcs) facts =
+    let f = facts a (inl refl) in
     All-append (λ s. (s.left ≤ n) × (s.right ≤ n)) (path_segments i a.left a.right 0 a.points) (arc_segments (i + 1) arcs)
-    (row_faces n i a.left a.right 0 a.points f.0 f.1) (segment_faces n (i + 1) arcs both.1)
+    (row_faces n i a.left a.right 0 a.points f.left f.right) (segment_faces n (i + 1) arcs (λ b m. facts b (inr m)))
 
 -- ---- the law
 
@@ -101,8 +90,8 @@ module _ (m : BaseMap) (base : is_base m ≡ true) (planar : IsPartition (base_s
       let zero_stays = outside_label m k in
       let labels : agree_from 0 (map sides (stack l (map (with_labels g) (base_segments m)))) ≡ true
       = ap (λ ss. agree_from 0 (map sides ss)) (stack_with_labels g l (base_segments m))
-          ∙ ap (λ u. agree_from u (map sides (map (with_labels g) (stack l (base_segments m))))) (sym zero_stays)
-          ∙ agree_with_labels g zero_stays 0 (stack l (base_segments m)) agrees in
+      ∙ ap (λ u. agree_from u (map sides (map (with_labels g) (stack l (base_segments m))))) (sym zero_stays)
+      ∙ agree_with_labels g zero_stays 0 (stack l (base_segments m)) agrees in
       inside_parity (map (with_labels g) (base_segments m)) p f between.rational labels
       ∙ ap (λ (b : Bool). either_alone b (reached t 0 (stack l (map (with_labels g) (base_segments m))) == f)) (ne_eqb 0 f (λ e. n (sym e)))
       ∙ ap (λ ss. reached t 0 ss == f) (stack_with_labels g l (base_segments m))
@@ -131,7 +120,7 @@ module _ (m : BaseMap) (base : is_base m ≡ true) (planar : IsPartition (base_s
       let P : LabelledSegment → Type 0 = λ (s : LabelledSegment). (s.left ≤ n) × (s.right ≤ n) in
       reached_bounded n (λ s. is_above s.segment p) 0 (stack (line_through p) (base_segments m)) (omega arith)
       (All-sort_by (λ s t. is_higher (line_through p) s.segment t.segment) P (filter (λ s. crosses (line_through p) s.segment) (base_segments m))
-      (All-filter (λ s. crosses (line_through p) s.segment) P (base_segments m) (segment_faces n 0 m.arcs (base_arcs m base))))
+      (All-filter (λ s. crosses (line_through p) s.segment) P (base_segments m) (segment_faces n 0 m.arcs (base_arc m base))))
 
   -- the point is inside f exactly where the ancestor of the face that was found is f
   there : (f : ℕ) → f ≢ 0 → (label_at (merged m) k (reached (λ s. is_above s.segment p) 0 (stack (line_through p) (base_segments m))) == f) ≡ true → IsInsideBaseFace m k f p
@@ -161,5 +150,5 @@ faces_are_unions m base planar ratio k f n p between =
     let same : is_inside (edge_segments (edges_of (merged m) k (removals_to (merged m) k) cs)) f p
     ≡ (label_at (merged m) k (reached (λ s. is_above s.segment p) 0 (stack (line_through p) (base_segments m))) == f)
     = ap (λ (rs : List Removal). is_inside (edge_segments (edges_of (merged m) k rs cs)) f p) none
-        ∙ inside_slice m base planar k p between f cs (chains_exist (merged m) k) ∙ inside_labels m base planar k p between f n in
+    ∙ inside_slice m base planar k p between f cs (chains_exist (merged m) k) ∙ inside_labels m base planar k p between f n in
     (λ h. there m base planar k p between f n (sym same ∙ h), λ i. same ∙ back m base planar k p between f n i)

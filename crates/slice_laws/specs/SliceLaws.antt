@@ -1,6 +1,6 @@
 -- Laws of slices: the faces beside an edge, which faces are adjacent, which points are inside a face, and that a
 -- slice is a planar partition.
-use Rattle.std.specs.Prelude.{◌≡◌, ◌≢◌, ◌≤◌, ◌↔◌, ℕ, true, IsTrue, List, length, All}
+use Rattle.std.specs.Prelude.{◌≡◌, ◌≢◌, ◌≤◌, ◌↔◌, ℕ, IsTrue, List, length, All}
 use Rattle.std.specs.List.{list_any}
 use Rattle.tgap_model.specs.declared.geometry.Fraction.{Fraction}
 use Rattle.tgap_model.specs.declared.slice.Removal.{Removal}

@@ -4,4 +4,7 @@
 
 mod slices;
 
-pub use slices::{chains_keep_faces, faces_are_adjacent, faces_are_unions, slices_are_partitions, slices_are_slices};
+pub use slices::{
+    chains_keep_faces, faces_are_adjacent, faces_are_unions, slices_are_partitions,
+    slices_are_slices,
+};
