@@ -8,7 +8,7 @@ use Rattle.tgap_model.specs.Partition.{is_empty, path_segments, arc_segments, fo
 use Rattle.tgap_model.specs.Chains.{first_point, last_point}
 use Rattle.map_laws.proofs.ChainMembers.{Among, AreDistinct, among_left, among_right, append_among}
 use Rattle.slice_laws.proofs.NodeLinks.{AreNumbers}
-use Rattle.slice_laws.proofs.EdgeSums.{row_segment}
+use Rattle.slice_laws.proofs.EdgeSums.{row_of}
 use Rattle.slice_laws.proofs.Places.{IsRowFrom, joined_rows}
 
 -- the second segment is the next one of the arc
@@ -20,12 +20,12 @@ next_places arc p q e = and_from _ _ (eq-eqb arc arc refl) (eq-eqb (p + 1) q (sy
 
 -- the segments of a row of points are a row from the first one to the last one
 pub row_block : (i l r place : ℕ) (a b : Point) (points : List Point)
-    → (last : LabelledSegment) × IsRowFrom IsNext (row_segment i l r place a b (is_empty points)) last (path_segments i l r place (a ∷ b ∷ points)) × (last.ends ≡ true)
+    → (last : LabelledSegment) × IsRowFrom IsNext (row_of i l r place (record { a = a; b = b }) (is_empty points)) last (path_segments i l r place (a ∷ b ∷ points)) × (last.ends ≡ true)
 row_block i l r place a b [] =
-    let s : LabelledSegment = row_segment i l r place a b true in
+    let s : LabelledSegment = row_of i l r place (record { a = a; b = b }) true in
     (s, record { head = s; tail = []; is = refl; begins = refl; ends = refl; row = tt }, refl)
 row_block i l r place a b (c ∷ points) =
-    let s : LabelledSegment = row_segment i l r place a b false in
+    let s : LabelledSegment = row_of i l r place (record { a = a; b = b }) false in
     let rest = row_block i l r (place + 1) b c points in
     let first : IsRowFrom IsNext s s (s ∷ []) = record { head = s; tail = []; is = refl; begins = refl; ends = refl; row = tt } in
     (rest.0, joined_rows first rest.1 (next_places i place (place + 1) refl), rest.2)
@@ -113,7 +113,7 @@ pub block_row : (i l r : ℕ) (points : List Point) → nat_le 2 (length points)
     → (first : LabelledSegment) × (last : LabelledSegment) × IsRowFrom IsNext first last (path_segments i l r 0 points) × (first.starts ≡ true) × (last.ends ≡ true)
 block_row i l r [] h = absurd cc
 block_row i l r (a ∷ []) h = absurd cc
-block_row i l r (a ∷ b ∷ points) h = let row = row_block i l r 0 a b points in (row_segment i l r 0 a b (is_empty points), row.0, row.1, refl, row.2)
+block_row i l r (a ∷ b ∷ points) h = let row = row_block i l r 0 a b points in (row_of i l r 0 (record { a = a; b = b }) (is_empty points), row.0, row.1, refl, row.2)
 
 -- none is later than the one that ends the arc
 pub end_greatest : (i l r place : ℕ) (points : List Point) (s t : LabelledSegment) → Among s (path_segments i l r place points) → Among t (path_segments i l r place points)

@@ -1,12 +1,12 @@
 -- The segments of a slice and those of the base map whose labels differ are the same, some of them turned round.
-use Rattle.std.proofs.Common.{◌≡◌, ◌≢◌, ◌⊎◌, inl, inr, ℕ, ◌+◌, Bool, true, false, not, cond, List, [], map, reverse, length, take, refl, sym, ap, ap₂, ◌∙◌, subst, ne_eqb, None, arith}
+use Rattle.std.proofs.Common.{◌≡◌, ◌≢◌, ◌⊎◌, inl, inr, ℕ, ◌+◌, Bool, true, false, not, cond, List, [], reverse, length, take, refl, sym, ap, ap₂, ◌∙◌, subst, ne_eqb, None, arith}
 use Rattle.std.specs.Prelude.{flat_map}
 use Rattle.tgap_model.specs.declared.geometry.Point.{Point}
 use Rattle.tgap_model.specs.declared.segment.LabelledSegment.{LabelledSegment}
 use Rattle.tgap_model.specs.Base.{BaseMap, is_base}
-use Rattle.tgap_model.specs.Partition.{base_segments, edge_segments, node_fault}
+use Rattle.tgap_model.specs.Partition.{base_segments, node_fault}
 use Rattle.tgap_model.specs.Merged.{merged, label_at, is_border}
-use Rattle.tgap_model.specs.Removals.{edge_of, edges_of}
+use Rattle.tgap_model.specs.Removals.{edge_of}
 use Rattle.tgap_model.specs.Chains.{Link, Chain, arc_number, key, are_chains}
 use Rattle.tgap_model.specs.Slice.{left_of, right_of}
 use Rattle.map_laws.proofs.ChainMembers.{Among}
@@ -16,10 +16,11 @@ use Rattle.slice_laws.proofs.EvenSides.{border_faces, chains_faces}
 use Rattle.slice_laws.proofs.Paths.{flip}
 use Rattle.slice_laws.proofs.Places.{At, at_among, at_only, among_at, among_in_reverse}
 use Rattle.slice_laws.proofs.Blocks.{of_row, block_among, among_block}
-use Rattle.slice_laws.proofs.Pieces.{Piece, piece, shown, block, pieces_of, pieces}
+use Rattle.slice_laws.proofs.Pieces.{link_segments, Piece, piece, block, pieces_of, pieces}
 use Rattle.slice_laws.proofs.ChainPlaces.{StandsAt, link_of, base_of, known_of}
-use Rattle.slice_laws.proofs.SliceSegments.{rows, at_rows, rows_at, flat_map_at, slice_segments, IsShownAt}
+use Rattle.slice_laws.proofs.SliceSegments.{edge_row, at_rows, rows_at, flat_map_at, slice_segments, IsShownAt}
 use Rattle.map_laws.proofs.Lists.{members_all, among_map, among_flat}
+use Rattle.slice_laws.proofs.EdgeSums.{all_segments}
 
 -- a segment with other labels, in its direction or turned round
 abbrev pub IsMirror : (ℕ → ℕ) → LabelledSegment → LabelledSegment → Type 0
@@ -73,14 +74,13 @@ module _ (m : BaseMap) (base : is_base m ≡ true) (nodes : (v : Point) → node
 
   -- each piece is shown
   pub piece_shown : (i o : ℕ) (c : Chain) (p : Piece) → StandsAt m base k cs t i o c p
-      → (n : ℕ) × (s : LabelledSegment) × At (edge_segments (edges_of (merged m) k [] cs)) n s × (x : IsShownAt m base k cs t n s) × (x.p.base ≡ p.base)
+      → (n : ℕ) × (s : LabelledSegment) × At (all_segments m k cs) n s × (x : IsShownAt m base k cs t n s) × (x.p.base ≡ p.base)
   piece_shown i o c p st =
-      let f : Chain → List LabelledSegment = λ (c : Chain). rows (key c) (edge_of (merged m) k [] c).left (edge_of (merged m) k [] c).right 0 (map shown (pieces m c)) in
       let s = rows_at (key c) (edge_of (merged m) k [] c).left (edge_of (merged m) k [] c).right 0 (pieces m c) o p st.piece in
       let row = at_rows (key c) (edge_of (merged m) k [] c).left (edge_of (merged m) k [] c).right 0 (pieces m c) o s.0 s.1 in
-      let n : ℕ = length (flat_map f (take i cs)) + o in
-      let all : At (flat_map f cs) n s.0 = flat_map_at f cs i c o s.0 st.chain s.1 in
-      let at : At (edge_segments (edges_of (merged m) k [] cs)) n s.0 = subst (λ ss. At ss n s.0) (sym (slice_segments m base k cs t)) all in
+      let n : ℕ = length (flat_map (edge_row m k) (take i cs)) + o in
+      let all : At (flat_map (edge_row m k) cs) n s.0 = flat_map_at (edge_row m k) cs i c o s.0 st.chain s.1 in
+      let at : At (all_segments m k cs) n s.0 = subst (λ ss. At ss n s.0) (sym (slice_segments m base k cs t)) all in
       let x : IsShownAt m base k cs t n s.0 = record {
         i = i;
         o = o;
@@ -114,14 +114,14 @@ module _ (m : BaseMap) (base : is_base m ≡ true) (nodes : (v : Point) → node
       by : (c : Chain) → Among c cs → (d : Link) → Among d c → Among b (block m d.arc)
           → (i : ℕ) × (o : ℕ) × (c : Chain) × (p : Piece) × StandsAt m base k cs t i o c p × (p.base ≡ b)
       by c n d l in_block =
-          let in_link = among_map (piece d) (cond d.turned (reverse (block m d.arc)) (block m d.arc)) b (turned d.turned (block m d.arc) in_block) in
+          let in_link = among_map (piece d) (link_segments m d) b (turned d.turned (block m d.arc) in_block) in
           let place = among_at (pieces m c) (piece d b) (among_flat (pieces_of m) c d (piece d b) l in_link) in
           let i = among_at cs c n in
           (i.0, place.0, c, piece d b, record { chain = i.1; piece = place.1 }, refl)
 
   -- so it is shown
   pub base_shown : (b : LabelledSegment) → Among b (base_segments m) → label_at (merged m) k b.left ≢ label_at (merged m) k b.right
-      → (n : ℕ) × (s : LabelledSegment) × At (edge_segments (edges_of (merged m) k [] cs)) n s × (x : IsShownAt m base k cs t n s) × (x.p.base ≡ b)
+      → (n : ℕ) × (s : LabelledSegment) × At (all_segments m k cs) n s × (x : IsShownAt m base k cs t n s) × (x.p.base ≡ b)
   base_shown b member differ =
       let p = base_piece b member differ in
       let s = piece_shown p.0 p.1 p.2 p.3 p.4 in

@@ -28,16 +28,8 @@ use Rattle.slice_laws.proofs.EvenSides.{chains_faces}
 use Rattle.map_laws.proofs.Lists.{all_members, members_all}
 
 -- the segment of a row at a place
-abbrev pub row_segment : ℕ → ℕ → ℕ → ℕ → Point → Point → Bool → LabelledSegment
-row_segment arc left right place a b ends = record {
-  segment = record { a = a; b = b };
-  left = left;
-  right = right;
-  arc = arc;
-  place = place;
-  starts = place == 0;
-  ends = ends;
-}
+abbrev pub row_of : ℕ → ℕ → ℕ → ℕ → Seg → Bool → LabelledSegment
+row_of arc l r place g ends = record { segment = g; left = l; right = r; arc = arc; place = place; starts = place == 0; ends = ends }
 
 -- with nothing removed the points stay
 pub without_none : (points : List Point) → without [] points ≡ points
@@ -49,6 +41,10 @@ pub row_weaker : {A : Type 0} (R S : A → A → Type 0) → ((x y : A) → R x 
 row_weaker R S h [] r = tt
 row_weaker R S h (x ∷ []) r = tt
 row_weaker R S h (x ∷ y ∷ ys) r = (h x y r.0, row_weaker R S h (y ∷ ys) r.1)
+
+-- the segments of the edges of chains with all their vertices
+abbrev pub all_segments : BaseMap → ℕ → List Chain → List LabelledSegment
+all_segments m k cs = edge_segments (edges_of (merged m) k [] cs)
 
 -- the links of a whole chain have points, and each ends where the next one starts
 pub chain_has_points : (m : BaseMap) → is_base m ≡ true → (k : ℕ) (d : Link) (chain : List Link) → IsWholeChain (merged m) k d chain → HasPoints m.arcs (d ∷ chain)
@@ -68,7 +64,7 @@ module _ (w : Seg → ℕ → ℕ → ℕ) (mirrored : (s : Seg) (l r : ℕ) →
   row_sum i l r place [] = refl
   row_sum i l r place (a ∷ []) = refl
   row_sum i l r place (a ∷ b ∷ points) =
-      sum_by-cons (λ s. w s.segment s.left s.right) (row_segment i l r place a b (is_empty points)) (path_segments i l r (place + 1) (b ∷ points))
+      sum_by-cons (λ s. w s.segment s.left s.right) (row_of i l r place (record { a = a; b = b }) (is_empty points)) (path_segments i l r (place + 1) (b ∷ points))
       ∙ ap (λ n. w (record { a = a; b = b }) l r + n) (row_sum i l r (place + 1) (b ∷ points))
       ∙ sym (sum_by-cons (λ g. w g l r) (record { a = a; b = b }) (path (b ∷ points)))
 
@@ -107,7 +103,7 @@ module _ (w : Seg → ℕ → ℕ → ℕ) (mirrored : (s : Seg) (l r : ℕ) →
       relabelled_row i l r place [] = refl
       relabelled_row i l r place (a ∷ []) = refl
       relabelled_row i l r place (a ∷ b ∷ points) =
-          sum_by-cons (λ s. w s.segment (g s.left) (g s.right)) (row_segment i l r place a b (is_empty points)) (path_segments i l r (place + 1) (b ∷ points))
+          sum_by-cons (λ s. w s.segment (g s.left) (g s.right)) (row_of i l r place (record { a = a; b = b }) (is_empty points)) (path_segments i l r (place + 1) (b ∷ points))
           ∙ ap (λ n. w (record { a = a; b = b }) (g l) (g r) + n) (relabelled_row i l r (place + 1) (b ∷ points))
           ∙ sym (sum_by-cons (λ s. w s (g l) (g r)) (record { a = a; b = b }) (path (b ∷ points)))
 
@@ -144,7 +140,7 @@ module _ (w : Seg → ℕ → ℕ → ℕ) (mirrored : (s : Seg) (l r : ℕ) →
 
     -- so do all segments of the slice and all border arcs
     pub slice_sum : ((s : Seg) (l : ℕ) → w s l l ≡ 0)
-        → sum_by (λ s. w s.segment s.left s.right) (edge_segments (edges_of (merged m) k [] cs)) ≡ sum_by (λ s. w s.segment (label_at (merged m) k s.left) (label_at (merged m) k s.right)) (base_segments m)
+        → sum_by (λ s. w s.segment s.left s.right) (all_segments m k cs) ≡ sum_by (λ s. w s.segment (label_at (merged m) k s.left) (label_at (merged m) k s.right)) (base_segments m)
     slice_sum none =
         sum_by-flat_map (λ s. w s.segment s.left s.right) (λ e. path_segments e.key e.left e.right 0 e.points) (edges_of (merged m) k [] cs)
         ∙ sum_by-map (λ e. sum_by (λ s. w s.segment s.left s.right) (path_segments e.key e.left e.right 0 e.points)) (edge_of (merged m) k []) cs

@@ -44,9 +44,13 @@ IsBack p = cond p.link.turned p.base.starts p.base.ends ≡ true
 abbrev pub block : BaseMap → ℕ → List LabelledSegment
 block m i = path_segments i (arc_number m.arcs i).left (arc_number m.arcs i).right 0 (arc_number m.arcs i).points
 
+-- the segments of a link's arc in the order of the link
+abbrev pub link_segments : BaseMap → Link → List LabelledSegment
+link_segments m d = cond d.turned (reverse (block m d.arc)) (block m d.arc)
+
 -- the pieces of a link and those of a chain
 abbrev pub pieces_of : BaseMap → Link → List Piece
-pieces_of m d = map (piece d) (cond d.turned (reverse (block m d.arc)) (block m d.arc))
+pieces_of m d = map (piece d) (link_segments m d)
 
 abbrev pub pieces : BaseMap → Chain → List Piece
 pieces m c = flat_map (pieces_of m) c
@@ -111,7 +115,7 @@ module _ (m : BaseMap) (k : ℕ) where
   pub piece_from : (c : Chain) (p : Piece) → Among p (pieces m c) → Among p.link c × Among p.base (block m p.link.arc)
   piece_from c p n =
       let l = among_flat_map (pieces_of m) c p n in
-      let s = map_among (piece l.0) (cond l.0.turned (reverse (block m l.0.arc)) (block m l.0.arc)) p l.2 in
+      let s = map_among (piece l.0) (link_segments m l.0) p l.2 in
       let link : l.0 ≡ p.link = ap (λ (q : Piece). q.link) s.2 in
       let base : s.0 ≡ p.base = ap (λ (q : Piece). q.base) s.2 in (
         subst (λ x. Among x c) link l.1,
@@ -124,10 +128,10 @@ module _ (m : BaseMap) (k : ℕ) where
 
   -- no piece stands twice
   pub pieces_distinct : (c : Chain) → AreDistinct c → AreDistinct (pieces m c)
-  pieces_distinct c d = distinct_flat_map (pieces_of m) (λ p. p.link) own c d (λ x n. distinct_map (piece x) (λ s t e. ap (λ (q : Piece). q.base) e) (cond x.turned (reverse (block m x.arc)) (block m x.arc)) (by x x.turned))
+  pieces_distinct c d = distinct_flat_map (pieces_of m) (λ p. p.link) own c d (λ x n. distinct_map (piece x) (λ s t e. ap (λ (q : Piece). q.base) e) (link_segments m x) (by x x.turned))
     where
       own : (x : Link) (p : Piece) → Among p (pieces_of m x) → p.link ≡ x
-      own x p n = let s = map_among (piece x) (cond x.turned (reverse (block m x.arc)) (block m x.arc)) p n in sym (ap (λ (q : Piece). q.link) s.2)
+      own x p n = let s = map_among (piece x) (link_segments m x) p n in sym (ap (λ (q : Piece). q.link) s.2)
 
       by : (x : Link) (t : Bool) → AreDistinct (cond t (reverse (block m x.arc)) (block m x.arc))
       by x true = distinct_reverse (block m x.arc) (row_distinct x.arc (arc_number m.arcs x.arc).left (arc_number m.arcs x.arc).right 0 (arc_number m.arcs x.arc).points)
@@ -147,7 +151,7 @@ map_reverse f (x ∷ xs) = ap (map f) (reverse_cons x xs) ∙ map-append f (reve
 
 module _ (m : BaseMap) where
   shown_link : (d : Link) → map shown (pieces_of m d) ≡ path (link_points m.arcs d)
-  shown_link d = map-map shown (piece d) (cond d.turned (reverse (block m d.arc)) (block m d.arc)) ∙ by d.turned
+  shown_link d = map-map shown (piece d) (link_segments m d) ∙ by d.turned
     where
       a : BaseArc
       a = arc_number m.arcs d.arc

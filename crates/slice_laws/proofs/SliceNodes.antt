@@ -4,16 +4,14 @@ use Rattle.std.proofs.Common.{◌≡◌, ◌≢◌, ◌⊎◌, inl, inr, ℕ, su
 use Rattle.std.specs.List.{list_all}
 use Rattle.std.proofs.lemmas.Bool.{and_from, eqb-true, eqb-false, not-true, cases_eq}
 use Rattle.std.proofs.lemmas.List.Sums.{AllPass-from_list_all, list_all-from_AllPass}
-use Rattle.lemmas.specs.Sorting.{sort_by}
 use Rattle.lemmas.proofs.Sorting.{filter-is_sorted, map-is_sorted, sorted_same}
 use Rattle.lemmas.proofs.Members.{Contains-filter, Contains-from_filter, Contains-map, Contains-from_map}
 use Rattle.tgap_model.specs.declared.geometry.Point.{Point}
 use Rattle.tgap_model.specs.declared.geometry.Seg.{Seg}
 use Rattle.tgap_model.specs.declared.segment.LabelledSegment.{LabelledSegment}
 use Rattle.tgap_model.specs.Base.{BaseMap, is_base, in_limits, same_point}
-use Rattle.tgap_model.specs.Partition.{base_segments, edge_segments, node_fault, is_proper, IsPartition}
+use Rattle.tgap_model.specs.Partition.{base_segments, node_fault, is_proper, IsPartition}
 use Rattle.tgap_model.specs.Merged.{merged, label_at}
-use Rattle.tgap_model.specs.Removals.{edges_of}
 use Rattle.tgap_model.specs.Chains.{Chain, arc_number, first_point, last_point, link_start, link_end, are_chains}
 use Rattle.tgap_model.proofs.Points.{same_point-true}
 use Rattle.tgap_model.proofs.Proper.{proper_parts}
@@ -21,7 +19,6 @@ use Rattle.tgap_model.proofs.Segments.{proper_segments}
 use Rattle.base_check.specs.declared.spoke.Spoke.{Spoke}
 use Rattle.base_check.specs.Spokes.{disagrees, spoke, before}
 use Rattle.base_check.proofs.Order.{before_strict}
-use Rattle.base_check.proofs.Nodes.{all_spokes, is_at_node}
 use Rattle.base_check.proofs.Rings.{ring_of}
 use Rattle.map_laws.proofs.ChainMembers.{Among}
 use Rattle.slice_laws.proofs.Paths.{flip}
@@ -33,8 +30,9 @@ use Rattle.slice_laws.proofs.Meetings.{IsEnd}
 use Rattle.slice_laws.proofs.SlicesApart.{IsSegmentAt, before_front, after_back, before_first, after_first}
 use Rattle.slice_laws.proofs.SliceSegments.{IsShownAt, shown_at, slice_apart}
 use Rattle.slice_laws.proofs.Correspondence.{shown_labels, piece_among, labels_differ, base_piece, piece_shown}
-use Rattle.slice_laws.proofs.SpokeRings.{with_faces, has_two, path_relabelled, closed_from_ring, ring_from_closed, IsSpokeAt, spoke_from_ring, ring_has_spoke, ring_is_sorted, fault_of_ring, no_gap}
+use Rattle.slice_laws.proofs.SpokeRings.{ring_at, with_faces, has_two, path_relabelled, closed_from_ring, ring_from_closed, IsSpokeAt, spoke_from_ring, ring_has_spoke, ring_is_sorted, fault_of_ring, no_gap}
 use Rattle.map_laws.proofs.Lists.{all_members, members_all}
+use Rattle.slice_laws.proofs.EdgeSums.{all_segments}
 
 module _ (m : BaseMap) (base : is_base m ≡ true) (planar : IsPartition (base_segments m)) (k : ℕ) (cs : List Chain) (t : are_chains (merged m) k cs ≡ true) where
   -- ---- segments of the slice lie between two different points within the limits
@@ -59,7 +57,7 @@ module _ (m : BaseMap) (base : is_base m ≡ true) (planar : IsPartition (base_s
       by true e = absurd (n (same_point-true a b e))
       by false e = refl
 
-  proper_shown : (n : ℕ) (s : LabelledSegment) → At (edge_segments (edges_of (merged m) k [] cs)) n s → is_proper s ≡ true
+  proper_shown : (n : ℕ) (s : LabelledSegment) → At (all_segments m k cs) n s → is_proper s ≡ true
   proper_shown n s a =
       let x = shown_at m base k cs t n s a in
       let b = proper_parts x.p.base (proper_base x.p.base (piece_among m base planar.arcs.nodes k cs t x.at.stands)) in
@@ -71,10 +69,10 @@ module _ (m : BaseMap) (base : is_base m ≡ true) (planar : IsPartition (base_s
       by b true e f n = and_from _ _ (and_from _ _ f e) (differ_test b.segment.b b.segment.a (λ w. n (sym w)))
       by b false e f n = and_from _ _ (and_from _ _ e f) (differ_test b.segment.a b.segment.b n)
 
-  pub slice_proper : list_all is_proper (edge_segments (edges_of (merged m) k [] cs)) ≡ true
+  pub slice_proper : list_all is_proper (all_segments m k cs) ≡ true
   slice_proper =
-      list_all-from_AllPass is_proper (edge_segments (edges_of (merged m) k [] cs)) (all_members (λ s. is_proper s ≡ true) (edge_segments (edges_of (merged m) k [] cs))
-      (λ s n. let a = among_at (edge_segments (edges_of (merged m) k [] cs)) s n in proper_shown a.0 s a.1))
+      list_all-from_AllPass is_proper (all_segments m k cs) (all_members (λ s. is_proper s ≡ true) (all_segments m k cs)
+      (λ s n. let a = among_at (all_segments m k cs) s n in proper_shown a.0 s a.1))
 
   -- ---- an end of an edge is an end of a link
 
@@ -210,7 +208,7 @@ module _ (m : BaseMap) (base : is_base m ≡ true) (planar : IsPartition (base_s
   two_faces_test a b n = ap not (ne_eqb a b n)
 
   -- a spoke of the slice is one of the base map with the labels, which differ
-  spoke_there : (v : Point) (q : Spoke) → IsSpokeAt (edge_segments (edges_of (merged m) k [] cs)) v q
+  spoke_there : (v : Point) (q : Spoke) → IsSpokeAt (all_segments m k cs) v q
       → (r : Spoke) × IsSpokeAt (base_segments m) v r × (has_two (label_at (merged m) k) r ≡ true) × (with_faces (label_at (merged m) k) r ≡ q)
   spoke_there v q (n, s, a, side) =
       let x = shown_at m base k cs t n s a in
@@ -258,8 +256,8 @@ module _ (m : BaseMap) (base : is_base m ≡ true) (planar : IsPartition (base_s
 
   -- where an edge ends at the node, the ends of a segment of a border arc there are ends of an edge
   module _ (v : Point) (j : ℕ) (u : LabelledSegment) (y : IsShownAt m base k cs t j u) (ends : IsEnd u v) where
-    first_shown : (n : ℕ) (s : LabelledSegment) → At (edge_segments (edges_of (merged m) k [] cs)) n s → (x : IsShownAt m base k cs t n s) → x.p.base.starts ≡ true → x.p.base.segment.a ≡ v
-        → IsSpokeAt (edge_segments (edges_of (merged m) k [] cs)) v (with_faces (label_at (merged m) k) (spoke x.p.base.segment.a x.p.base.segment.b x.p.base.left x.p.base.right))
+    first_shown : (n : ℕ) (s : LabelledSegment) → At (all_segments m k cs) n s → (x : IsShownAt m base k cs t n s) → x.p.base.starts ≡ true → x.p.base.segment.a ≡ v
+        → IsSpokeAt (all_segments m k cs) v (with_faces (label_at (merged m) k) (spoke x.p.base.segment.a x.p.base.segment.b x.p.base.left x.p.base.right))
     first_shown n s a x e f =
         let labels = shown_labels m base planar.arcs.nodes k cs t n s x in
         by x.p.link.turned (λ front at. front_starts x.at y.at v ends front at (sym (front_points x.at.stands front) ∙ at)) (λ back at. back_ends x.at y.at v ends back at (sym (back_points x.at.stands back) ∙ at))
@@ -270,7 +268,7 @@ module _ (m : BaseMap) (base : is_base m ≡ true) (planar : IsPartition (base_s
             → (cond w x.p.base.starts x.p.base.ends ≡ true → (cond w (flip x.p.base.segment) x.p.base.segment).b ≡ v → s.ends ≡ true)
             → s.segment ≡ cond w (flip x.p.base.segment) x.p.base.segment
             → s.left ≡ label_at (merged m) k (cond w x.p.base.right x.p.base.left) → s.right ≡ label_at (merged m) k (cond w x.p.base.left x.p.base.right)
-            → IsSpokeAt (edge_segments (edges_of (merged m) k [] cs)) v (with_faces (label_at (merged m) k) (spoke x.p.base.segment.a x.p.base.segment.b x.p.base.left x.p.base.right))
+            → IsSpokeAt (all_segments m k cs) v (with_faces (label_at (merged m) k) (spoke x.p.base.segment.a x.p.base.segment.b x.p.base.left x.p.base.right))
         by true start finish g l r = (
           n,
           s,
@@ -292,8 +290,8 @@ module _ (m : BaseMap) (base : is_base m ≡ true) (planar : IsPartition (base_s
           ),
         )
 
-    last_shown : (n : ℕ) (s : LabelledSegment) → At (edge_segments (edges_of (merged m) k [] cs)) n s → (x : IsShownAt m base k cs t n s) → x.p.base.ends ≡ true → x.p.base.segment.b ≡ v
-        → IsSpokeAt (edge_segments (edges_of (merged m) k [] cs)) v (with_faces (label_at (merged m) k) (spoke x.p.base.segment.b x.p.base.segment.a x.p.base.right x.p.base.left))
+    last_shown : (n : ℕ) (s : LabelledSegment) → At (all_segments m k cs) n s → (x : IsShownAt m base k cs t n s) → x.p.base.ends ≡ true → x.p.base.segment.b ≡ v
+        → IsSpokeAt (all_segments m k cs) v (with_faces (label_at (merged m) k) (spoke x.p.base.segment.b x.p.base.segment.a x.p.base.right x.p.base.left))
     last_shown n s a x e f =
         let labels = shown_labels m base planar.arcs.nodes k cs t n s x in
         by x.p.link.turned (λ front at. front_starts x.at y.at v ends front at (sym (front_points x.at.stands front) ∙ at)) (λ back at. back_ends x.at y.at v ends back at (sym (back_points x.at.stands back) ∙ at))
@@ -304,7 +302,7 @@ module _ (m : BaseMap) (base : is_base m ≡ true) (planar : IsPartition (base_s
             → (cond w x.p.base.starts x.p.base.ends ≡ true → (cond w (flip x.p.base.segment) x.p.base.segment).b ≡ v → s.ends ≡ true)
             → s.segment ≡ cond w (flip x.p.base.segment) x.p.base.segment
             → s.left ≡ label_at (merged m) k (cond w x.p.base.right x.p.base.left) → s.right ≡ label_at (merged m) k (cond w x.p.base.left x.p.base.right)
-            → IsSpokeAt (edge_segments (edges_of (merged m) k [] cs)) v (with_faces (label_at (merged m) k) (spoke x.p.base.segment.b x.p.base.segment.a x.p.base.right x.p.base.left))
+            → IsSpokeAt (all_segments m k cs) v (with_faces (label_at (merged m) k) (spoke x.p.base.segment.b x.p.base.segment.a x.p.base.right x.p.base.left))
         by true start finish g l r = (
           n,
           s,
@@ -327,14 +325,14 @@ module _ (m : BaseMap) (base : is_base m ≡ true) (planar : IsPartition (base_s
         )
 
     spoke_back : (r : Spoke) → IsSpokeAt (base_segments m) v r → has_two (label_at (merged m) k) r ≡ true
-        → IsSpokeAt (edge_segments (edges_of (merged m) k [] cs)) v (with_faces (label_at (merged m) k) r)
+        → IsSpokeAt (all_segments m k cs) v (with_faces (label_at (merged m) k) r)
     spoke_back r (n, b, a, inl (e, f, h)) two =
         let g : ℕ → ℕ = label_at (merged m) k in
         let differ : g b.left ≢ g b.right = eqb-false _ _ (not-true _ (ap (has_two g) h ∙ two)) in
         let w = base_piece m base planar.arcs.nodes k cs t b (at_among (base_segments m) n b a) differ in
         let z = piece_shown m base planar.arcs.nodes k cs t w.0 w.1 w.2 w.3 w.4 in
         let same : z.3.p.base ≡ b = z.4 ∙ w.5 in
-        subst (λ (q : Spoke). IsSpokeAt (edge_segments (edges_of (merged m) k [] cs)) v (with_faces g q)) (ap (λ (c : LabelledSegment). spoke c.segment.a c.segment.b c.left c.right) same ∙ h)
+        subst (λ (q : Spoke). IsSpokeAt (all_segments m k cs) v (with_faces g q)) (ap (λ (c : LabelledSegment). spoke c.segment.a c.segment.b c.left c.right) same ∙ h)
         (first_shown z.0 z.1 z.2 z.3 (ap (λ (c : LabelledSegment). c.starts) same ∙ e) (ap (λ (c : LabelledSegment). c.segment.a) same ∙ f))
     spoke_back r (n, b, a, inr (e, f, h)) two =
         let g : ℕ → ℕ = label_at (merged m) k in
@@ -342,18 +340,18 @@ module _ (m : BaseMap) (base : is_base m ≡ true) (planar : IsPartition (base_s
         let w = base_piece m base planar.arcs.nodes k cs t b (at_among (base_segments m) n b a) differ in
         let z = piece_shown m base planar.arcs.nodes k cs t w.0 w.1 w.2 w.3 w.4 in
         let same : z.3.p.base ≡ b = z.4 ∙ w.5 in
-        subst (λ (q : Spoke). IsSpokeAt (edge_segments (edges_of (merged m) k [] cs)) v (with_faces g q)) (ap (λ (c : LabelledSegment). spoke c.segment.b c.segment.a c.right c.left) same ∙ h)
+        subst (λ (q : Spoke). IsSpokeAt (all_segments m k cs) v (with_faces g q)) (ap (λ (c : LabelledSegment). spoke c.segment.b c.segment.a c.right c.left) same ∙ h)
         (last_shown z.0 z.1 z.2 z.3 (ap (λ (c : LabelledSegment). c.ends) same ∙ e) (ap (λ (c : LabelledSegment). c.segment.b) same ∙ f))
 
     -- ---- one ring
 
-    same_ring : filter (is_at_node v) (sort_by before (all_spokes (edge_segments (edges_of (merged m) k [] cs))))
-        ≡ map (with_faces (label_at (merged m) k)) (filter (has_two (label_at (merged m) k)) (filter (is_at_node v) (sort_by before (all_spokes (base_segments m)))))
+    same_ring : ring_at (all_segments m k cs) v
+        ≡ map (with_faces (label_at (merged m) k)) (filter (has_two (label_at (merged m) k)) (ring_at (base_segments m) v))
     same_ring =
         let g : ℕ → ℕ = label_at (merged m) k in
-        let slice : List LabelledSegment = edge_segments (edges_of (merged m) k [] cs) in
-        let ring : List Spoke = filter (is_at_node v) (sort_by before (all_spokes (base_segments m))) in
-        sorted_same before_strict (filter (is_at_node v) (sort_by before (all_spokes slice))) (map (with_faces g) (filter (has_two g) ring)) (λ i d l. tt) (λ i d l. tt)
+        let slice : List LabelledSegment = all_segments m k cs in
+        let ring : List Spoke = ring_at (base_segments m) v in
+        sorted_same before_strict (ring_at slice v) (map (with_faces g) (filter (has_two g) ring)) (λ i d l. tt) (λ i d l. tt)
         (ring_is_sorted slice slice_proper (slice_apart m base k cs t planar.arcs.apart) v)
         (map-is_sorted (λ p. Unit {0}) before before (with_faces g) (λ p q a b. refl) (filter (has_two g) ring) (λ i d l. tt)
         ∙ filter-is_sorted before_strict (has_two g) ring (λ i d l. tt) (ring_is_sorted (base_segments m) (proper_segments m base) planar.arcs.apart v))
@@ -364,32 +362,32 @@ module _ (m : BaseMap) (base : is_base m ≡ true) (planar : IsPartition (base_s
         (λ q c.
         let r = Contains-from_map (with_faces g) (filter (has_two g) ring) q c in
         let f = Contains-from_filter (has_two g) ring r.0 r.1 in
-        subst (Contains (filter (is_at_node v) (sort_by before (all_spokes slice)))) r.2
+        subst (Contains (ring_at slice v)) r.2
         (ring_has_spoke slice v (with_faces g r.0) (spoke_back r.0 (spoke_from_ring (base_segments m) v r.0 f.0) f.1)))
 
   -- round each node the faces agree
-  pub slice_nodes : (v : Point) → node_fault (edge_segments (edges_of (merged m) k [] cs)) v ≡ None
+  pub slice_nodes : (v : Point) → node_fault (all_segments m k cs) v ≡ None
   slice_nodes v =
-      let slice : List LabelledSegment = edge_segments (edges_of (merged m) k [] cs) in
+      let slice : List LabelledSegment = all_segments m k cs in
       fault_of_ring slice slice_proper (slice_apart m base k cs t planar.arcs.apart) v
-      ∙ ap (option_map disagrees) (by (filter (is_at_node v) (sort_by before (all_spokes slice))) refl)
+      ∙ ap (option_map disagrees) (by (ring_at slice v) refl)
     where
       slice : List LabelledSegment
-      slice = edge_segments (edges_of (merged m) k [] cs)
+      slice = all_segments m k cs
 
-      no_base_gap : ring_of (filter (is_at_node v) (sort_by before (all_spokes (base_segments m)))) ≡ None
+      no_base_gap : ring_of (ring_at (base_segments m) v) ≡ None
       no_base_gap = no_gap _ (sym (fault_of_ring (base_segments m) (proper_segments m base) planar.arcs.apart v) ∙ planar.arcs.nodes v)
 
-      by : (ps : List Spoke) → filter (is_at_node v) (sort_by before (all_spokes (edge_segments (edges_of (merged m) k [] cs)))) ≡ ps
-          → ring_of (filter (is_at_node v) (sort_by before (all_spokes (edge_segments (edges_of (merged m) k [] cs))))) ≡ None
+      by : (ps : List Spoke) → ring_at (all_segments m k cs) v ≡ ps
+          → ring_of (ring_at (all_segments m k cs) v) ≡ None
       by [] e = ap ring_of e
       by (p ∷ ps) e =
-          let c : Contains (filter (is_at_node v) (sort_by before (all_spokes (edge_segments (edges_of (merged m) k [] cs))))) p = subst (λ qs. Contains qs p) (sym e) (0, omega arith, refl) in
-          let there = spoke_from_ring (edge_segments (edges_of (merged m) k [] cs)) v p c in
-          let closed = closed_from_ring (filter (is_at_node v) (sort_by before (all_spokes (base_segments m)))) no_base_gap in
+          let c : Contains (ring_at (all_segments m k cs) v) p = subst (λ qs. Contains qs p) (sym e) (0, omega arith, refl) in
+          let there = spoke_from_ring (all_segments m k cs) v p c in
+          let closed = closed_from_ring (ring_at (base_segments m) v) no_base_gap in
           let g : ℕ → ℕ = label_at (merged m) k in
           ap ring_of (same_ring v there.0 there.1 (shown_at m base k cs t there.0 there.1 there.2) (end_of there.1 p there.3))
-          ∙ ring_from_closed _ (g closed.0) (path_relabelled g closed.0 closed.0 (filter (is_at_node v) (sort_by before (all_spokes (base_segments m)))) closed.1)
+          ∙ ring_from_closed _ (g closed.0) (path_relabelled g closed.0 closed.0 (ring_at (base_segments m) v) closed.1)
         where
           end_of : (s : LabelledSegment) (q : Spoke) → ((s.starts ≡ true) × (s.segment.a ≡ v) × (spoke s.segment.a s.segment.b s.left s.right ≡ q))
               ⊎ ((s.ends ≡ true) × (s.segment.b ≡ v) × (spoke s.segment.b s.segment.a s.right s.left ≡ q)) → IsEnd s v

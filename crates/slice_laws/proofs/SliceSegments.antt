@@ -1,5 +1,5 @@
 -- The segments of a slice by their places: each shows a piece of a chain.
-use Rattle.std.proofs.Common.{◌≡◌, ◌⊎◌, inl, inr, ℕ, zero, suc, ◌+◌, Bool, true, false, ◌==◌, List, [], ◌∷◌, ◌++◌, map, length, take, AllPairs, refl, sym, ap, ap₂, ◌∙◌, subst, arith}
+use Rattle.std.proofs.Common.{◌≡◌, ◌⊎◌, inl, inr, ℕ, zero, suc, ◌+◌, true, false, ◌==◌, List, [], ◌∷◌, ◌++◌, map, length, take, AllPairs, refl, sym, ap, ap₂, ◌∙◌, subst, arith}
 use Rattle.std.specs.Prelude.{flat_map}
 use Rattle.std.proofs.lemmas.List.{length-append}
 use Rattle.std.proofs.lemmas.List.Folds.{flat_map-map}
@@ -7,13 +7,13 @@ use Rattle.tgap_model.specs.declared.geometry.Point.{Point}
 use Rattle.tgap_model.specs.declared.geometry.Seg.{Seg}
 use Rattle.tgap_model.specs.declared.segment.LabelledSegment.{LabelledSegment}
 use Rattle.tgap_model.specs.Base.{BaseMap, is_base}
-use Rattle.tgap_model.specs.Partition.{is_empty, path_segments, base_segments, edge_segments, AreApart}
+use Rattle.tgap_model.specs.Partition.{is_empty, path_segments, base_segments, AreApart}
 use Rattle.tgap_model.specs.Merged.{merged}
-use Rattle.tgap_model.specs.Removals.{path, edge_of, edges_of}
+use Rattle.tgap_model.specs.Removals.{path, edge_of}
 use Rattle.tgap_model.specs.Chains.{Chain, key, link_points, chain_points, are_chains}
 use Rattle.map_laws.proofs.ChainLinks.{chains_whole}
 use Rattle.slice_laws.proofs.Paths.{chain_path}
-use Rattle.slice_laws.proofs.EdgeSums.{without_none, chain_has_points, chain_meets}
+use Rattle.slice_laws.proofs.EdgeSums.{all_segments, row_of, without_none, chain_has_points, chain_meets}
 use Rattle.slice_laws.proofs.Places.{At, at_among, pairs_from_places}
 use Rattle.slice_laws.proofs.Pieces.{Piece, shown, pieces, shown_chain}
 use Rattle.slice_laws.proofs.SlicesApart.{IsSegmentAt, segments_apart}
@@ -42,9 +42,6 @@ at_flat_map f (x ∷ xs) n z a = elim (at_append (f x) (flat_map f xs) n z a) [
 -- ---- rows of segments
 
 -- labelled segments of one edge, from a place on
-abbrev pub row_of : ℕ → ℕ → ℕ → ℕ → Seg → Bool → LabelledSegment
-row_of key l r place g ends = record { segment = g; left = l; right = r; arc = key; place = place; starts = place == 0; ends = ends }
-
 abbrev pub rows : ℕ → ℕ → ℕ → ℕ → List Seg → List LabelledSegment
 rows key l r place [] = []
 rows key l r place (g ∷ gs) = row_of key l r place g (is_empty gs) ∷ rows key l r (place + 1) gs
@@ -115,14 +112,14 @@ rows_at key l r place (q ∷ ps) (suc n) p a = rows_at key l r (place + 1) ps n 
 
 -- ---- the segments of an edge, and those of a slice
 
-module _ (m : BaseMap) (base : is_base m ≡ true) (k : ℕ) (cs : List Chain) (t : are_chains (merged m) k cs ≡ true) where
-  -- the segments of the edge of a chain
-  abbrev pub edge_row : Chain → List LabelledSegment
-  edge_row c = rows (key c) (edge_of (merged m) k [] c).left (edge_of (merged m) k [] c).right 0 (map shown (pieces m c))
+-- the segments of the edge of a chain
+abbrev pub edge_row : BaseMap → ℕ → Chain → List LabelledSegment
+edge_row m k c = rows (key c) (edge_of (merged m) k [] c).left (edge_of (merged m) k [] c).right 0 (map shown (pieces m c))
 
+module _ (m : BaseMap) (base : is_base m ≡ true) (k : ℕ) (cs : List Chain) (t : are_chains (merged m) k cs ≡ true) where
   edge_segments_of : (i : ℕ) (c : Chain) → At cs i c
       → path_segments (edge_of (merged m) k [] c).key (edge_of (merged m) k [] c).left (edge_of (merged m) k [] c).right 0 (edge_of (merged m) k [] c).points
-      ≡ rows (key c) (edge_of (merged m) k [] c).left (edge_of (merged m) k [] c).right 0 (map shown (pieces m c))
+      ≡ edge_row m k c
   edge_segments_of i c a =
       let whole = chains_whole (merged m) k cs t c (at_among cs i c a) in
       let segments : path (chain_points m.arcs c) ≡ flat_map (λ d. path (link_points m.arcs d)) c
@@ -137,11 +134,10 @@ module _ (m : BaseMap) (base : is_base m ≡ true) (k : ℕ) (cs : List Chain) (
   flat_same f g (x ∷ xs) h = ap₂ (λ ys zs. ys ++ zs) (h zero x refl) (flat_same f g xs (λ i y a. h (suc i) y a))
 
   -- the segments of the slice
-  pub slice_segments : edge_segments (edges_of (merged m) k [] cs)
-      ≡ flat_map (λ c. rows (key c) (edge_of (merged m) k [] c).left (edge_of (merged m) k [] c).right 0 (map shown (pieces m c))) cs
+  pub slice_segments : all_segments m k cs ≡ flat_map (edge_row m k) cs
   slice_segments =
       flat_map-map (λ e. path_segments e.key e.left e.right 0 e.points) (edge_of (merged m) k []) cs
-      ∙ flat_same _ (λ c. rows (key c) (edge_of (merged m) k [] c).left (edge_of (merged m) k [] c).right 0 (map shown (pieces m c))) cs edge_segments_of
+      ∙ flat_same _ (edge_row m k) cs edge_segments_of
 
   -- A segment of the slice at a place of all: the chain at place i, and its piece at place o.
   pub record IsShownAt (n : ℕ) (s : LabelledSegment) : Type 0 where
@@ -152,11 +148,11 @@ module _ (m : BaseMap) (base : is_base m ≡ true) (k : ℕ) (cs : List Chain) (
     pub at : IsSegmentAt m base k cs t i o c p s
     pub left : s.left ≡ (edge_of (merged m) k [] c).left
     pub right : s.right ≡ (edge_of (merged m) k [] c).right
-    pub sum : n ≡ length (flat_map (λ c. rows (key c) (edge_of (merged m) k [] c).left (edge_of (merged m) k [] c).right 0 (map shown (pieces m c))) (take i cs)) + o
+    pub sum : n ≡ length (flat_map (edge_row m k) (take i cs)) + o
 
-  pub shown_at : (n : ℕ) (s : LabelledSegment) → At (edge_segments (edges_of (merged m) k [] cs)) n s → IsShownAt n s
+  pub shown_at : (n : ℕ) (s : LabelledSegment) → At (all_segments m k cs) n s → IsShownAt n s
   shown_at n s a =
-      let f = at_flat_map (λ c. rows (key c) (edge_of (merged m) k [] c).left (edge_of (merged m) k [] c).right 0 (map shown (pieces m c))) cs n s
+      let f = at_flat_map (edge_row m k) cs n s
       (subst (λ ss. At ss n s) slice_segments a) in
       let r = at_rows (key f.1) (edge_of (merged m) k [] f.1).left (edge_of (merged m) k [] f.1).right 0 (pieces m f.1) f.2 s f.4 in
       record {
@@ -174,14 +170,14 @@ module _ (m : BaseMap) (base : is_base m ≡ true) (k : ℕ) (cs : List Chain) (
       }
 
   -- two segments of the slice are apart
-  pub slice_apart : AllPairs AreApart (base_segments m) → AllPairs AreApart (edge_segments (edges_of (merged m) k [] cs))
-  slice_apart planar = pairs_from_places AreApart (edge_segments (edges_of (merged m) k [] cs)) (λ a b s u less x y.
+  pub slice_apart : AllPairs AreApart (base_segments m) → AllPairs AreApart (all_segments m k cs)
+  slice_apart planar = pairs_from_places AreApart (all_segments m k cs) (λ a b s u less x y.
       let f = shown_at a s x in
       let g = shown_at b u y in
       segments_apart m base k cs t planar f.at g.at (λ same e.
-      let before : length (flat_map (λ c. rows (key c) (edge_of (merged m) k [] c).left (edge_of (merged m) k [] c).right 0 (map shown (pieces m c))) (take f.i cs))
-      ≡ length (flat_map (λ c. rows (key c) (edge_of (merged m) k [] c).left (edge_of (merged m) k [] c).right 0 (map shown (pieces m c))) (take g.i cs))
-      = ap (λ i. length (flat_map (λ c. rows (key c) (edge_of (merged m) k [] c).left (edge_of (merged m) k [] c).right 0 (map shown (pieces m c))) (take i cs))) same in
+      let before : length (flat_map (edge_row m k) (take f.i cs))
+      ≡ length (flat_map (edge_row m k) (take g.i cs))
+      = ap (λ i. length (flat_map (edge_row m k) (take i cs))) same in
       omega (arith, f.sum, g.sum, less)))
 
 -- a place in one of some lists is a place in all of them together

@@ -11,9 +11,8 @@ use Rattle.tgap_model.specs.declared.geometry.Seg.{Seg}
 use Rattle.tgap_model.specs.declared.segment.LabelledSegment.{LabelledSegment}
 use Rattle.tgap_model.specs.Base.{BaseMap, is_base}
 use Rattle.tgap_model.specs.Segment.{Line, IsBetweenColumns, crosses, goes_right, rightward, run, height, is_higher}
-use Rattle.tgap_model.specs.Partition.{Sides, sides, stack, agree_from, base_segments, edge_segments, IsPartition}
+use Rattle.tgap_model.specs.Partition.{Sides, sides, stack, agree_from, base_segments, IsPartition}
 use Rattle.tgap_model.specs.Merged.{merged, label_at}
-use Rattle.tgap_model.specs.Removals.{edges_of}
 use Rattle.tgap_model.specs.Chains.{Chain, are_chains}
 use Rattle.map_laws.specs.PlaneLaws.{relabelled}
 use Rattle.map_laws.proofs.Labels.{labels_agree}
@@ -26,6 +25,7 @@ use Rattle.slice_laws.proofs.Outside.{outside_label}
 use Rattle.slice_laws.proofs.Places.{At, at_among, among_at, at_place, place_at}
 use Rattle.slice_laws.proofs.SliceSegments.{shown_at, slice_apart}
 use Rattle.slice_laws.proofs.Correspondence.{IsMirror, shown_mirror, piece_among, labels_differ, base_shown}
+use Rattle.slice_laws.proofs.EdgeSums.{all_segments}
 
 -- ---- members by places
 
@@ -120,23 +120,27 @@ parts_relabelled g (s ∷ ss) = by (g (sides s).upper == g (sides s).lower) (par
 
 -- ---- the stack of a slice
 
+-- the segments of the base map whose labels differ, down the line
+abbrev kept : BaseMap → ℕ → Line → List LabelledSegment
+kept m k l = filter (parts (label_at (merged m) k)) (stack l (base_segments m))
+
+-- their strands with the labels, and the strands of the slice
+abbrev base_strands : BaseMap → ℕ → Line → List Strand
+base_strands m k l = map (λ s. strand (with_labels (label_at (merged m) k) s)) (kept m k l)
+
+abbrev slice_strands : BaseMap → ℕ → List Chain → Line → List Strand
+slice_strands m k cs l = map strand (stack l (all_segments m k cs))
+
 module _ (m : BaseMap) (base : is_base m ≡ true) (planar : IsPartition (base_segments m)) (k : ℕ) (cs : List Chain) (t : are_chains (merged m) k cs ≡ true) (l : Line) (rational : pos 0 <ℤ l.c) where
-  -- the segments of the base map whose labels differ, down the line
-  abbrev kept : List LabelledSegment
-  kept = filter (parts (label_at (merged m) k)) (stack l (base_segments m))
-
-  of_slice : List Strand
-  of_slice = map strand (stack l (edge_segments (edges_of (merged m) k [] cs)))
-
-  slice_sorted : is_sorted_by (is_over l) (map strand (stack l (edge_segments (edges_of (merged m) k [] cs)))) ≡ true
+  slice_sorted : is_sorted_by (is_over l) (slice_strands m k cs l) ≡ true
   slice_sorted =
-      map-is_sorted (λ s. Unit {0}) (higher l) (is_over l) strand (λ s u p q. higher_strands l s u) (stack l (edge_segments (edges_of (merged m) k [] cs))) (λ i d n. tt)
-      ∙ stack_is_sorted l rational (edge_segments (edges_of (merged m) k [] cs)) (slice_apart m base k cs t planar.arcs.apart)
+      map-is_sorted (λ s. Unit {0}) (higher l) (is_over l) strand (λ s u p q. higher_strands l s u) (stack l (all_segments m k cs)) (λ i d n. tt)
+      ∙ stack_is_sorted l rational (all_segments m k cs) (slice_apart m base k cs t planar.arcs.apart)
 
-  base_sorted : is_sorted_by (is_over l) (map (λ s. strand (with_labels (label_at (merged m) k) s)) (filter (parts (label_at (merged m) k)) (stack l (base_segments m)))) ≡ true
+  base_sorted : is_sorted_by (is_over l) (base_strands m k l) ≡ true
   base_sorted =
       let g : ℕ → ℕ = label_at (merged m) k in
-      map-is_sorted (λ s. Unit {0}) (higher l) (is_over l) (λ s. strand (with_labels g s)) (λ s u p q. higher_strands l (with_labels g s) (with_labels g u)) (filter (parts g) (stack l (base_segments m))) (λ i d n. tt)
+      map-is_sorted (λ s. Unit {0}) (higher l) (is_over l) (λ s. strand (with_labels g s)) (λ s u p q. higher_strands l (with_labels g s) (with_labels g u)) (kept m k l) (λ i d n. tt)
       ∙ filter-is_sorted (order_of_heights l rational) (parts g) (stack l (base_segments m)) (stack_is_crossed l (base_segments m)) (stack_is_sorted l rational (base_segments m) planar.arcs.apart)
 
   -- a segment that the line crosses is a member of the stack, and no other one is
@@ -150,59 +154,59 @@ module _ (m : BaseMap) (base : is_base m ≡ true) (planar : IsPartition (base_s
       (n.0, n.1, f.1)
 
   -- the two lists have the same members
-  there : (z : Strand) → Contains (map strand (stack l (edge_segments (edges_of (merged m) k [] cs)))) z
-      → Contains (map (λ s. strand (with_labels (label_at (merged m) k) s)) (filter (parts (label_at (merged m) k)) (stack l (base_segments m)))) z
+  there : (z : Strand) → Contains (slice_strands m k cs l) z
+      → Contains (base_strands m k l) z
   there z c =
       let g : ℕ → ℕ = label_at (merged m) k in
-      let f = Contains-from_map strand (stack l (edge_segments (edges_of (merged m) k [] cs))) z c in
-      let s = from_stack (edge_segments (edges_of (merged m) k [] cs)) f.0 f.1 in
+      let f = Contains-from_map strand (stack l (all_segments m k cs)) z c in
+      let s = from_stack (all_segments m k cs) f.0 f.1 in
       let x = shown_at m base k cs t s.0 f.0 s.1 in
       let mirror = shown_mirror m base planar.arcs.nodes k cs t s.0 f.0 x in
       let across : crosses l x.p.base.segment ≡ true = sym (mirror_crossed l g x.p.base f.0 mirror) ∙ s.2 in
       let member = among_at (base_segments m) x.p.base (piece_among m base planar.arcs.nodes k cs t x.at.stands) in
-      subst (Contains (map (λ s. strand (with_labels g s)) (filter (parts g) (stack l (base_segments m))))) (sym (mirror_strand l g x.p.base f.0 across mirror) ∙ f.2)
-      (Contains-map (λ s. strand (with_labels g s)) (filter (parts g) (stack l (base_segments m))) x.p.base
+      subst (Contains (base_strands m k l)) (sym (mirror_strand l g x.p.base f.0 across mirror) ∙ f.2)
+      (Contains-map (λ s. strand (with_labels g s)) (kept m k l) x.p.base
       (Contains-filter (parts g) (stack l (base_segments m)) x.p.base (in_stack (base_segments m) member.0 x.p.base member.1 across)
       (parts_from g x.p.base (labels_differ m base planar.arcs.nodes k cs t s.0 f.0 x))))
 
-  back : (z : Strand) → Contains (map (λ s. strand (with_labels (label_at (merged m) k) s)) (filter (parts (label_at (merged m) k)) (stack l (base_segments m)))) z
-      → Contains (map strand (stack l (edge_segments (edges_of (merged m) k [] cs)))) z
+  back : (z : Strand) → Contains (base_strands m k l) z
+      → Contains (slice_strands m k cs l) z
   back z c =
       let g : ℕ → ℕ = label_at (merged m) k in
-      let f = Contains-from_map (λ s. strand (with_labels g s)) (filter (parts g) (stack l (base_segments m))) z c in
+      let f = Contains-from_map (λ s. strand (with_labels g s)) (kept m k l) z c in
       let d = Contains-from_filter (parts g) (stack l (base_segments m)) f.0 f.1 in
       let b = from_stack (base_segments m) f.0 d.0 in
       let s = base_shown m base planar.arcs.nodes k cs t f.0 (at_among (base_segments m) b.0 f.0 b.1) (parts_differ g f.0 d.1) in
       let mirror : IsMirror g f.0 s.1 = subst (λ x. IsMirror g x s.1) s.4 (shown_mirror m base planar.arcs.nodes k cs t s.0 s.1 s.3) in
       let across : crosses l s.1.segment ≡ true = mirror_crossed l g f.0 s.1 mirror ∙ b.2 in
-      subst (Contains (map strand (stack l (edge_segments (edges_of (merged m) k [] cs))))) (mirror_strand l g f.0 s.1 b.2 mirror ∙ f.2)
-      (Contains-map strand (stack l (edge_segments (edges_of (merged m) k [] cs))) s.1 (in_stack (edge_segments (edges_of (merged m) k [] cs)) s.0 s.1 s.2 across))
+      subst (Contains (slice_strands m k cs l)) (mirror_strand l g f.0 s.1 b.2 mirror ∙ f.2)
+      (Contains-map strand (stack l (all_segments m k cs)) s.1 (in_stack (all_segments m k cs) s.0 s.1 s.2 across))
 
   -- so they are one
   runs_right : (s : LabelledSegment) → crosses l s.segment ≡ true → pos 0 <ℤ run (strand s).segment
   runs_right s c = run_positive l s.segment rational c
 
-  one_stack : map strand (stack l (edge_segments (edges_of (merged m) k [] cs)))
-      ≡ map (λ s. strand (with_labels (label_at (merged m) k) s)) (filter (parts (label_at (merged m) k)) (stack l (base_segments m)))
+  one_stack : slice_strands m k cs l
+      ≡ base_strands m k l
   one_stack =
       let g : ℕ → ℕ = label_at (merged m) k in
       let P : Strand → Type 0 = λ (x : Strand). pos 0 <ℤ run x.segment in
-      sorted_same (over_order l) (map strand (stack l (edge_segments (edges_of (merged m) k [] cs)))) (map (λ s. strand (with_labels g s)) (filter (parts g) (stack l (base_segments m))))
-      (All-map P strand (stack l (edge_segments (edges_of (merged m) k [] cs))) (λ i d n. runs_right (get_or (stack l (edge_segments (edges_of (merged m) k [] cs))) i d) (stack_is_crossed l (edge_segments (edges_of (merged m) k [] cs)) i d n)))
-      (All-map P (λ s. strand (with_labels g s)) (filter (parts g) (stack l (base_segments m)))
+      sorted_same (over_order l) (slice_strands m k cs l) (base_strands m k l)
+      (All-map P strand (stack l (all_segments m k cs)) (λ i d n. runs_right (get_or (stack l (all_segments m k cs)) i d) (stack_is_crossed l (all_segments m k cs) i d n)))
+      (All-map P (λ s. strand (with_labels g s)) (kept m k l)
       (All-filter (parts g) (λ s. P (strand (with_labels g s))) (stack l (base_segments m)) (λ i d n. runs_right (get_or (stack l (base_segments m)) i d) (stack_is_crossed l (base_segments m) i d n))))
       slice_sorted base_sorted there back
 
   -- and have the sides of the base map with their labels, less those that became one
-  pub slice_sides : map sides (stack l (edge_segments (edges_of (merged m) k [] cs))) ≡ relabelled (label_at (merged m) k) (map sides (stack l (base_segments m)))
+  pub slice_sides : map sides (stack l (all_segments m k cs)) ≡ relabelled (label_at (merged m) k) (map sides (stack l (base_segments m)))
   slice_sides =
       let g : ℕ → ℕ = label_at (merged m) k in
-      sym (strand_sides (stack l (edge_segments (edges_of (merged m) k [] cs))))
-      ∙ ap (map (λ (x : Strand). record { upper = x.upper; lower = x.lower })) (one_stack ∙ sym (map-map strand (with_labels g) (filter (parts g) (stack l (base_segments m)))))
-      ∙ strand_sides (map (with_labels g) (filter (parts g) (stack l (base_segments m))))
+      sym (strand_sides (stack l (all_segments m k cs)))
+      ∙ ap (map (λ (x : Strand). record { upper = x.upper; lower = x.lower })) (one_stack ∙ sym (map-map strand (with_labels g) (kept m k l)))
+      ∙ strand_sides (map (with_labels g) (kept m k l))
       ∙ parts_relabelled g (stack l (base_segments m))
 
-  pub slice_agrees : IsBetweenColumns l → agree_from 0 (map sides (stack l (edge_segments (edges_of (merged m) k [] cs)))) ≡ true
+  pub slice_agrees : IsBetweenColumns l → agree_from 0 (map sides (stack l (all_segments m k cs))) ≡ true
   slice_agrees between =
       let g : ℕ → ℕ = label_at (merged m) k in
       ap (agree_from 0) slice_sides ∙ ap (λ u. agree_from u (relabelled g (map sides (stack l (base_segments m))))) (sym (outside_label m k))

@@ -1,5 +1,5 @@
 -- Where nothing is removed, the slice of a planar partition is a planar partition.
-use Rattle.std.proofs.Common.{◌≡◌, ℕ, true, false, ◌==◌, List, [], sym, subst, ne_eqb}
+use Rattle.std.proofs.Common.{◌≡◌, ℕ, true, false, ◌==◌, List, sym, subst, ne_eqb}
 use Rattle.tgap_model.specs.declared.slice.Removal.{Removal}
 use Rattle.tgap_model.specs.declared.segment.LabelledSegment.{LabelledSegment}
 use Rattle.tgap_model.specs.Base.{BaseMap, is_base}
@@ -17,14 +17,15 @@ use Rattle.slice_laws.proofs.SliceStacks.{slice_agrees}
 use Rattle.slice_laws.proofs.SliceNodes.{slice_nodes}
 use Rattle.slice_laws.proofs.Unions.{nothing_removed}
 use Rattle.map_laws.proofs.Lists.{all_members}
+use Rattle.slice_laws.proofs.EdgeSums.{all_segments}
 
 edges_planar : (m : BaseMap) → is_base m ≡ true → IsPartition (base_segments m) → (k : ℕ) (cs : List Chain) → are_chains (merged m) k cs ≡ true
-    → IsPartition (edge_segments (edges_of (merged m) k [] cs))
+    → IsPartition (all_segments m k cs)
 edges_planar m base planar k cs t = record {
   arcs = record {
     apart = slice_apart m base k cs t planar.arcs.apart;
-    two_faces = all_members (λ (s : LabelledSegment). (s.left == s.right) ≡ false) (edge_segments (edges_of (merged m) k [] cs)) (λ s n.
-        let a = among_at (edge_segments (edges_of (merged m) k [] cs)) s n in
+    two_faces = all_members (λ (s : LabelledSegment). (s.left == s.right) ≡ false) (all_segments m k cs) (λ s n.
+        let a = among_at (all_segments m k cs) s n in
         ne_eqb s.left s.right (faces_differ m base planar.arcs.nodes k cs t a.0 s (shown_at m base k cs t a.0 s a.1)));
     nodes = slice_nodes m base planar k cs t;
   };

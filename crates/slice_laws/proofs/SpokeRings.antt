@@ -143,11 +143,11 @@ module _ (segments : List LabelledSegment) (all_proper : list_all is_proper segm
   sorted_spokes : is_sorted_by before (sort_by before (all_spokes segments)) ≡ true
   sorted_spokes = sort_by-is_sorted before (all_spokes segments) (all_decided segments (AllPass-from_list_all is_proper segments all_proper) apart)
 
-  pub ring_is_sorted : (v : Point) → is_sorted_by before (filter (is_at_node v) (sort_by before (all_spokes segments))) ≡ true
+  pub ring_is_sorted : (v : Point) → is_sorted_by before (ring_at segments v) ≡ true
   ring_is_sorted v = filter-is_sorted before_strict (is_at_node v) (sort_by before (all_spokes segments)) (λ k d l. tt) sorted_spokes
 
   -- the fault of a node is the gap of its ring
-  pub fault_of_ring : (v : Point) → node_fault segments v ≡ option_map disagrees (ring_of (filter (is_at_node v) (sort_by before (all_spokes segments))))
+  pub fault_of_ring : (v : Point) → node_fault segments v ≡ option_map disagrees (ring_of (ring_at segments v))
   fault_of_ring v =
       node_fault-is segments (sort_by before (all_spokes segments)) all_proper apart (sort_by-permutation before (all_spokes segments))
       (λ k d low l. one_order before_strict (get_or (sort_by before (all_spokes segments)) k d) (get_or (sort_by before (all_spokes segments)) (k + 1) d) tt tt (adjacent_from_sorted before (sort_by before (all_spokes segments)) sorted_spokes k d l)) v

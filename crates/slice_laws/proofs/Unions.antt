@@ -28,7 +28,7 @@ use Rattle.slice_laws.proofs.Outside.{outside_label}
 use Rattle.tgap_model.proofs.BaseFacts.{ArcFacts}
 use Rattle.map_laws.proofs.ChainMembers.{Among}
 use Rattle.slice_laws.proofs.BaseParts.{base_arc}
-use Rattle.slice_laws.proofs.EdgeSums.{row_segment, slice_sum}
+use Rattle.slice_laws.proofs.EdgeSums.{all_segments, row_of, slice_sum}
 use Rattle.slice_laws.proofs.Relabelled.{with_labels, stack_with_labels, agree_with_labels, reached_with_labels, reached_bounded}
 
 -- ---- with ratio 0 nothing is removed
@@ -52,7 +52,7 @@ row_faces : (n i l r place : ℕ) (points : List Point) → l ≤ n → r ≤ n 
 row_faces n i l r place [] p q = All-nil _
 row_faces n i l r place (a ∷ []) p q = All-nil _
 row_faces n i l r place (a ∷ b ∷ points) p q =
-    All-cons (λ s. (s.left ≤ n) × (s.right ≤ n)) (row_segment i l r place a b (is_empty points)) _ (p, q) (row_faces n i l r (place + 1) (b ∷ points) p q)
+    All-cons (λ s. (s.left ≤ n) × (s.right ≤ n)) (row_of i l r place (record { a = a; b = b }) (is_empty points)) _ (p, q) (row_faces n i l r (place + 1) (b ∷ points) p q)
 
 segment_faces : (n i : ℕ) (arcs : List BaseArc) → ((a : BaseArc) → Among a arcs → ArcFacts n a) → All (λ s. (s.left ≤ n) × (s.right ≤ n)) (arc_segments i arcs)
 segment_faces n i [] facts = All-nil _
@@ -63,26 +63,23 @@ segment_faces n i (a ∷ arcs) facts =
 
 -- ---- the law
 
+-- the base face below the nearest segment above a point, or the outside
+abbrev face_below : BaseMap → Fraction → ℕ
+face_below m p = reached (λ s. is_above s.segment p) 0 (stack (line_through p) (base_segments m))
+
 module _ (m : BaseMap) (base : is_base m ≡ true) (planar : IsPartition (base_segments m)) (k : ℕ) (p : Fraction) (between : IsBetweenColumns (line_through p)) where
-  above : LabelledSegment → Bool
-  above s = is_above s.segment p
-
-  -- the base face below the nearest segment above the point, or the outside
-  abbrev found : ℕ
-  found = reached (λ s. is_above s.segment p) 0 (stack (line_through p) (base_segments m))
-
   agrees : agree_from 0 (map sides (stack (line_through p) (base_segments m))) ≡ true
   agrees = planar.stacks (line_through p) between
 
   -- the point is inside that face
-  inside_base : (f : ℕ) → f ≢ 0 → is_inside (base_segments m) f p ≡ (reached (λ s. is_above s.segment p) 0 (stack (line_through p) (base_segments m)) == f)
+  inside_base : (f : ℕ) → f ≢ 0 → is_inside (base_segments m) f p ≡ (face_below m p == f)
   inside_base f n =
       inside_parity (base_segments m) p f between.rational agrees
-      ∙ ap (λ (b : Bool). either_alone b (reached (λ s. is_above s.segment p) 0 (stack (line_through p) (base_segments m)) == f)) (ne_eqb 0 f (λ e. n (sym e)))
+      ∙ ap (λ (b : Bool). either_alone b (face_below m p == f)) (ne_eqb 0 f (λ e. n (sym e)))
 
   -- and after k steps inside its ancestor
   inside_labels : (f : ℕ) → f ≢ 0 → is_inside (map (with_labels (label_at (merged m) k)) (base_segments m)) f p
-      ≡ (label_at (merged m) k (reached (λ s. is_above s.segment p) 0 (stack (line_through p) (base_segments m))) == f)
+      ≡ (label_at (merged m) k (face_below m p) == f)
   inside_labels f n =
       let g : ℕ → ℕ = label_at (merged m) k in
       let l : Line = line_through p in
@@ -100,7 +97,7 @@ module _ (m : BaseMap) (base : is_base m ≡ true) (planar : IsPartition (base_s
 
   -- a point is inside a face of the slice where it is inside that of the base map with the labels
   inside_slice : (f : ℕ) (cs : List Chain) → are_chains (merged m) k cs ≡ true
-      → is_inside (edge_segments (edges_of (merged m) k [] cs)) f p ≡ is_inside (map (with_labels (label_at (merged m) k)) (base_segments m)) f p
+      → is_inside (all_segments m k cs) f p ≡ is_inside (map (with_labels (label_at (merged m) k)) (base_segments m)) f p
   unfolding is_inside
   inside_slice f cs t =
       let w : Seg → ℕ → ℕ → ℕ = λ (s : Seg) (l r : ℕ). cond (meets_ray p s && borders f l r) 1 0 in
@@ -114,7 +111,7 @@ module _ (m : BaseMap) (base : is_base m ≡ true) (planar : IsPartition (base_s
       never true = refl
       never false = refl
 
-  found_bounded : reached (λ s. is_above s.segment p) 0 (stack (line_through p) (base_segments m)) ≤ length m.classes
+  found_bounded : face_below m p ≤ length m.classes
   found_bounded =
       let n : ℕ = length m.classes in
       let P : LabelledSegment → Type 0 = λ (s : LabelledSegment). (s.left ≤ n) × (s.right ≤ n) in
@@ -123,9 +120,9 @@ module _ (m : BaseMap) (base : is_base m ≡ true) (planar : IsPartition (base_s
       (All-filter (λ s. crosses (line_through p) s.segment) P (base_segments m) (segment_faces n 0 m.arcs (base_arc m base))))
 
   -- the point is inside f exactly where the ancestor of the face that was found is f
-  there : (f : ℕ) → f ≢ 0 → (label_at (merged m) k (reached (λ s. is_above s.segment p) 0 (stack (line_through p) (base_segments m))) == f) ≡ true → IsInsideBaseFace m k f p
+  there : (f : ℕ) → f ≢ 0 → (label_at (merged m) k (face_below m p) == f) ≡ true → IsInsideBaseFace m k f p
   there f n h =
-      let face : ℕ = reached (λ s. is_above s.segment p) 0 (stack (line_through p) (base_segments m)) in
+      let face : ℕ = face_below m p in
       let label : label_at (merged m) k face ≡ f = eqb-true _ _ h in
       let other : face ≢ 0 = λ e. n (sym label ∙ ap (label_at (merged m) k) e ∙ outside_label m k) in
       record {
@@ -136,10 +133,10 @@ module _ (m : BaseMap) (base : is_base m ≡ true) (planar : IsPartition (base_s
         inside = inside_base face other ∙ eq-eqb face face refl;
       }
 
-  back : (f : ℕ) → f ≢ 0 → IsInsideBaseFace m k f p → (label_at (merged m) k (reached (λ s. is_above s.segment p) 0 (stack (line_through p) (base_segments m))) == f) ≡ true
+  back : (f : ℕ) → f ≢ 0 → IsInsideBaseFace m k f p → (label_at (merged m) k (face_below m p) == f) ≡ true
   back f n i =
       let other : i.face ≢ 0 = λ e. omega (arith, i.least, e) in
-      let same : reached (λ s. is_above s.segment p) 0 (stack (line_through p) (base_segments m)) ≡ i.face = eqb-true _ _ (sym (inside_base i.face other) ∙ i.inside) in
+      let same : face_below m p ≡ i.face = eqb-true _ _ (sym (inside_base i.face other) ∙ i.inside) in
       eq-eqb _ _ (ap (label_at (merged m) k) same ∙ i.ancestor)
 
 pub faces_are_unions : FacesAreUnions
@@ -148,7 +145,7 @@ faces_are_unions m base planar ratio k f n p between =
     let cs : List Chain = chains_at (merged m) k in
     let none : removals_to (merged m) k ≡ [] = nothing_removed (merged m) k ratio in
     let same : is_inside (edge_segments (edges_of (merged m) k (removals_to (merged m) k) cs)) f p
-    ≡ (label_at (merged m) k (reached (λ s. is_above s.segment p) 0 (stack (line_through p) (base_segments m))) == f)
+    ≡ (label_at (merged m) k (face_below m p) == f)
     = ap (λ (rs : List Removal). is_inside (edge_segments (edges_of (merged m) k rs cs)) f p) none
     ∙ inside_slice m base planar k p between f cs (chains_exist (merged m) k) ∙ inside_labels m base planar k p between f n in
     (λ h. there m base planar k p between f n (sym same ∙ h), λ i. same ∙ back m base planar k p between f n i)
