@@ -24,3 +24,5 @@ pub mod SliceStacks
 pub mod SpokeRings
 pub mod SliceNodes
 pub mod SlicesPlanar
+pub mod Sound
+pub mod Examples

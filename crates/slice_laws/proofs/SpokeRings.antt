@@ -4,6 +4,7 @@ use Rattle.std.proofs.Common.{◌≡◌, ◌⊎◌, inl, inr, ℕ, ◌+◌, Bool
 use Rattle.std.specs.List.{list_all}
 use Rattle.std.proofs.lemmas.Bool.{eqb-true}
 use Rattle.std.proofs.lemmas.List.Sums.{AllPass-from_list_all}
+use Rattle.std.specs.List.Sorted.{IsSortedBy}
 use Rattle.lemmas.specs.Sorting.{sort_by, is_sorted_by}
 use Rattle.lemmas.proofs.Sorting.{sort_by-is_sorted, sort_by-permutation, adjacent_from_sorted, filter-is_sorted, Contains-sort_by, Contains-from_sort_by}
 use Rattle.lemmas.proofs.Orders.{one_order}
@@ -143,14 +144,19 @@ module _ (segments : List LabelledSegment) (all_proper : list_all is_proper segm
   sorted_spokes : is_sorted_by before (sort_by before (all_spokes segments)) ≡ true
   sorted_spokes = sort_by-is_sorted before (all_spokes segments) (all_decided segments (AllPass-from_list_all is_proper segments all_proper) apart)
 
+  -- each two neighbours of them stand in order
+  pub spokes_in_order : IsSortedBy before (sort_by before (all_spokes segments))
+  spokes_in_order k d low l =
+      one_order before_strict (get_or (sort_by before (all_spokes segments)) k d) (get_or (sort_by before (all_spokes segments)) (k + 1) d) tt tt
+      (adjacent_from_sorted before (sort_by before (all_spokes segments)) sorted_spokes k d l)
+
   pub ring_is_sorted : (v : Point) → is_sorted_by before (ring_at segments v) ≡ true
   ring_is_sorted v = filter-is_sorted before_strict (is_at_node v) (sort_by before (all_spokes segments)) (λ k d l. tt) sorted_spokes
 
   -- the fault of a node is the gap of its ring
   pub fault_of_ring : (v : Point) → node_fault segments v ≡ option_map disagrees (ring_of (ring_at segments v))
   fault_of_ring v =
-      node_fault-is segments (sort_by before (all_spokes segments)) all_proper apart (sort_by-permutation before (all_spokes segments))
-      (λ k d low l. one_order before_strict (get_or (sort_by before (all_spokes segments)) k d) (get_or (sort_by before (all_spokes segments)) (k + 1) d) tt tt (adjacent_from_sorted before (sort_by before (all_spokes segments)) sorted_spokes k d l)) v
+      node_fault-is segments (sort_by before (all_spokes segments)) all_proper apart (sort_by-permutation before (all_spokes segments)) spokes_in_order v
 
 pub no_gap : (o : Option NodeGap) → ◌≡◌ {A = Option MapFault} (option_map disagrees o) None → o ≡ None
 no_gap None e = refl
