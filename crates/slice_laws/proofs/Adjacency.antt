@@ -50,7 +50,8 @@ two_labels f g l r apart h e =
 module _ (m : BaseMap) (base : is_base m ≡ true) (nodes : (v : Point) → node_fault (base_segments m) v ≡ None) (k : ℕ)
     (cs : List Chain) (t : are_chains (merged m) k cs ≡ true) (removals : List Removal) (f g : ℕ) where
   -- the faces of an edge are those of its least arc
-  from_edge : list_any (is_edge_between f g) (edges_of (merged m) k removals cs) ≡ true → list_any (λ a. is_between f g (labelled_at (merged m) k a)) m.arcs ≡ true
+  from_edge : list_any (is_edge_between f g) (edges_of (merged m) k removals cs) ≡ true
+      → list_any (λ a. is_between f g (labelled_at (merged m) k a)) m.arcs ≡ true
   from_edge h =
       let e = any_among (is_edge_between f g) (edges_of (merged m) k removals cs) h in
       let c = map_among (edge_of (merged m) k removals) cs e.0 e.1 in
@@ -61,7 +62,8 @@ module _ (m : BaseMap) (base : is_base m ≡ true) (nodes : (v : Point) → node
       (ap (is_edge_between f g) c.2 ∙ e.2)
 
   -- a link has the two faces at its sides where its arc has
-  link_between : (d : Link) → are_between f g (label_at (merged m) k (arc_number m.arcs d.arc).left) (label_at (merged m) k (arc_number m.arcs d.arc).right) ≡ true
+  link_between : (d : Link)
+      → are_between f g (label_at (merged m) k (arc_number m.arcs d.arc).left) (label_at (merged m) k (arc_number m.arcs d.arc).right) ≡ true
       → are_between f g (left_of (merged m) k d) (right_of (merged m) k d) ≡ true
   link_between d h = by d.turned
     where
@@ -71,7 +73,8 @@ module _ (m : BaseMap) (base : is_base m ≡ true) (nodes : (v : Point) → node
       by false = h
 
   -- an arc with different labels is a border, so it stands in a chain
-  from_arc : f ≢ g → list_any (λ a. is_between f g (labelled_at (merged m) k a)) m.arcs ≡ true → list_any (is_edge_between f g) (edges_of (merged m) k removals cs) ≡ true
+  from_arc : f ≢ g → list_any (λ a. is_between f g (labelled_at (merged m) k a)) m.arcs ≡ true
+      → list_any (is_edge_between f g) (edges_of (merged m) k removals cs) ≡ true
   from_arc apart h =
       let a = any_among (λ a. is_between f g (labelled_at (merged m) k a)) m.arcs h in
       let n = among_number m.arcs a.0 a.1 in
@@ -79,7 +82,8 @@ module _ (m : BaseMap) (base : is_base m ≡ true) (nodes : (v : Point) → node
       let border : is_border (merged m) k (arc_number m.arcs n.0) ≡ true = ap not (ne_eqb _ _ (two_labels f g _ _ apart between)) in
       let p = border_in_chain (merged m) k cs t n.0 n.1 border in
       let keeps = chains_faces m base nodes k cs t removals p.0 p.1 in
-      any_from (is_edge_between f g) (edges_of (merged m) k removals cs) (edge_of (merged m) k removals p.0) (among_map (edge_of (merged m) k removals) cs p.0 p.1)
+      any_from (is_edge_between f g) (edges_of (merged m) k removals cs) (edge_of (merged m) k removals p.0)
+      (among_map (edge_of (merged m) k removals) cs p.0 p.1)
       (subst₂ (λ l r. are_between f g l r ≡ true) (members_all (λ d. left_of (merged m) k d ≡ (edge_of (merged m) k removals p.0).left) p.0 p.2 keeps.left p.3)
       (members_all (λ d. right_of (merged m) k d ≡ (edge_of (merged m) k removals p.0).right) p.0 p.2 keeps.right p.3)
       (link_between p.2 (ap (λ (i : ℕ). is_between f g (labelled_at (merged m) k (arc_number m.arcs i))) p.4 ∙ between)))

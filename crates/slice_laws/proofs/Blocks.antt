@@ -54,13 +54,15 @@ later_starts i l r place points s m e =
     true≢false (sym e ∙ f.starts ∙ ne_eqb s.place 0 (λ z. absurd (omega (arith, f.later, z))))
 
 -- the one that starts the arc begins at the first point, and that which ends it ends at the last point
-pub starts_at : (i l r : ℕ) (points : List Point) (s : LabelledSegment) → Among s (path_segments i l r 0 points) → s.starts ≡ true → s.segment.a ≡ first_point points
+pub starts_at : (i l r : ℕ) (points : List Point) (s : LabelledSegment) → Among s (path_segments i l r 0 points) → s.starts ≡ true
+    → s.segment.a ≡ first_point points
 starts_at i l r [] s m e = absurd m
 starts_at i l r (a ∷ []) s m e = absurd m
 starts_at i l r (a ∷ b ∷ points) s (inl f) e = sym (ap (λ (x : LabelledSegment). x.segment.a) f)
 starts_at i l r (a ∷ b ∷ points) s (inr m) e = absurd (later_starts i l r 0 (b ∷ points) s m e)
 
-pub ends_at_last : (i l r place : ℕ) (points : List Point) (s : LabelledSegment) → Among s (path_segments i l r place points) → s.ends ≡ true → s.segment.b ≡ last_point points
+pub ends_at_last : (i l r place : ℕ) (points : List Point) (s : LabelledSegment) → Among s (path_segments i l r place points) → s.ends ≡ true
+    → s.segment.b ≡ last_point points
 ends_at_last i l r place [] s m e = absurd m
 ends_at_last i l r place (a ∷ []) s m e = absurd m
 ends_at_last i l r place (a ∷ b ∷ []) s (inl f) e = sym (ap (λ (x : LabelledSegment). x.segment.b) f)
@@ -69,7 +71,8 @@ ends_at_last i l r place (a ∷ b ∷ c ∷ points) s (inl f) e = absurd (true�
 ends_at_last i l r place (a ∷ b ∷ c ∷ points) s (inr m) e = ends_at_last i l r (place + 1) (b ∷ c ∷ points) s m e
 
 -- there is one of each
-pub one_start : (i l r : ℕ) (points : List Point) (s t : LabelledSegment) → Among s (path_segments i l r 0 points) → Among t (path_segments i l r 0 points)
+pub one_start : (i l r : ℕ) (points : List Point) (s t : LabelledSegment) → Among s (path_segments i l r 0 points)
+    → Among t (path_segments i l r 0 points)
     → s.starts ≡ true → t.starts ≡ true → s ≡ t
 one_start i l r [] s t m n e f = absurd m
 one_start i l r (a ∷ []) s t m n e f = absurd m
@@ -77,7 +80,8 @@ one_start i l r (a ∷ b ∷ points) s t (inl u) (inl v) e f = sym u ∙ v
 one_start i l r (a ∷ b ∷ points) s t (inr m) n e f = absurd (later_starts i l r 0 (b ∷ points) s m e)
 one_start i l r (a ∷ b ∷ points) s t (inl u) (inr n) e f = absurd (later_starts i l r 0 (b ∷ points) t n f)
 
-pub one_end : (i l r place : ℕ) (points : List Point) (s t : LabelledSegment) → Among s (path_segments i l r place points) → Among t (path_segments i l r place points)
+pub one_end : (i l r place : ℕ) (points : List Point) (s t : LabelledSegment) → Among s (path_segments i l r place points)
+    → Among t (path_segments i l r place points)
     → s.ends ≡ true → t.ends ≡ true → s ≡ t
 one_end i l r place [] s t m n e f = absurd m
 one_end i l r place (a ∷ []) s t m n e f = absurd m
@@ -116,7 +120,8 @@ block_row i l r (a ∷ []) h = absurd cc
 block_row i l r (a ∷ b ∷ points) h = let row = row_block i l r 0 a b points in (row_of i l r 0 (record { a = a; b = b }) (is_empty points), row.0, row.1, refl, row.2)
 
 -- none is later than the one that ends the arc
-pub end_greatest : (i l r place : ℕ) (points : List Point) (s t : LabelledSegment) → Among s (path_segments i l r place points) → Among t (path_segments i l r place points)
+pub end_greatest : (i l r place : ℕ) (points : List Point) (s t : LabelledSegment) → Among s (path_segments i l r place points)
+    → Among t (path_segments i l r place points)
     → s.ends ≡ true → t.place ≤ s.place
 end_greatest i l r place [] s t m n e = absurd m
 end_greatest i l r place (a ∷ []) s t m n e = absurd m
@@ -130,7 +135,8 @@ end_greatest i l r place (a ∷ b ∷ c ∷ points) s t (inr m) (inl v) e =
 end_greatest i l r place (a ∷ b ∷ c ∷ points) s t (inr m) (inr n) e = end_greatest i l r (place + 1) (b ∷ c ∷ points) s t m n e
 
 -- each place has one
-pub place_once : (i l r place : ℕ) (points : List Point) (s t : LabelledSegment) → Among s (path_segments i l r place points) → Among t (path_segments i l r place points)
+pub place_once : (i l r place : ℕ) (points : List Point) (s t : LabelledSegment) → Among s (path_segments i l r place points)
+    → Among t (path_segments i l r place points)
     → s.place ≡ t.place → s ≡ t
 place_once i l r place [] s t m n e = absurd m
 place_once i l r place (a ∷ []) s t m n e = absurd m
@@ -144,7 +150,8 @@ place_once i l r place (a ∷ b ∷ points) s t (inr m) (inl v) e =
 place_once i l r place (a ∷ b ∷ points) s t (inr m) (inr n) e = place_once i l r (place + 1) (b ∷ points) s t m n e
 
 -- and each segment of the map is one of an arc
-pub among_block : (number : ℕ → BaseArc) (i : ℕ) (arcs : List BaseArc) → AreNumbers number i arcs → (s : LabelledSegment) → Among s (arc_segments i arcs)
+pub among_block : (number : ℕ → BaseArc) (i : ℕ) (arcs : List BaseArc) → AreNumbers number i arcs → (s : LabelledSegment)
+    → Among s (arc_segments i arcs)
     → (j : ℕ) × (i ≤ j) × (j < i + length arcs) × Among s (path_segments j (number j).left (number j).right 0 (number j).points)
 among_block number i [] at s m = absurd m
 among_block number i (a ∷ arcs) at s m =

@@ -19,7 +19,8 @@ use Rattle.slice_laws.proofs.Blocks.{of_row, one_start, one_end, end_greatest, p
 use Rattle.slice_laws.proofs.Pieces.{Piece, piece, IsFront, IsBack, block, pieces, IsNextPiece, ArePieces, chain_pieces, piece_from, pieces_distinct}
 
 -- members of two lists at different places that pass a test are counted twice
-two_counted : {A : Type 0} (p : A → Bool) (xss : List (List A)) (i j : ℕ) (xs ys : List A) (x y : A) → At xss i xs → At xss j ys → i < j → Among x xs → Among y ys
+two_counted : {A : Type 0} (p : A → Bool) (xss : List (List A)) (i j : ℕ) (xs ys : List A) (x y : A) → At xss i xs → At xss j ys → i < j → Among x xs
+    → Among y ys
     → p x ≡ true → p y ≡ true → 2 ≤ count_by p (flat_map (λ c. c) xss)
 two_counted p [] i j xs ys x y a b l m n e f = absurd a
 two_counted {A} p (zs ∷ xss) zero zero xs ys x y a b l m n e f = absurd (omega arith)
@@ -111,17 +112,21 @@ module _ (m : BaseMap) (base : is_base m ≡ true) (k : ℕ) (cs : List Chain) (
   -- the front of a link is one piece, and so is its back
   pub front_once : {i n j o : ℕ} {c e : Chain} {p q : Piece} → StandsAt i n c p → StandsAt j o e q → p.link ≡ q.link → IsFront p → IsFront q → p ≡ q
   front_once {p = p} {q = q} s u f x y =
-      piece_same p q f (by p.link.turned (base_of s) (subst (λ (d : Link). Among q.base (block m d.arc)) (sym f) (base_of u)) x (subst (λ (d : Link). cond d.turned q.base.ends q.base.starts ≡ true) (sym f) y))
+      piece_same p q f
+      (by p.link.turned (base_of s) (subst (λ (d : Link). Among q.base (block m d.arc)) (sym f) (base_of u)) x (subst (λ (d : Link). cond d.turned q.base.ends q.base.starts ≡ true) (sym f) y))
     where
-      by : (b : Bool) → Among p.base (block m p.link.arc) → Among q.base (block m p.link.arc) → cond b p.base.ends p.base.starts ≡ true → cond b q.base.ends q.base.starts ≡ true → p.base ≡ q.base
+      by : (b : Bool) → Among p.base (block m p.link.arc) → Among q.base (block m p.link.arc) → cond b p.base.ends p.base.starts ≡ true
+          → cond b q.base.ends q.base.starts ≡ true → p.base ≡ q.base
       by true m n e f = one_end _ _ _ 0 _ p.base q.base m n e f
       by false m n e f = one_start _ _ _ _ p.base q.base m n e f
 
   pub back_once : {i n j o : ℕ} {c e : Chain} {p q : Piece} → StandsAt i n c p → StandsAt j o e q → p.link ≡ q.link → IsBack p → IsBack q → p ≡ q
   back_once {p = p} {q = q} s u f x y =
-      piece_same p q f (by p.link.turned (base_of s) (subst (λ (d : Link). Among q.base (block m d.arc)) (sym f) (base_of u)) x (subst (λ (d : Link). cond d.turned q.base.starts q.base.ends ≡ true) (sym f) y))
+      piece_same p q f
+      (by p.link.turned (base_of s) (subst (λ (d : Link). Among q.base (block m d.arc)) (sym f) (base_of u)) x (subst (λ (d : Link). cond d.turned q.base.starts q.base.ends ≡ true) (sym f) y))
     where
-      by : (b : Bool) → Among p.base (block m p.link.arc) → Among q.base (block m p.link.arc) → cond b p.base.starts p.base.ends ≡ true → cond b q.base.starts q.base.ends ≡ true → p.base ≡ q.base
+      by : (b : Bool) → Among p.base (block m p.link.arc) → Among q.base (block m p.link.arc) → cond b p.base.starts p.base.ends ≡ true
+          → cond b q.base.starts q.base.ends ≡ true → p.base ≡ q.base
       by true m n e f = one_start _ _ _ _ p.base q.base m n e f
       by false m n e f = one_end _ _ _ 0 _ p.base q.base m n e f
 
@@ -161,14 +166,17 @@ module _ (m : BaseMap) (base : is_base m ≡ true) (k : ℕ) (cs : List Chain) (
 
   -- two pieces that follow the same one in a link are one
   follow_once : (p q r : Piece) → p.link ≡ q.link → p.link ≡ r.link → Among q.base (block m q.link.arc) → Among r.base (block m r.link.arc)
-      → cond p.link.turned (follows q.base p.base) (follows p.base q.base) ≡ true → cond p.link.turned (follows r.base p.base) (follows p.base r.base) ≡ true → q ≡ r
+      → cond p.link.turned (follows q.base p.base) (follows p.base q.base) ≡ true
+      → cond p.link.turned (follows r.base p.base) (follows p.base r.base) ≡ true → q ≡ r
   follow_once p q r f g y z u v =
-      piece_same q r (sym f ∙ g) (by p.link.turned (subst (λ (d : Link). Among q.base (block m d.arc)) (sym f) y) (subst (λ (d : Link). Among r.base (block m d.arc)) (sym g) z) u v)
+      piece_same q r (sym f ∙ g)
+      (by p.link.turned (subst (λ (d : Link). Among q.base (block m d.arc)) (sym f) y) (subst (λ (d : Link). Among r.base (block m d.arc)) (sym g) z) u v)
     where
       number : (s u : LabelledSegment) → follows s u ≡ true → s.place + 1 ≡ u.place
       number s u f = eqb-true _ _ (and_parts (s.arc == u.arc) (s.place + 1 == u.place) f).1
 
-      by : (b : Bool) → Among q.base (block m p.link.arc) → Among r.base (block m p.link.arc) → cond b (follows q.base p.base) (follows p.base q.base) ≡ true
+      by : (b : Bool) → Among q.base (block m p.link.arc) → Among r.base (block m p.link.arc)
+          → cond b (follows q.base p.base) (follows p.base q.base) ≡ true
           → cond b (follows r.base p.base) (follows p.base r.base) ≡ true → q.base ≡ r.base
       by true y z u v = place_once _ _ _ 0 _ q.base r.base y z (omega (arith, number q.base p.base u, number r.base p.base v))
       by false y z u v = place_once _ _ _ 0 _ q.base r.base y z (omega (arith, number p.base q.base u, number p.base r.base v))

@@ -28,7 +28,8 @@ IsMirror g b s =
     ((s.segment ≡ b.segment) × (s.left ≡ g b.left) × (s.right ≡ g b.right))
     ⊎ ((s.segment ≡ flip b.segment) × (s.left ≡ g b.right) × (s.right ≡ g b.left))
 
-module _ (m : BaseMap) (base : is_base m ≡ true) (nodes : (v : Point) → node_fault (base_segments m) v ≡ None) (k : ℕ) (cs : List Chain) (t : are_chains (merged m) k cs ≡ true) where
+module _ (m : BaseMap) (base : is_base m ≡ true) (nodes : (v : Point) → node_fault (base_segments m) v ≡ None) (k : ℕ) (cs : List Chain)
+    (t : are_chains (merged m) k cs ≡ true) where
   -- a segment of the slice is the segment of its piece, with the labels, turned round where the link is
   pub shown_labels : (n : ℕ) (s : LabelledSegment) → (x : IsShownAt m base k cs t n s)
       → (s.left ≡ label_at (merged m) k (cond x.p.link.turned x.p.base.right x.p.base.left)) × (s.right ≡ label_at (merged m) k (cond x.p.link.turned x.p.base.left x.p.base.right))
@@ -45,7 +46,8 @@ module _ (m : BaseMap) (base : is_base m ≡ true) (nodes : (v : Point) → node
   pub shown_mirror : (n : ℕ) (s : LabelledSegment) → (x : IsShownAt m base k cs t n s) → IsMirror (label_at (merged m) k) x.p.base s
   shown_mirror n s x = let labels = shown_labels n s x in by x.p.link.turned x.at.shows.segment labels.0 labels.1
     where
-      by : (b : Bool) → s.segment ≡ cond b (flip x.p.base.segment) x.p.base.segment → s.left ≡ label_at (merged m) k (cond b x.p.base.right x.p.base.left)
+      by : (b : Bool) → s.segment ≡ cond b (flip x.p.base.segment) x.p.base.segment
+          → s.left ≡ label_at (merged m) k (cond b x.p.base.right x.p.base.left)
           → s.right ≡ label_at (merged m) k (cond b x.p.base.left x.p.base.right) → IsMirror (label_at (merged m) k) x.p.base s
       by true g l r = inr (g, l, r)
       by false g l r = inl (g, l, r)
@@ -54,7 +56,8 @@ module _ (m : BaseMap) (base : is_base m ≡ true) (nodes : (v : Point) → node
   pub piece_among : {i n : ℕ} {c : Chain} {p : Piece} → StandsAt m base k cs t i n c p → Among p.base (base_segments m)
   piece_among {p = p} s =
       let border = (known_of m base k cs t s).border p.link (link_of m base k cs t s) in
-      block_among (arc_number m.arcs) 0 m.arcs (numbers_lead_all m.arcs) p.link.arc (omega arith) (omega (arith, border.within)) p.base (base_of m base k cs t s)
+      block_among (arc_number m.arcs) 0 m.arcs (numbers_lead_all m.arcs) p.link.arc (omega arith) (omega (arith, border.within)) p.base
+      (base_of m base k cs t s)
 
   -- the faces of an edge differ
   pub faces_differ : (n : ℕ) (s : LabelledSegment) → IsShownAt m base k cs t n s → s.left ≢ s.right
@@ -66,7 +69,8 @@ module _ (m : BaseMap) (base : is_base m ≡ true) (nodes : (v : Point) → node
       ∙ sym (members_all (λ d. right_of (merged m) k d ≡ (edge_of (merged m) k [] x.c).right) x.c x.p.link keeps.right link))
 
   -- so the labels of the segment that it shows do
-  pub labels_differ : (n : ℕ) (s : LabelledSegment) → (x : IsShownAt m base k cs t n s) → label_at (merged m) k x.p.base.left ≢ label_at (merged m) k x.p.base.right
+  pub labels_differ : (n : ℕ) (s : LabelledSegment) → (x : IsShownAt m base k cs t n s)
+      → label_at (merged m) k x.p.base.left ≢ label_at (merged m) k x.p.base.right
   labels_differ n s x e = elim (shown_mirror n s x) [
     | inl (g, l, r) ↦ faces_differ n s x (l ∙ e ∙ sym r)
     | inr (g, l, r) ↦ faces_differ n s x (l ∙ sym e ∙ sym r)

@@ -32,7 +32,8 @@ among_number (b ∷ arcs) a (inr m) = let n = among_number arcs a m in (suc n.0,
 -- ---- chains
 
 -- each border arc stands in a chain
-pub border_in_chain : (h : MergedMap) (k : ℕ) (cs : List Chain) → are_chains h k cs ≡ true → (i : ℕ) → i < length h.base.arcs → is_border h k (arc_number h.base.arcs i) ≡ true
+pub border_in_chain : (h : MergedMap) (k : ℕ) (cs : List Chain) → are_chains h k cs ≡ true → (i : ℕ) → i < length h.base.arcs
+    → is_border h k (arc_number h.base.arcs i) ≡ true
     → (c : Chain) × Among c cs × (d : Link) × Among d c × (d.arc ≡ i)
 border_in_chain h k cs t i l b =
     let listed = among_kept (λ j. is_border h k (arc_number h.base.arcs j)) (range_with_len 0 (length h.base.arcs)) i (range_holds 0 (length h.base.arcs) i (omega arith) (omega arith)) b in

@@ -47,7 +47,8 @@ abbrev pub all_segments : BaseMap → ℕ → List Chain → List LabelledSegmen
 all_segments m k cs = edge_segments (edges_of (merged m) k [] cs)
 
 -- the links of a whole chain have points, and each ends where the next one starts
-pub chain_has_points : (m : BaseMap) → is_base m ≡ true → (k : ℕ) (d : Link) (chain : List Link) → IsWholeChain (merged m) k d chain → HasPoints m.arcs (d ∷ chain)
+pub chain_has_points : (m : BaseMap) → is_base m ≡ true → (k : ℕ) (d : Link) (chain : List Link) → IsWholeChain (merged m) k d chain
+    → HasPoints m.arcs (d ∷ chain)
 chain_has_points m base k d chain w e n =
     has_point (arc_number m.arcs e.arc).points (arc_has_segment m base e.arc (w.border e n).within)
 
@@ -60,11 +61,13 @@ module _ (w : Seg → ℕ → ℕ → ℕ) (mirrored : (s : Seg) (l r : ℕ) →
   weight s = w s.segment s.left s.right
 
   -- what a row of points counts
-  row_sum : (i l r place : ℕ) (points : List Point) → sum_by (λ s. w s.segment s.left s.right) (path_segments i l r place points) ≡ sum_by (λ g. w g l r) (path points)
+  row_sum : (i l r place : ℕ) (points : List Point)
+      → sum_by (λ s. w s.segment s.left s.right) (path_segments i l r place points) ≡ sum_by (λ g. w g l r) (path points)
   row_sum i l r place [] = refl
   row_sum i l r place (a ∷ []) = refl
   row_sum i l r place (a ∷ b ∷ points) =
-      sum_by-cons (λ s. w s.segment s.left s.right) (row_of i l r place (record { a = a; b = b }) (is_empty points)) (path_segments i l r (place + 1) (b ∷ points))
+      sum_by-cons (λ s. w s.segment s.left s.right) (row_of i l r place (record { a = a; b = b }) (is_empty points))
+      (path_segments i l r (place + 1) (b ∷ points))
       ∙ ap (λ n. w (record { a = a; b = b }) l r + n) (row_sum i l r (place + 1) (b ∷ points))
       ∙ sym (sum_by-cons (λ g. w g l r) (record { a = a; b = b }) (path (b ∷ points)))
 
@@ -72,7 +75,8 @@ module _ (w : Seg → ℕ → ℕ → ℕ) (mirrored : (s : Seg) (l r : ℕ) →
   turned_sum : (l r : ℕ) (points : List Point) → sum_by (λ g. w g r l) (path (reverse points)) ≡ sum_by (λ g. w g l r) (path points)
   turned_sum l r points =
       ap (sum_by (λ g. w g r l)) (path_reversed points)
-      ∙ sum_by-IsPermutation (λ g. w g r l) (map flip (path points)) (reverse (map flip (path points))) (IsPermutation-reverse (map flip (path points)))
+      ∙ sum_by-IsPermutation (λ g. w g r l) (map flip (path points)) (reverse (map flip (path points)))
+      (IsPermutation-reverse (map flip (path points)))
       ∙ sum_by-map (λ g. w g r l) flip (path points)
       ∙ sum_by-agree (λ g. w (flip g) r l) (λ g. w g l r) (path points) (λ i d n. mirrored _ l r)
 
@@ -81,34 +85,41 @@ module _ (w : Seg → ℕ → ℕ → ℕ) (mirrored : (s : Seg) (l r : ℕ) →
   arc_sum g a = sum_by (λ s. w s (g a.left) (g a.right)) (path a.points)
 
   -- a link counts what its arc counts
-  link_sum : (h : MergedMap) (k : ℕ) (d : Link) → sum_by (λ g. w g (left_of h k d) (right_of h k d)) (path (link_points h.base.arcs d)) ≡ arc_sum (label_at h k) (arc_number h.base.arcs d.arc)
+  link_sum : (h : MergedMap) (k : ℕ) (d : Link)
+      → sum_by (λ g. w g (left_of h k d) (right_of h k d)) (path (link_points h.base.arcs d)) ≡ arc_sum (label_at h k) (arc_number h.base.arcs d.arc)
   link_sum h k d = by d.turned
     where
       a : BaseArc
       a = arc_number h.base.arcs d.arc
 
-      by : (t : Bool) → sum_by (λ g. w g (label_at h k (cond t (arc_number h.base.arcs d.arc).right (arc_number h.base.arcs d.arc).left)) (label_at h k (cond t (arc_number h.base.arcs d.arc).left (arc_number h.base.arcs d.arc).right)))
-          (path (cond t (reverse (arc_number h.base.arcs d.arc).points) (arc_number h.base.arcs d.arc).points)) ≡ arc_sum (label_at h k) (arc_number h.base.arcs d.arc)
+      by : (t : Bool)
+          → sum_by (λ g. w g (label_at h k (cond t (arc_number h.base.arcs d.arc).right (arc_number h.base.arcs d.arc).left)) (label_at h k (cond t (arc_number h.base.arcs d.arc).left (arc_number h.base.arcs d.arc).right)))
+          (path (cond t (reverse (arc_number h.base.arcs d.arc).points) (arc_number h.base.arcs d.arc).points)) ≡ arc_sum (label_at h k)
+          (arc_number h.base.arcs d.arc)
       by true = turned_sum (label_at h k (arc_number h.base.arcs d.arc).left) (label_at h k (arc_number h.base.arcs d.arc).right) (arc_number h.base.arcs d.arc).points
       by false = refl
 
   -- the segments of a base map with other labels count what its arcs count
-  base_sum : (g : ℕ → ℕ) (i : ℕ) (arcs : List BaseArc) → sum_by (λ s. w s.segment (g s.left) (g s.right)) (arc_segments i arcs) ≡ sum_by (arc_sum g) arcs
+  base_sum : (g : ℕ → ℕ) (i : ℕ) (arcs : List BaseArc)
+      → sum_by (λ s. w s.segment (g s.left) (g s.right)) (arc_segments i arcs) ≡ sum_by (arc_sum g) arcs
   base_sum g i [] = refl
   base_sum g i (a ∷ arcs) =
       sum_by-append (λ s. w s.segment (g s.left) (g s.right)) (path_segments i a.left a.right 0 a.points) (arc_segments (i + 1) arcs)
       ∙ ap₂ (λ x y. x + y) (relabelled_row i a.left a.right 0 a.points) (base_sum g (i + 1) arcs) ∙ sym (sum_by-cons (arc_sum g) a arcs)
     where
-      relabelled_row : (i l r place : ℕ) (points : List Point) → sum_by (λ s. w s.segment (g s.left) (g s.right)) (path_segments i l r place points) ≡ sum_by (λ s. w s (g l) (g r)) (path points)
+      relabelled_row : (i l r place : ℕ) (points : List Point)
+          → sum_by (λ s. w s.segment (g s.left) (g s.right)) (path_segments i l r place points) ≡ sum_by (λ s. w s (g l) (g r)) (path points)
       relabelled_row i l r place [] = refl
       relabelled_row i l r place (a ∷ []) = refl
       relabelled_row i l r place (a ∷ b ∷ points) =
-          sum_by-cons (λ s. w s.segment (g s.left) (g s.right)) (row_of i l r place (record { a = a; b = b }) (is_empty points)) (path_segments i l r (place + 1) (b ∷ points))
+          sum_by-cons (λ s. w s.segment (g s.left) (g s.right)) (row_of i l r place (record { a = a; b = b }) (is_empty points))
+          (path_segments i l r (place + 1) (b ∷ points))
           ∙ ap (λ n. w (record { a = a; b = b }) (g l) (g r) + n) (relabelled_row i l r (place + 1) (b ∷ points))
           ∙ sym (sum_by-cons (λ s. w s (g l) (g r)) (record { a = a; b = b }) (path (b ∷ points)))
 
   -- an arc that is no border counts nothing, where equal faces count nothing
-  border_sum : ((s : Seg) (l : ℕ) → w s l l ≡ 0) → (h : MergedMap) (k : ℕ) (a : BaseArc) → cond (is_border h k a) (arc_sum (label_at h k) a) 0 ≡ arc_sum (label_at h k) a
+  border_sum : ((s : Seg) (l : ℕ) → w s l l ≡ 0) → (h : MergedMap) (k : ℕ) (a : BaseArc)
+      → cond (is_border h k a) (arc_sum (label_at h k) a) 0 ≡ arc_sum (label_at h k) a
   border_sum none h k a = by (is_border h k a) refl
     where
       zero_row : (l r : ℕ) → l ≡ r → (ss : List Seg) → sum_by (λ s. w s l r) ss ≡ 0
@@ -130,17 +141,21 @@ module _ (w : Seg → ℕ → ℕ → ℕ) (mirrored : (s : Seg) (l r : ℕ) →
         let keeps = chains_faces m base nodes k cs t [] c n in
         let whole = chains_whole (merged m) k cs t c n in
         let segments : path e.points ≡ flat_map (λ d. path (link_points m.arcs d)) c
-        = ap path (without_none (chain_points m.arcs c)) ∙ subst (λ c. path (chain_points m.arcs c) ≡ flat_map (λ d. path (link_points m.arcs d)) c) (sym whole.2)
+        = ap path (without_none (chain_points m.arcs c))
+        ∙ subst (λ c. path (chain_points m.arcs c) ≡ flat_map (λ d. path (link_points m.arcs d)) c) (sym whole.2)
         (chain_path m.arcs whole.0 whole.1 (chain_meets m k whole.0 whole.1 whole.3) (chain_has_points m base k whole.0 whole.1 whole.3)) in
         row_sum e.key e.left e.right 0 e.points ∙ ap (sum_by (λ g. w g e.left e.right)) segments
         ∙ sum_by-flat_map (λ g. w g e.left e.right) (λ d. path (link_points m.arcs d)) c
         ∙ sum_by-agree _ (λ d. arc_sum (label_at (merged m) k) (arc_number m.arcs d.arc)) c (all_members _ c (λ d o.
-        ap₂ (λ l r. sum_by (λ g. w g l r) (path (link_points m.arcs d))) (sym (members_all (λ d. left_of (merged m) k d ≡ e.left) c d keeps.left o)) (sym (members_all (λ d. right_of (merged m) k d ≡ e.right) c d keeps.right o))
+        ap₂ (λ l r. sum_by (λ g. w g l r) (path (link_points m.arcs d)))
+        (sym (members_all (λ d. left_of (merged m) k d ≡ e.left) c d keeps.left o))
+        (sym (members_all (λ d. right_of (merged m) k d ≡ e.right) c d keeps.right o))
         ∙ link_sum (merged m) k d))
 
     -- so do all segments of the slice and all border arcs
     pub slice_sum : ((s : Seg) (l : ℕ) → w s l l ≡ 0)
-        → sum_by (λ s. w s.segment s.left s.right) (all_segments m k cs) ≡ sum_by (λ s. w s.segment (label_at (merged m) k s.left) (label_at (merged m) k s.right)) (base_segments m)
+        → sum_by (λ s. w s.segment s.left s.right) (all_segments m k cs)
+        ≡ sum_by (λ s. w s.segment (label_at (merged m) k s.left) (label_at (merged m) k s.right)) (base_segments m)
     slice_sum none =
         sum_by-flat_map (λ s. w s.segment s.left s.right) (λ e. path_segments e.key e.left e.right 0 e.points) (edges_of (merged m) k [] cs)
         ∙ sum_by-map (λ e. sum_by (λ s. w s.segment s.left s.right) (path_segments e.key e.left e.right 0 e.points)) (edge_of (merged m) k []) cs

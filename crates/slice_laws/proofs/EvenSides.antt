@@ -69,7 +69,8 @@ borders_at m k v = filter (λ (d : Link). is_border (merged m) k (arc_number m.a
 
 module _ (m : BaseMap) (base : is_base m ≡ true) (nodes : (v : Point) → node_fault (base_segments m) v ≡ None) (k : ℕ) where
   -- as many links at a node have a face at the left as have it at the right
-  links_count : (v : Point) (f : ℕ) → count_by (λ d. left_of (merged m) k d == f) (links_at v 0 m.arcs) ≡ count_by (λ d. right_of (merged m) k d == f) (links_at v 0 m.arcs)
+  links_count : (v : Point) (f : ℕ)
+      → count_by (λ d. left_of (merged m) k d == f) (links_at v 0 m.arcs) ≡ count_by (λ d. right_of (merged m) k d == f) (links_at v 0 m.arcs)
   links_count v f =
       let spoke : Link → Spoke = λ (d : Link). arc_spoke (arc_number m.arcs d.arc) d.turned in
       let spokes : flat_map (spokes_of v) (base_segments m) ≡ map spoke (links_at v 0 m.arcs) = arc_spokes v (arc_number m.arcs) 0 m.arcs (numbers_lead_all m.arcs) (arcs_have_segments m base) in
@@ -80,11 +81,13 @@ module _ (m : BaseMap) (base : is_base m ≡ true) (nodes : (v : Point) → node
       ∙ ap (count_by r) spokes ∙ sum_by-map (λ s. cond (r s) 1 0) spoke (links_at v 0 m.arcs)
 
   -- and among those of border arcs
-  borders_count : (v : Point) (f : ℕ) → count_by (λ d. left_of (merged m) k d == f) (borders_at m k v) ≡ count_by (λ d. right_of (merged m) k d == f) (borders_at m k v)
+  borders_count : (v : Point) (f : ℕ)
+      → count_by (λ d. left_of (merged m) k d == f) (borders_at m k v) ≡ count_by (λ d. right_of (merged m) k d == f) (borders_at m k v)
   borders_count v f = omega (
     arith,
     links_count v f,
-    kept_counts (λ d. left_of (merged m) k d == f) (λ d. right_of (merged m) k d == f) (λ (d : Link). is_border (merged m) k (arc_number m.arcs d.arc))
+    kept_counts (λ d. left_of (merged m) k d == f) (λ d. right_of (merged m) k d == f)
+        (λ (d : Link). is_border (merged m) k (arc_number m.arcs d.arc))
         (λ d e. ap (λ (x : ℕ). x == f) (inside_faces (merged m) k d e)) (links_at v 0 m.arcs),
   )
 
@@ -95,11 +98,14 @@ module _ (m : BaseMap) (base : is_base m ≡ true) (nodes : (v : Point) → node
       (link_listed v (arc_number m.arcs) 0 m.arcs (numbers_lead_all m.arcs) d (omega arith) (omega (arith, b.within)) s) b.border
 
   -- two of them that alone are there
-  two_borders : (v : Point) (x y : Link) → degree (merged m) k v ≡ 2 → IsBorderLink (merged m) k x → IsBorderLink (merged m) k y → link_start m.arcs x ≡ v → link_start m.arcs y ≡ v → x ≢ y
+  two_borders : (v : Point) (x y : Link) → degree (merged m) k v ≡ 2 → IsBorderLink (merged m) k x → IsBorderLink (merged m) k y
+      → link_start m.arcs x ≡ v → link_start m.arcs y ≡ v → x ≢ y
       → (left_of (merged m) k x ≡ right_of (merged m) k y) × (left_of (merged m) k y ≡ right_of (merged m) k x)
   two_borders v x y two bx by sx sy apart =
-      two_opposed (left_of (merged m) k) (right_of (merged m) k) x y (border_faces (merged m) k x bx.border) (border_faces (merged m) k y by.border) (λ f.
-      ⊎_elim (λ e. subst (λ ds. count_by (λ d. left_of (merged m) k d == f) ds ≡ count_by (λ d. right_of (merged m) k d == f) ds) e (borders_count v f))
+      two_opposed (left_of (merged m) k) (right_of (merged m) k) x y (border_faces (merged m) k x bx.border)
+      (border_faces (merged m) k y by.border) (λ f.
+      ⊎_elim
+      (λ e. subst (λ ds. count_by (λ d. left_of (merged m) k d == f) ds ≡ count_by (λ d. right_of (merged m) k d == f) ds) e (borders_count v f))
       (λ e. exchanged f (subst (λ ds. count_by (λ d. left_of (merged m) k d == f) ds ≡ count_by (λ d. right_of (merged m) k d == f) ds) e (borders_count v f)))
       (two_members (borders_at m k v) x y (sym number ∙ two) (border_listed v x bx sx) (border_listed v y by sy) apart))
     where
@@ -114,7 +120,8 @@ module _ (m : BaseMap) (base : is_base m ≡ true) (nodes : (v : Point) → node
           turned_count p = omega (arith, count_by-cons p x (y ∷ []), count_by-cons p y [], count_by-cons p y (x ∷ []), count_by-cons p x [])
 
   -- from a link to its way on the faces stay
-  pub way_on_faces : (d e : Link) → IsWayOn (merged m) k d e → (left_of (merged m) k d ≡ left_of (merged m) k e) × (right_of (merged m) k d ≡ right_of (merged m) k e)
+  pub way_on_faces : (d e : Link) → IsWayOn (merged m) k d e
+      → (left_of (merged m) k d ≡ left_of (merged m) k e) × (right_of (merged m) k d ≡ right_of (merged m) k e)
   way_on_faces d e w =
       let both = two_borders (link_end m.arcs d) (turn d) e w.two (turn_border w.from) w.to (turn_start m.arcs d) (sym w.meets) w.apart in
       (sym (both.1 ∙ turn_right (merged m) k d), sym (turn_left (merged m) k d) ∙ both.0)
@@ -123,7 +130,8 @@ module _ (m : BaseMap) (base : is_base m ≡ true) (nodes : (v : Point) → node
 
 module _ (m : BaseMap) (base : is_base m ≡ true) (nodes : (v : Point) → node_fault (base_segments m) v ≡ None) (k : ℕ) where
   -- the links of a whole chain have the faces of its least arc, which has the direction of the chain
-  pub chain_faces : (d : Link) (chain : Chain) → IsWholeChain (merged m) k d chain → (removals : List Removal) → KeepsFaces (merged m) k removals (d ∷ chain)
+  pub chain_faces : (d : Link) (chain : Chain) → IsWholeChain (merged m) k d chain → (removals : List Removal)
+      → KeepsFaces (merged m) k removals (d ∷ chain)
   chain_faces d chain w removals =
       let first = key_among d chain in
       let ahead : first.0.turned ≡ false = w.directed first.0 first.1 first.2 in
@@ -142,11 +150,14 @@ module _ (m : BaseMap) (base : is_base m ≡ true) (nodes : (v : Point) → node
       of_least : (h : MergedMap) (e : Link) (i : ℕ) → e.turned ≡ false → e.arc ≡ i
           → (left_of h k e ≡ label_at h k (arc_number h.base.arcs i).left) × (right_of h k e ≡ label_at h k (arc_number h.base.arcs i).right)
       of_least h e i t s = (
-        ap (λ (b : Bool). label_at h k (cond b (arc_number h.base.arcs e.arc).right (arc_number h.base.arcs e.arc).left)) t ∙ ap (λ (j : ℕ). label_at h k (arc_number h.base.arcs j).left) s,
-        ap (λ (b : Bool). label_at h k (cond b (arc_number h.base.arcs e.arc).left (arc_number h.base.arcs e.arc).right)) t ∙ ap (λ (j : ℕ). label_at h k (arc_number h.base.arcs j).right) s,
+        ap (λ (b : Bool). label_at h k (cond b (arc_number h.base.arcs e.arc).right (arc_number h.base.arcs e.arc).left)) t
+            ∙ ap (λ (j : ℕ). label_at h k (arc_number h.base.arcs j).left) s,
+        ap (λ (b : Bool). label_at h k (cond b (arc_number h.base.arcs e.arc).left (arc_number h.base.arcs e.arc).right)) t
+            ∙ ap (λ (j : ℕ). label_at h k (arc_number h.base.arcs j).right) s,
       )
 
-  pub chains_faces : (cs : List Chain) → are_chains (merged m) k cs ≡ true → (removals : List Removal) → (c : Chain) → Among c cs → KeepsFaces (merged m) k removals c
+  pub chains_faces : (cs : List Chain) → are_chains (merged m) k cs ≡ true → (removals : List Removal) → (c : Chain) → Among c cs
+      → KeepsFaces (merged m) k removals c
   chains_faces cs t removals c n =
       let w = chains_whole (merged m) k cs t c n in
       subst (KeepsFaces (merged m) k removals) (sym w.2) (chain_faces w.0 w.1 w.3 removals)

@@ -28,7 +28,9 @@ pub on_flip : (p : Fraction) (s : Seg) → is_on p s ≡ true → is_on p (flip 
 on_flip p s h =
     let parts = and_parts _ (lies_between s.a.y s.b.y p.ny p.d) h in
     let front = and_parts (int_eq (cross_at s.a s.b p) (pos 0)) (lies_between s.a.x s.b.x p.nx p.d) parts.0 in
-    and_from _ _ (and_from _ _ ((Decides-int_eq _ _).1 (line ∙ ap neg_ℤ ((Decides-int_eq (cross_at s.a s.b p) (pos 0)).0 front.0))) (turned s.a.x s.b.x p.nx front.1)) (turned s.a.y s.b.y p.ny parts.1)
+    and_from _ _
+    (and_from _ _ ((Decides-int_eq _ _).1 (line ∙ ap neg_ℤ ((Decides-int_eq (cross_at s.a s.b p) (pos 0)).0 front.0))) (turned s.a.x s.b.x p.nx front.1))
+    (turned s.a.y s.b.y p.ny parts.1)
   where
     line : cross_at s.b s.a p ≡ neg_ℤ (cross_at s.a s.b p)
     line = same_value (s.b.x ∷ s.b.y ∷ s.a.x ∷ s.a.y ∷ p.nx ∷ p.ny ∷ p.d ∷ [])
@@ -58,7 +60,8 @@ may_meet_turned s t v (inr (inl e)) = inr (inr e)
 may_meet_turned s t v (inr (inr e)) = inr (inl e)
 
 -- a permitted point is one at which they may meet
-pub permitted_meets : (s t : LabelledSegment) (p : Fraction) → is_permitted (shared_ends s t) s.segment t.segment p ≡ true → (v : Point) × (is_at p v ≡ true) × MayMeet s t v
+pub permitted_meets : (s t : LabelledSegment) (p : Fraction) → is_permitted (shared_ends s t) s.segment t.segment p ≡ true
+    → (v : Point) × (is_at p v ≡ true) × MayMeet s t v
 permitted_meets s t p h = elim (or_cases ((aa || ab) && is_at p s.segment.a) ((ba || bb) && is_at p s.segment.b) h) [
   | inl e ↦ (let both = and_parts (aa || ab) (is_at p s.segment.a) e in (s.segment.a, both.1, at_first (or_cases aa ab both.0)))
   | inr e ↦ (let both = and_parts (ba || bb) (is_at p s.segment.b) e in (s.segment.b, both.1, at_second (or_cases ba bb both.0)))
@@ -103,7 +106,8 @@ permitted_meets s t p h = elim (or_cases ((aa || ab) && is_at p s.segment.a) ((b
         inl (inr (y.1, refl), inr (x.1, sym (same_point-true _ _ y.0)))
 
 -- and a point at which they may meet is permitted
-pub meets_permitted : (s t : LabelledSegment) (p : Fraction) (v : Point) → is_at p v ≡ true → MayMeet s t v → is_permitted (shared_ends s t) s.segment t.segment p ≡ true
+pub meets_permitted : (s t : LabelledSegment) (p : Fraction) (v : Point) → is_at p v ≡ true → MayMeet s t v
+    → is_permitted (shared_ends s t) s.segment t.segment p ≡ true
 meets_permitted s t p v at m = by m
   where
     here : (w : Point) → w ≡ v → is_at p w ≡ true
@@ -129,7 +133,8 @@ meets_permitted s t p v at m = by m
 -- ---- apart
 
 -- common points of two segments that are apart are points at which they may meet
-apart_meets : (s t : LabelledSegment) → AreApart s t → (p : Fraction) → pos 0 <ℤ p.d → is_on p s.segment ≡ true → is_on p t.segment ≡ true → (v : Point) × (is_at p v ≡ true) × MayMeet s t v
+apart_meets : (s t : LabelledSegment) → AreApart s t → (p : Fraction) → pos 0 <ℤ p.d → is_on p s.segment ≡ true → is_on p t.segment ≡ true
+    → (v : Point) × (is_at p v ≡ true) × MayMeet s t v
 apart_meets s t apart p d h k = permitted_meets s t p (by (is_permitted (shared_ends s t) s.segment t.segment p) refl)
   where
     by : (b : Bool) → is_permitted (shared_ends s t) s.segment t.segment p ≡ b → b ≡ true
@@ -137,13 +142,16 @@ apart_meets s t apart p d h k = permitted_meets s t p (by (is_permitted (shared_
     by false e = absurd (apart p (record { rational = d; first = h; second = k; forbidden = e }))
 
 -- and the other way round
-pub apart_from_meets : (s t : LabelledSegment) → ((p : Fraction) → pos 0 <ℤ p.d → is_on p s.segment ≡ true → is_on p t.segment ≡ true → (v : Point) × (is_at p v ≡ true) × MayMeet s t v) → AreApart s t
+pub apart_from_meets : (s t : LabelledSegment)
+    → ((p : Fraction) → pos 0 <ℤ p.d → is_on p s.segment ≡ true → is_on p t.segment ≡ true → (v : Point) × (is_at p v ≡ true) × MayMeet s t v)
+    → AreApart s t
 apart_from_meets s t h p c =
     let m = h p c.rational c.first c.second in
     true≢false (sym (meets_permitted s t p m.0 m.1 m.2) ∙ c.forbidden)
 
 -- two different members of a list whose segments are apart
-pub members_meet : (segments : List LabelledSegment) → AllPairs AreApart segments → (s t : LabelledSegment) (i j : ℕ) → At segments i s → At segments j t → i ≢ j
+pub members_meet : (segments : List LabelledSegment) → AllPairs AreApart segments → (s t : LabelledSegment) (i j : ℕ) → At segments i s
+    → At segments j t → i ≢ j
     → (p : Fraction) → pos 0 <ℤ p.d → is_on p s.segment ≡ true → is_on p t.segment ≡ true → (v : Point) × (is_at p v ≡ true) × MayMeet s t v
 members_meet segments apart s t i j a b other p d h k = elim (cases_order i j) [
   | inl e ↦ absurd (other e)

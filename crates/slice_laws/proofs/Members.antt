@@ -18,12 +18,14 @@ module _ {A : Type 0} where
   two_members (u ∷ v ∷ []) x y l m (inr (inr e)) d = absurd e
 
   -- Two tests that agree where a third one fails: as many members pass each of them among those that pass the third as among all.
-  pub kept_counts : (p q b : A → Bool) → ((x : A) → b x ≡ false → p x ≡ q x) → (xs : List A) → count_by p (filter b xs) + count_by q xs ≡ count_by q (filter b xs) + count_by p xs
+  pub kept_counts : (p q b : A → Bool) → ((x : A) → b x ≡ false → p x ≡ q x) → (xs : List A)
+      → count_by p (filter b xs) + count_by q xs ≡ count_by q (filter b xs) + count_by p xs
   kept_counts p q b same [] = refl
   kept_counts p q b same (x ∷ xs) = by (b x) refl (kept_counts p q b same xs)
     where
       by : (t : Bool) → b x ≡ t → count_by p (filter b xs) + count_by q xs ≡ count_by q (filter b xs) + count_by p xs
-          → count_by p (cond t (x ∷ filter b xs) (filter b xs)) + count_by q (x ∷ xs) ≡ count_by q (cond t (x ∷ filter b xs) (filter b xs)) + count_by p (x ∷ xs)
+          → count_by p (cond t (x ∷ filter b xs) (filter b xs)) + count_by q (x ∷ xs)
+          ≡ count_by q (cond t (x ∷ filter b xs) (filter b xs)) + count_by p (x ∷ xs)
       by true e h = omega (arith, count_by-cons p x (filter b xs), count_by-cons q x (filter b xs), count_by-cons p x xs, count_by-cons q x xs, h)
       by false e h =
           let s : cond {A = ℕ} (p x) 1 0 ≡ cond (q x) 1 0 = ap (λ (t : Bool). cond {A = ℕ} t 1 0) (same x e) in

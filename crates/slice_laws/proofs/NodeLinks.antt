@@ -81,8 +81,10 @@ AreNumbers number i [] = Unit {0}
 AreNumbers number i (a ∷ arcs) = (number i ≡ a) × AreNumbers number (i + 1) arcs
 
 -- the spokes of an arc are its links
-one_arc_spokes : (v : Point) (number : ℕ → BaseArc) (i l r : ℕ) (points : List Point) → number i ≡ record { left = l; right = r; points = points } → nat_le 2 (length points) ≡ true
-    → flat_map (spokes_of v) (path_segments i l r 0 points) ≡ map (λ (d : Link). arc_spoke (number d.arc) d.turned) (links_of v i (record { left = l; right = r; points = points }))
+one_arc_spokes : (v : Point) (number : ℕ → BaseArc) (i l r : ℕ) (points : List Point) → number i ≡ record { left = l; right = r; points = points }
+    → nat_le 2 (length points) ≡ true
+    → flat_map (spokes_of v) (path_segments i l r 0 points)
+    ≡ map (λ (d : Link). arc_spoke (number d.arc) d.turned) (links_of v i (record { left = l; right = r; points = points }))
 one_arc_spokes v number i l r [] e h = absurd cc
 one_arc_spokes v number i l r (a ∷ []) e h = absurd cc
 one_arc_spokes v number i l r (a ∷ b ∷ points) e h =
@@ -94,7 +96,8 @@ one_arc_spokes v number i l r (a ∷ b ∷ points) e h =
     last : record { toward = next_to_last (a ∷ b ∷ points); left = r; right = l } ≡ arc_spoke (number i) true
     last = sym (ap (λ (x : BaseArc). arc_spoke x true) e)
 
-    by : (s t : Bool) → (if s then record { toward = b; left = l; right = r } ∷ [] else []) ++ (if t then record { toward = next_to_last (a ∷ b ∷ points); left = r; right = l } ∷ [] else [])
+    by : (s t : Bool)
+        → (if s then record { toward = b; left = l; right = r } ∷ [] else []) ++ (if t then record { toward = next_to_last (a ∷ b ∷ points); left = r; right = l } ∷ [] else [])
         ≡ map (λ (d : Link). arc_spoke (number d.arc) d.turned) ((if s then ahead i ∷ [] else []) ++ (if t then back i ∷ [] else []))
     by true true = ap₂ (λ x y. x ∷ y ∷ []) first last
     by true false = ap (λ x. x ∷ []) first
@@ -106,7 +109,8 @@ pub arc_spokes : (v : Point) (number : ℕ → BaseArc) (i : ℕ) (arcs : List B
 arc_spokes v number i [] at h = refl
 arc_spokes v number i (a ∷ arcs) at h =
     flat_map-append (spokes_of v) (path_segments i a.left a.right 0 a.points) (arc_segments (i + 1) arcs)
-    ∙ ap₂ (λ xs ys. xs ++ ys) (one_arc_spokes v number i a.left a.right a.points at.0 (and_parts _ _ h).0) (arc_spokes v number (i + 1) arcs at.1 (and_parts _ _ h).1)
+    ∙ ap₂ (λ xs ys. xs ++ ys) (one_arc_spokes v number i a.left a.right a.points at.0 (and_parts _ _ h).0)
+    (arc_spokes v number (i + 1) arcs at.1 (and_parts _ _ h).1)
     ∙ sym (map-append (λ (d : Link). arc_spoke (number d.arc) d.turned) (links_of v i a) (links_at v (i + 1) arcs))
 
 -- ---- the degree
@@ -183,7 +187,8 @@ ends_are_links v p number i (a ∷ arcs) at =
     omega arith
 
 -- the arcs of a list by their numbers
-pub numbers_lead : (all arcs : List BaseArc) (i : ℕ) → ((j : ℕ) (d : BaseArc) → j < length arcs → arc_number all (i + j) ≡ get_or arcs j d) → AreNumbers (arc_number all) i arcs
+pub numbers_lead : (all arcs : List BaseArc) (i : ℕ) → ((j : ℕ) (d : BaseArc) → j < length arcs → arc_number all (i + j) ≡ get_or arcs j d)
+    → AreNumbers (arc_number all) i arcs
 numbers_lead all [] i h = tt
 numbers_lead all (a ∷ arcs) i h = (
   ap (arc_number all) (omega arith) ∙ h 0 a (omega arith),

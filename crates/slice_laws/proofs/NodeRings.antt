@@ -23,11 +23,13 @@ no_fault_last : (b : Bool) (fault : MapFault) → (if b then None else Some faul
 no_fault_last true fault e = refl
 no_fault_last false fault e = absurd cc
 
-no_fault_next : (b : Bool) (rest : Option MapFault) (fault : MapFault) → ◌≡◌ {A = Option MapFault} (elim b [ true ↦ rest | false ↦ Some fault ]) None → (b ≡ true) × (rest ≡ None)
+no_fault_next : (b : Bool) (rest : Option MapFault) (fault : MapFault) → ◌≡◌ {A = Option MapFault} (elim b [ true ↦ rest | false ↦ Some fault ]) None
+    → (b ≡ true) × (rest ≡ None)
 no_fault_next true rest fault e = (refl, e)
 no_fault_next false rest fault e = absurd cc
 
-pub ring_agrees : (v : Point) (first : Spoke) (i : ℕ) (p : Spoke) (spokes : List Spoke) → ring_fault v first i (p ∷ spokes) ≡ None → IsRing first.right p spokes
+pub ring_agrees : (v : Point) (first : Spoke) (i : ℕ) (p : Spoke) (spokes : List Spoke) → ring_fault v first i (p ∷ spokes) ≡ None
+    → IsRing first.right p spokes
 ring_agrees v first i p [] e = eqb-true _ _ (no_fault_last (p.left == first.right) _ e)
 ring_agrees v first i p (q ∷ spokes) e =
     let both = no_fault_next (p.left == q.right) (ring_fault v first (i + 1) (q ∷ spokes)) _ e in
@@ -49,7 +51,8 @@ module _ (g : ℕ → ℕ) (f : ℕ) where
   ring_counts : (r : ℕ) (p : Spoke) (spokes : List Spoke) → IsRing r p spokes
       → count_by (λ s. g s.left == f) (p ∷ spokes) + cond (g p.right == f) 1 0 ≡ count_by (λ s. g s.right == f) (p ∷ spokes) + cond (g r == f) 1 0
   ring_counts r p [] e =
-      omega (arith, count_by-cons (λ (s : Spoke). g s.left == f) p [], count_by-cons (λ (s : Spoke). g s.right == f) p [], same_test f (g p.left) (g r) (ap g e))
+      omega
+      (arith, count_by-cons (λ (s : Spoke). g s.left == f) p [], count_by-cons (λ (s : Spoke). g s.right == f) p [], same_test f (g p.left) (g r) (ap g e))
   ring_counts r p (q ∷ spokes) e = omega (
     arith,
     count_by-cons (λ (s : Spoke). g s.left == f) p (q ∷ spokes),
@@ -58,7 +61,8 @@ module _ (g : ℕ → ℕ) (f : ℕ) where
     same_test f (g p.left) (g q.right) (ap g e.0),
   )
 
-  sorted_counts : (v : Point) (spokes : List Spoke) → ◌≡◌ {A = Option MapFault} (elim spokes [ [] ↦ None | p ∷ rest ↦ ring_fault v p 0 (p ∷ rest) ]) None
+  sorted_counts : (v : Point) (spokes : List Spoke)
+      → ◌≡◌ {A = Option MapFault} (elim spokes [ [] ↦ None | p ∷ rest ↦ ring_fault v p 0 (p ∷ rest) ]) None
       → count_by (λ s. g s.left == f) spokes ≡ count_by (λ s. g s.right == f) spokes
   sorted_counts v [] e = refl
   sorted_counts v (p ∷ spokes) e = omega (arith, ring_counts p.right p spokes (ring_agrees v p 0 p spokes e))

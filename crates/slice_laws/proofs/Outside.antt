@@ -45,7 +45,8 @@ mergeable_faces (a ∷ arcs) = faces_append (if is_shared a then a.left ∷ a.ri
 neighbour_faces : (arcs : List LabelledArc) (f : ℕ) → AreFaces (neighbours_of arcs f)
 neighbour_faces [] f = tt
 neighbour_faces (a ∷ arcs) f =
-    faces_append (if is_shared a && (a.left == f) then a.right ∷ [] else (if is_shared a && (a.right == f) then a.left ∷ [] else [])) (neighbours_of arcs f)
+    faces_append (if is_shared a && (a.left == f) then a.right ∷ [] else (if is_shared a && (a.right == f) then a.left ∷ [] else []))
+    (neighbours_of arcs f)
     (by (is_shared a) refl (a.left == f) (a.right == f)) (neighbour_faces arcs f)
   where
     by : (b : Bool) → is_shared a ≡ b → (l r : Bool) → AreFaces (if b && l then a.right ∷ [] else (if b && r then a.left ∷ [] else []))
@@ -71,11 +72,13 @@ first_by_face before (g ∷ fs) f h e =
 
 -- ---- the steps
 
-against_faces : (rules : Rules) (classes : List ℕ) (arcs : List LabelledArc) (loser : ℕ) (s : MergeStep) → loser ≢ 0 → step_against rules classes arcs loser ≡ Some s → IsOfFaces s
+against_faces : (rules : Rules) (classes : List ℕ) (arcs : List LabelledArc) (loser : ℕ) (s : MergeStep) → loser ≢ 0
+    → step_against rules classes arcs loser ≡ Some s → IsOfFaces s
 against_faces rules classes arcs loser s n e = by (first_by (wins_before rules classes arcs loser) (neighbours_of arcs loser)) refl e
   where
     by : (o : Option ℕ) → first_by (wins_before rules classes arcs loser) (neighbours_of arcs loser) ≡ o
-        → ◌≡◌ {A = Option MergeStep} (elim o [ None ↦ None | Some winner ↦ Some (record { loser = loser; winner = winner; made = length classes + 1 }) ]) (Some s) → IsOfFaces s
+        → ◌≡◌ {A = Option MergeStep} (elim o [ None ↦ None | Some winner ↦ Some (record { loser = loser; winner = winner; made = length classes + 1 }) ]) (Some s)
+        → IsOfFaces s
     by None f g = absurd cc
     by (Some w) f g =
         let same : record { loser = loser; winner = w; made = length classes + 1 } ≡ s = cc in
@@ -95,7 +98,8 @@ steps_faces zero rules classes arcs = tt
 steps_faces (suc n) rules classes arcs =
     by (next_step rules classes arcs) refl (λ s. steps_faces n rules (classes_after s classes) (map (relabel_arc s) arcs))
   where
-    by : (o : Option MergeStep) → next_step rules classes arcs ≡ o → ((s : MergeStep) → AreOfFaces (steps_from n rules (classes_after s classes) (map (relabel_arc s) arcs)))
+    by : (o : Option MergeStep) → next_step rules classes arcs ≡ o
+        → ((s : MergeStep) → AreOfFaces (steps_from n rules (classes_after s classes) (map (relabel_arc s) arcs)))
         → AreOfFaces (elim o [ None ↦ [] | Some s ↦ s ∷ steps_from n rules (classes_after s classes) (map (relabel_arc s) arcs) ])
     by None e rest = tt
     by (Some s) e rest = (next_faces rules classes arcs s e, rest s)

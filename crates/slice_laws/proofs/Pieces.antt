@@ -97,7 +97,8 @@ module _ (m : BaseMap) (k : ℕ) where
       }
 
   -- the pieces of a chain
-  pub chain_pieces : (d : Link) (chain : Chain) → IsRow (IsWayOn (merged m) k) (d ∷ chain) → ((e : Link) → Among e (d ∷ chain) → nat_le 2 (length (arc_number m.arcs e.arc).points) ≡ true)
+  pub chain_pieces : (d : Link) (chain : Chain) → IsRow (IsWayOn (merged m) k) (d ∷ chain)
+      → ((e : Link) → Among e (d ∷ chain) → nat_le 2 (length (arc_number m.arcs e.arc).points) ≡ true)
       → ArePieces m k d (last_of d chain) (pieces m (d ∷ chain))
   chain_pieces d [] r h = subst (ArePieces m k d d) (sym (append-nil (pieces_of m d))) (link_pieces d (h d (inl refl)))
   chain_pieces d (e ∷ chain) r h =
@@ -119,7 +120,8 @@ module _ (m : BaseMap) (k : ℕ) where
       let link : l.0 ≡ p.link = ap (λ (q : Piece). q.link) s.2 in
       let base : s.0 ≡ p.base = ap (λ (q : Piece). q.base) s.2 in (
         subst (λ x. Among x c) link l.1,
-        subst (λ x. Among x (block m p.link.arc)) base (subst (λ (x : Link). Among s.0 (block m x.arc)) link (by l.0.turned (block m l.0.arc) s.0 s.1)),
+        subst (λ x. Among x (block m p.link.arc)) base
+            (subst (λ (x : Link). Among s.0 (block m x.arc)) link (by l.0.turned (block m l.0.arc) s.0 s.1)),
       )
     where
       by : (t : Bool) (ss : List LabelledSegment) (s : LabelledSegment) → Among s (cond t (reverse ss) ss) → Among s ss

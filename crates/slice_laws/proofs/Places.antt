@@ -80,7 +80,8 @@ module _ {A : Type 0} (R : A → A → Type 0) where
   ]
 
   -- two rows of which the last of the first stands in the relation to the first of the second
-  pub row_append : (x : A) (xs : List A) (y : A) (ys : List A) → IsRow R (x ∷ xs) → IsRow R (y ∷ ys) → R (last_of x xs) y → IsRow R ((x ∷ xs) ++ y ∷ ys)
+  pub row_append : (x : A) (xs : List A) (y : A) (ys : List A) → IsRow R (x ∷ xs) → IsRow R (y ∷ ys) → R (last_of x xs) y
+      → IsRow R ((x ∷ xs) ++ y ∷ ys)
   row_append x [] y ys r s u = (u, s)
   row_append x (z ∷ zs) y ys r s u = (r.0, row_append z zs y ys r.1 s u)
 
@@ -98,7 +99,8 @@ pub record IsRowFrom {A : Type 0} (R : A → A → Type 0) (first last : A) (xs 
   pub row : IsRow R (head ∷ tail)
 
 -- one after the other
-pub joined_rows : {A : Type 0} {R : A → A → Type 0} {a b c d : A} {xs ys : List A} → IsRowFrom R a b xs → IsRowFrom R c d ys → R b c → IsRowFrom R a d (xs ++ ys)
+pub joined_rows : {A : Type 0} {R : A → A → Type 0} {a b c d : A} {xs ys : List A} → IsRowFrom R a b xs → IsRowFrom R c d ys → R b c
+    → IsRowFrom R a d (xs ++ ys)
 joined_rows {A} {R} {a} {b} {c} {d} {xs} {ys} p q u = record {
   head = p.head;
   tail = p.tail ++ q.head ∷ q.tail;
@@ -109,7 +111,8 @@ joined_rows {A} {R} {a} {b} {c} {d} {xs} {ys} p q u = record {
 }
 
 -- turned round
-pub reversed_row : {A : Type 0} (R : A → A → Type 0) (x : A) (xs : List A) → IsRow R (x ∷ xs) → IsRowFrom (λ a b. R b a) (last_of x xs) x (reverse (x ∷ xs))
+pub reversed_row : {A : Type 0} (R : A → A → Type 0) (x : A) (xs : List A) → IsRow R (x ∷ xs)
+    → IsRowFrom (λ a b. R b a) (last_of x xs) x (reverse (x ∷ xs))
 reversed_row R x [] r = record { head = x; tail = []; is = refl; begins = refl; ends = refl; row = tt }
 reversed_row {A} R x (y ∷ ys) r =
     let back : IsRowFrom (λ a b. R b a) (last_of y ys) y (reverse (y ∷ ys)) = reversed_row R y ys r.1 in
@@ -138,7 +141,8 @@ mapped_row {A} {B} {R} S f keeps {a} {b} {xs} p = record {
 
 -- ---- distinct members
 
-pub distinct_append : {A : Type 0} (xs ys : List A) → AreDistinct xs → AreDistinct ys → ((x : A) → Among x xs → Among x ys → ⊥) → AreDistinct (xs ++ ys)
+pub distinct_append : {A : Type 0} (xs ys : List A) → AreDistinct xs → AreDistinct ys → ((x : A) → Among x xs → Among x ys → ⊥)
+    → AreDistinct (xs ++ ys)
 distinct_append [] ys d e apart = e
 distinct_append (x ∷ xs) ys d e apart = (
   (λ m. elim (append_among xs ys x m) [ inl l ↦ d.0 l | inr r ↦ apart x (inl refl) r ]),
@@ -176,7 +180,8 @@ among_flat_map f (x ∷ xs) y m = elim (append_among (f x) (flat_map f xs) y m) 
 ]
 
 -- lists of which each has distinct members and a mark of its own
-pub distinct_flat_map : {A B : Type 0} (f : A → List B) (mark : B → A) → ((x : A) (y : B) → Among y (f x) → mark y ≡ x) → (xs : List A) → AreDistinct xs
+pub distinct_flat_map : {A B : Type 0} (f : A → List B) (mark : B → A) → ((x : A) (y : B) → Among y (f x) → mark y ≡ x) → (xs : List A)
+    → AreDistinct xs
     → ((x : A) → Among x xs → AreDistinct (f x)) → AreDistinct (flat_map f xs)
 distinct_flat_map f mark own [] d each = tt
 distinct_flat_map f mark own (x ∷ xs) d each =

@@ -41,14 +41,16 @@ sides_with_labels g s = by (goes_right s.segment)
 
 module _ (g : ℕ → ℕ) where
   -- the stack has the same order
-  pub stack_with_labels : (l : Line) (segments : List LabelledSegment) → stack l (map (with_labels g) segments) ≡ map (with_labels g) (stack l segments)
+  pub stack_with_labels : (l : Line) (segments : List LabelledSegment)
+      → stack l (map (with_labels g) segments) ≡ map (with_labels g) (stack l segments)
   stack_with_labels l segments =
       let higher : LabelledSegment → LabelledSegment → Bool = λ (s t : LabelledSegment). is_higher l s.segment t.segment in
       ap (sort_by higher) (filter-of_map (λ s. crosses l s.segment) (with_labels g) segments)
       ∙ sym (map-sort_by (λ s. Unit {0}) higher higher (with_labels g) (λ s t p q. refl) (filter (λ s. crosses l s.segment) segments) (λ i d n. tt))
 
   -- and agrees
-  pub agree_with_labels : g 0 ≡ 0 → (u : ℕ) (ss : List LabelledSegment) → agree_from u (map sides ss) ≡ true → agree_from (g u) (map sides (map (with_labels g) ss)) ≡ true
+  pub agree_with_labels : g 0 ≡ 0 → (u : ℕ) (ss : List LabelledSegment) → agree_from u (map sides ss) ≡ true
+      → agree_from (g u) (map sides (map (with_labels g) ss)) ≡ true
   agree_with_labels z u [] h = eq-eqb _ _ (ap g (eqb-true _ _ h) ∙ z)
   agree_with_labels z u (s ∷ ss) h =
       let both = and_parts ((sides s).upper == u) (agree_from (sides s).lower (map sides ss)) h in
@@ -62,7 +64,8 @@ module _ (g : ℕ → ℕ) where
   reached_with_labels t same u [] = refl
   reached_with_labels t same u (s ∷ ss) =
       ap (λ (b : Bool). cond b (reached t (sides (with_labels g s)).lower (map (with_labels g) ss)) (g u)) (same s)
-      ∙ by (t s) (ap (λ (x : Sides). reached t x.lower (map (with_labels g) ss)) (sides_with_labels g s) ∙ reached_with_labels t same (sides s).lower ss)
+      ∙ by (t s)
+      (ap (λ (x : Sides). reached t x.lower (map (with_labels g) ss)) (sides_with_labels g s) ∙ reached_with_labels t same (sides s).lower ss)
     where
       by : (b : Bool) → reached t (sides (with_labels g s)).lower (map (with_labels g) ss) ≡ g (reached t (sides s).lower ss)
           → cond b (reached t (sides (with_labels g s)).lower (map (with_labels g) ss)) (g u) ≡ g (cond b (reached t (sides s).lower ss) u)
@@ -70,7 +73,8 @@ module _ (g : ℕ → ℕ) where
       by false e = refl
 
 -- what is reached is a face of the segments or what was there above them
-pub reached_bounded : (n : ℕ) (t : LabelledSegment → Bool) (u : ℕ) (ss : List LabelledSegment) → u ≤ n → All (λ s. (s.left ≤ n) × (s.right ≤ n)) ss → reached t u ss ≤ n
+pub reached_bounded : (n : ℕ) (t : LabelledSegment → Bool) (u : ℕ) (ss : List LabelledSegment) → u ≤ n → All (λ s. (s.left ≤ n) × (s.right ≤ n)) ss
+    → reached t u ss ≤ n
 reached_bounded n t u [] h all = h
 reached_bounded n t u (s ∷ ss) h all =
     by (t s) (reached_bounded n t (sides s).lower ss (lower (goes_right s.segment)) (All-tail (λ s. (s.left ≤ n) × (s.right ≤ n)) s ss all))
@@ -81,7 +85,8 @@ reached_bounded n t u (s ∷ ss) h all =
     lower_by : Bool → Sides
     lower_by b = cond b (record { upper = s.left; lower = s.right }) (record { upper = s.right; lower = s.left })
 
-    lower : (b : Bool) → (let x : Sides = cond b (record { upper = s.left; lower = s.right }) (record { upper = s.right; lower = s.left }) in x.lower) ≤ n
+    lower : (b : Bool)
+        → (let x : Sides = cond b (record { upper = s.left; lower = s.right }) (record { upper = s.right; lower = s.left }) in x.lower) ≤ n
     lower true = faces.1
     lower false = faces.0
 

@@ -34,7 +34,8 @@ use Rattle.slice_laws.proofs.SpokeRings.{ring_at, with_faces, has_two, path_rela
 use Rattle.map_laws.proofs.Lists.{all_members, members_all}
 use Rattle.slice_laws.proofs.EdgeSums.{all_segments}
 
-module _ (m : BaseMap) (base : is_base m ≡ true) (planar : IsPartition (base_segments m)) (k : ℕ) (cs : List Chain) (t : are_chains (merged m) k cs ≡ true) where
+module _ (m : BaseMap) (base : is_base m ≡ true) (planar : IsPartition (base_segments m)) (k : ℕ) (cs : List Chain)
+    (t : are_chains (merged m) k cs ≡ true) where
   -- ---- segments of the slice lie between two different points within the limits
 
   proper_base : (b : LabelledSegment) → Among b (base_segments m) → is_proper b ≡ true
@@ -46,7 +47,8 @@ module _ (m : BaseMap) (base : is_base m ≡ true) (planar : IsPartition (base_s
       let apart = (proper_parts p.base (proper_base p.base (piece_among m base planar.arcs.nodes k cs t s))).apart in
       by p.link.turned apart
     where
-      by : (b : Bool) → p.base.segment.a ≢ p.base.segment.b → (cond b (flip p.base.segment) p.base.segment).a ≢ (cond b (flip p.base.segment) p.base.segment).b
+      by : (b : Bool) → p.base.segment.a ≢ p.base.segment.b
+          → (cond b (flip p.base.segment) p.base.segment).a ≢ (cond b (flip p.base.segment) p.base.segment).b
       by true n e = n (sym e)
       by false n e = n e
 
@@ -80,7 +82,8 @@ module _ (m : BaseMap) (base : is_base m ≡ true) (planar : IsPartition (base_s
   front_points {p = p} s f = by p.link.turned (base_of m base k cs t s) f
     where
       by : (b : Bool) → Among p.base (block m p.link.arc) → cond b p.base.ends p.base.starts ≡ true
-          → (cond b (flip p.base.segment) p.base.segment).a ≡ cond b (last_point (arc_number m.arcs p.link.arc).points) (first_point (arc_number m.arcs p.link.arc).points)
+          → (cond b (flip p.base.segment) p.base.segment).a
+          ≡ cond b (last_point (arc_number m.arcs p.link.arc).points) (first_point (arc_number m.arcs p.link.arc).points)
       by true n e = ends_at_last _ _ _ 0 _ p.base n e
       by false n e = starts_at _ _ _ _ p.base n e
 
@@ -88,7 +91,8 @@ module _ (m : BaseMap) (base : is_base m ≡ true) (planar : IsPartition (base_s
   back_points {p = p} s f = by p.link.turned (base_of m base k cs t s) f
     where
       by : (b : Bool) → Among p.base (block m p.link.arc) → cond b p.base.starts p.base.ends ≡ true
-          → (cond b (flip p.base.segment) p.base.segment).b ≡ cond b (first_point (arc_number m.arcs p.link.arc).points) (last_point (arc_number m.arcs p.link.arc).points)
+          → (cond b (flip p.base.segment) p.base.segment).b
+          ≡ cond b (first_point (arc_number m.arcs p.link.arc).points) (last_point (arc_number m.arcs p.link.arc).points)
       by true n e = starts_at _ _ _ _ p.base n e
       by false n e = ends_at_last _ _ _ 0 _ p.base n e
 
@@ -117,7 +121,8 @@ module _ (m : BaseMap) (base : is_base m ≡ true) (planar : IsPartition (base_s
 
   -- ---- where an edge ends at a node, each border arc that has an end there is the end of an edge
 
-  module _ {i n j o : ℕ} {c e : Chain} {p q : Piece} {s u : LabelledSegment} (x : IsSegmentAt m base k cs t i n c p s) (y : IsSegmentAt m base k cs t j o e q u) (v : Point) (ends : IsEnd u v) where
+  module _ {i n j o : ℕ} {c e : Chain} {p q : Piece} {s u : LabelledSegment} (x : IsSegmentAt m base k cs t i n c p s)
+      (y : IsSegmentAt m base k cs t j o e q u) (v : Point) (ends : IsEnd u v) where
     -- the segment u is not the next one after s, nor the one before, with v between them
     no_next : (c ≡ e) × (o ≡ suc n) × ((shown p).b ≡ v) × ((shown q).a ≡ v) → ⊥
     no_next (same, number, b, a) = by ends
@@ -151,7 +156,8 @@ module _ (m : BaseMap) (base : is_base m ≡ true) (planar : IsPartition (base_s
             let first : u.place ≡ 0 = eqb-true _ _ (sym y.shows.starts ∙ z) in
             x.shows.starts ∙ eq-eqb _ _ (omega (arith, x.shows.place, y.shows.place, g, first))
         by (inr (z, w)) =
-            absurd (shown_points x.stands (a ∙ sym w ∙ ap (λ (h : Seg). h.b) y.shows.segment ∙ sym (ap (λ (r : Piece). (shown r).b) (one_segment f g))))
+            absurd
+            (shown_points x.stands (a ∙ sym w ∙ ap (λ (h : Seg). h.b) y.shows.segment ∙ sym (ap (λ (r : Piece). (shown r).b) (one_segment f g))))
 
     ends_there : i ≡ j → n ≡ o → (shown p).b ≡ v → s.ends ≡ true
     ends_there f g b = by ends
@@ -161,7 +167,8 @@ module _ (m : BaseMap) (base : is_base m ≡ true) (planar : IsPartition (base_s
 
         by : IsEnd u v → s.ends ≡ true
         by (inl (z, w)) =
-            absurd (shown_points x.stands (ap (λ (r : Piece). (shown r).a) (one_segment f g) ∙ sym (ap (λ (h : Seg). h.a) y.shows.segment) ∙ w ∙ sym b))
+            absurd
+            (shown_points x.stands (ap (λ (r : Piece). (shown r).a) (one_segment f g) ∙ sym (ap (λ (h : Seg). h.a) y.shows.segment) ∙ w ∙ sym b))
         by (inr (z, w)) = x.shows.ends (ap suc g ∙ y.shows.last z ∙ sym (ap (λ d. length (pieces m d)) chains))
 
     -- a front there starts an edge
@@ -220,9 +227,11 @@ module _ (m : BaseMap) (base : is_base m ≡ true) (planar : IsPartition (base_s
         | inr (e, f, g) ↦ at_end x.p.base place.0 place.1 s differ x.p.link.turned (end_back x.at e) x.at.shows.segment labels.0 labels.1 f g
       ]
     where
-      at_start : (b : LabelledSegment) (o : ℕ) → At (base_segments m) o b → (s : LabelledSegment) → label_at (merged m) k b.left ≢ label_at (merged m) k b.right
+      at_start : (b : LabelledSegment) (o : ℕ) → At (base_segments m) o b → (s : LabelledSegment)
+          → label_at (merged m) k b.left ≢ label_at (merged m) k b.right
           → (w : Bool) → cond w b.ends b.starts ≡ true → s.segment ≡ cond w (flip b.segment) b.segment
-          → s.left ≡ label_at (merged m) k (cond w b.right b.left) → s.right ≡ label_at (merged m) k (cond w b.left b.right) → s.segment.a ≡ v → spoke s.segment.a s.segment.b s.left s.right ≡ q
+          → s.left ≡ label_at (merged m) k (cond w b.right b.left) → s.right ≡ label_at (merged m) k (cond w b.left b.right) → s.segment.a ≡ v
+          → spoke s.segment.a s.segment.b s.left s.right ≡ q
           → (r : Spoke) × IsSpokeAt (base_segments m) v r × (has_two (label_at (merged m) k) r ≡ true) × (with_faces (label_at (merged m) k) r ≡ q)
       at_start b o at s differ true e g l r f h = (
         spoke b.segment.b b.segment.a b.right b.left,
@@ -237,9 +246,11 @@ module _ (m : BaseMap) (base : is_base m ≡ true) (planar : IsPartition (base_s
         sym (ap (λ (z : Seg). spoke z.a z.b s.left s.right) g ∙ ap₂ (λ (y z : ℕ). spoke b.segment.a b.segment.b y z) l r) ∙ h,
       )
 
-      at_end : (b : LabelledSegment) (o : ℕ) → At (base_segments m) o b → (s : LabelledSegment) → label_at (merged m) k b.left ≢ label_at (merged m) k b.right
+      at_end : (b : LabelledSegment) (o : ℕ) → At (base_segments m) o b → (s : LabelledSegment)
+          → label_at (merged m) k b.left ≢ label_at (merged m) k b.right
           → (w : Bool) → cond w b.starts b.ends ≡ true → s.segment ≡ cond w (flip b.segment) b.segment
-          → s.left ≡ label_at (merged m) k (cond w b.right b.left) → s.right ≡ label_at (merged m) k (cond w b.left b.right) → s.segment.b ≡ v → spoke s.segment.b s.segment.a s.right s.left ≡ q
+          → s.left ≡ label_at (merged m) k (cond w b.right b.left) → s.right ≡ label_at (merged m) k (cond w b.left b.right) → s.segment.b ≡ v
+          → spoke s.segment.b s.segment.a s.right s.left ≡ q
           → (r : Spoke) × IsSpokeAt (base_segments m) v r × (has_two (label_at (merged m) k) r ≡ true) × (with_faces (label_at (merged m) k) r ≡ q)
       at_end b o at s differ true e g l r f h = (
         spoke b.segment.a b.segment.b b.left b.right,
@@ -256,7 +267,8 @@ module _ (m : BaseMap) (base : is_base m ≡ true) (planar : IsPartition (base_s
 
   -- where an edge ends at the node, the ends of a segment of a border arc there are ends of an edge
   module _ (v : Point) (j : ℕ) (u : LabelledSegment) (y : IsShownAt m base k cs t j u) (ends : IsEnd u v) where
-    first_shown : (n : ℕ) (s : LabelledSegment) → At (all_segments m k cs) n s → (x : IsShownAt m base k cs t n s) → x.p.base.starts ≡ true → x.p.base.segment.a ≡ v
+    first_shown : (n : ℕ) (s : LabelledSegment) → At (all_segments m k cs) n s → (x : IsShownAt m base k cs t n s) → x.p.base.starts ≡ true
+        → x.p.base.segment.a ≡ v
         → IsSpokeAt (all_segments m k cs) v (with_faces (label_at (merged m) k) (spoke x.p.base.segment.a x.p.base.segment.b x.p.base.left x.p.base.right))
     first_shown n s a x e f =
         let labels = shown_labels m base planar.arcs.nodes k cs t n s x in
@@ -267,7 +279,8 @@ module _ (m : BaseMap) (base : is_base m ≡ true) (planar : IsPartition (base_s
             → (cond w x.p.base.ends x.p.base.starts ≡ true → (cond w (flip x.p.base.segment) x.p.base.segment).a ≡ v → s.starts ≡ true)
             → (cond w x.p.base.starts x.p.base.ends ≡ true → (cond w (flip x.p.base.segment) x.p.base.segment).b ≡ v → s.ends ≡ true)
             → s.segment ≡ cond w (flip x.p.base.segment) x.p.base.segment
-            → s.left ≡ label_at (merged m) k (cond w x.p.base.right x.p.base.left) → s.right ≡ label_at (merged m) k (cond w x.p.base.left x.p.base.right)
+            → s.left ≡ label_at (merged m) k (cond w x.p.base.right x.p.base.left)
+            → s.right ≡ label_at (merged m) k (cond w x.p.base.left x.p.base.right)
             → IsSpokeAt (all_segments m k cs) v (with_faces (label_at (merged m) k) (spoke x.p.base.segment.a x.p.base.segment.b x.p.base.left x.p.base.right))
         by true start finish g l r = (
           n,
@@ -290,7 +303,8 @@ module _ (m : BaseMap) (base : is_base m ≡ true) (planar : IsPartition (base_s
           ),
         )
 
-    last_shown : (n : ℕ) (s : LabelledSegment) → At (all_segments m k cs) n s → (x : IsShownAt m base k cs t n s) → x.p.base.ends ≡ true → x.p.base.segment.b ≡ v
+    last_shown : (n : ℕ) (s : LabelledSegment) → At (all_segments m k cs) n s → (x : IsShownAt m base k cs t n s) → x.p.base.ends ≡ true
+        → x.p.base.segment.b ≡ v
         → IsSpokeAt (all_segments m k cs) v (with_faces (label_at (merged m) k) (spoke x.p.base.segment.b x.p.base.segment.a x.p.base.right x.p.base.left))
     last_shown n s a x e f =
         let labels = shown_labels m base planar.arcs.nodes k cs t n s x in
@@ -301,7 +315,8 @@ module _ (m : BaseMap) (base : is_base m ≡ true) (planar : IsPartition (base_s
             → (cond w x.p.base.ends x.p.base.starts ≡ true → (cond w (flip x.p.base.segment) x.p.base.segment).a ≡ v → s.starts ≡ true)
             → (cond w x.p.base.starts x.p.base.ends ≡ true → (cond w (flip x.p.base.segment) x.p.base.segment).b ≡ v → s.ends ≡ true)
             → s.segment ≡ cond w (flip x.p.base.segment) x.p.base.segment
-            → s.left ≡ label_at (merged m) k (cond w x.p.base.right x.p.base.left) → s.right ≡ label_at (merged m) k (cond w x.p.base.left x.p.base.right)
+            → s.left ≡ label_at (merged m) k (cond w x.p.base.right x.p.base.left)
+            → s.right ≡ label_at (merged m) k (cond w x.p.base.left x.p.base.right)
             → IsSpokeAt (all_segments m k cs) v (with_faces (label_at (merged m) k) (spoke x.p.base.segment.b x.p.base.segment.a x.p.base.right x.p.base.left))
         by true start finish g l r = (
           n,
@@ -332,7 +347,8 @@ module _ (m : BaseMap) (base : is_base m ≡ true) (planar : IsPartition (base_s
         let w = base_piece m base planar.arcs.nodes k cs t b (at_among (base_segments m) n b a) differ in
         let z = piece_shown m base planar.arcs.nodes k cs t w.0 w.1 w.2 w.3 w.4 in
         let same : z.3.p.base ≡ b = z.4 ∙ w.5 in
-        subst (λ (q : Spoke). IsSpokeAt (all_segments m k cs) v (with_faces g q)) (ap (λ (c : LabelledSegment). spoke c.segment.a c.segment.b c.left c.right) same ∙ h)
+        subst (λ (q : Spoke). IsSpokeAt (all_segments m k cs) v (with_faces g q))
+        (ap (λ (c : LabelledSegment). spoke c.segment.a c.segment.b c.left c.right) same ∙ h)
         (first_shown z.0 z.1 z.2 z.3 (ap (λ (c : LabelledSegment). c.starts) same ∙ e) (ap (λ (c : LabelledSegment). c.segment.a) same ∙ f))
     spoke_back r (n, b, a, inr (e, f, h)) two =
         let g : ℕ → ℕ = label_at (merged m) k in
@@ -340,7 +356,8 @@ module _ (m : BaseMap) (base : is_base m ≡ true) (planar : IsPartition (base_s
         let w = base_piece m base planar.arcs.nodes k cs t b (at_among (base_segments m) n b a) differ in
         let z = piece_shown m base planar.arcs.nodes k cs t w.0 w.1 w.2 w.3 w.4 in
         let same : z.3.p.base ≡ b = z.4 ∙ w.5 in
-        subst (λ (q : Spoke). IsSpokeAt (all_segments m k cs) v (with_faces g q)) (ap (λ (c : LabelledSegment). spoke c.segment.b c.segment.a c.right c.left) same ∙ h)
+        subst (λ (q : Spoke). IsSpokeAt (all_segments m k cs) v (with_faces g q))
+        (ap (λ (c : LabelledSegment). spoke c.segment.b c.segment.a c.right c.left) same ∙ h)
         (last_shown z.0 z.1 z.2 z.3 (ap (λ (c : LabelledSegment). c.ends) same ∙ e) (ap (λ (c : LabelledSegment). c.segment.b) same ∙ f))
 
     -- ---- one ring
@@ -354,7 +371,8 @@ module _ (m : BaseMap) (base : is_base m ≡ true) (planar : IsPartition (base_s
         sorted_same before_strict (ring_at slice v) (map (with_faces g) (filter (has_two g) ring)) (λ i d l. tt) (λ i d l. tt)
         (ring_is_sorted slice slice_proper (slice_apart m base k cs t planar.arcs.apart) v)
         (map-is_sorted (λ p. Unit {0}) before before (with_faces g) (λ p q a b. refl) (filter (has_two g) ring) (λ i d l. tt)
-        ∙ filter-is_sorted before_strict (has_two g) ring (λ i d l. tt) (ring_is_sorted (base_segments m) (proper_segments m base) planar.arcs.apart v))
+        ∙ filter-is_sorted before_strict (has_two g) ring (λ i d l. tt)
+        (ring_is_sorted (base_segments m) (proper_segments m base) planar.arcs.apart v))
         (λ q c.
         let r = spoke_there v q (spoke_from_ring slice v q c) in
         subst (Contains (map (with_faces g) (filter (has_two g) ring))) r.3

@@ -72,7 +72,8 @@ only_last : (p : Piece) (ps : List Piece) → is_empty (map shown ps) ≡ true �
 only_last p [] e = refl
 only_last p (q ∷ ps) e = absurd cc
 
-pub at_rows : (key l r place : ℕ) (ps : List Piece) (n : ℕ) (s : LabelledSegment) → At (rows key l r place (map shown ps)) n s → (p : Piece) × IsInRow key l r place ps n p s
+pub at_rows : (key l r place : ℕ) (ps : List Piece) (n : ℕ) (s : LabelledSegment) → At (rows key l r place (map shown ps)) n s
+    → (p : Piece) × IsInRow key l r place ps n p s
 at_rows key l r place [] n s a = absurd a
 at_rows key l r place (p ∷ ps) zero s a = (
   p,
@@ -105,7 +106,8 @@ at_rows key l r place (p ∷ ps) (suc n) s a =
     )
 
 -- and each piece is shown
-pub rows_at : (key l r place : ℕ) (ps : List Piece) (n : ℕ) (p : Piece) → At ps n p → (s : LabelledSegment) × At (rows key l r place (map shown ps)) n s
+pub rows_at : (key l r place : ℕ) (ps : List Piece) (n : ℕ) (p : Piece) → At ps n p
+    → (s : LabelledSegment) × At (rows key l r place (map shown ps)) n s
 rows_at key l r place [] n p a = absurd a
 rows_at key l r place (q ∷ ps) zero p a = (row_of key l r place (shown q) (is_empty (map shown ps)), refl)
 rows_at key l r place (q ∷ ps) (suc n) p a = rows_at key l r (place + 1) ps n p a
@@ -190,11 +192,13 @@ at_right : {A : Type 0} (xs ys : List A) (n : ℕ) (z : A) → At ys n z → At 
 at_right [] ys n z a = let e : n ≡ 0 + n = omega arith in subst (λ o. At ys o z) e a
 at_right (x ∷ xs) ys n z a = let e : suc (length xs + n) ≡ suc (length xs) + n = omega arith in subst (λ o. At (x ∷ xs ++ ys) o z) e (at_right xs ys n z a)
 
-pub flat_map_at : {A B : Type 0} (f : A → List B) (xs : List A) (i : ℕ) (x : A) (o : ℕ) (z : B) → At xs i x → At (f x) o z → At (flat_map f xs) (length (flat_map f (take i xs)) + o) z
+pub flat_map_at : {A B : Type 0} (f : A → List B) (xs : List A) (i : ℕ) (x : A) (o : ℕ) (z : B) → At xs i x → At (f x) o z
+    → At (flat_map f xs) (length (flat_map f (take i xs)) + o) z
 flat_map_at f [] i x o z a b = absurd a
 flat_map_at f (y ∷ xs) zero x o z a b =
     let e : o ≡ 0 + o = omega arith in
     subst (λ n. At (flat_map f (y ∷ xs)) n z) e (at_left (f y) (flat_map f xs) o z (subst (λ w. At (f w) o z) (sym a) b))
 flat_map_at f (y ∷ xs) (suc i) x o z a b =
     let e : length (f y) + (length (flat_map f (take i xs)) + o) ≡ length (f y ++ flat_map f (take i xs)) + o = omega (arith, length-append (f y) (flat_map f (take i xs))) in
-    subst (λ n. At (flat_map f (y ∷ xs)) n z) e (at_right (f y) (flat_map f xs) (length (flat_map f (take i xs)) + o) z (flat_map_at f xs i x o z a b))
+    subst (λ n. At (flat_map f (y ∷ xs)) n z) e
+    (at_right (f y) (flat_map f xs) (length (flat_map f (take i xs)) + o) z (flat_map_at f xs i x o z a b))

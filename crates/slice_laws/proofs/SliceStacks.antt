@@ -89,7 +89,8 @@ parts g s = not (g (sides s).upper == g (sides s).lower)
 parts_from : (g : ℕ → ℕ) (s : LabelledSegment) → g s.left ≢ g s.right → parts g s ≡ true
 parts_from g s n = by (goes_right s.segment)
   where
-    by : (b : Bool) → not (g (let x : Sides = cond b (record { upper = s.left; lower = s.right }) (record { upper = s.right; lower = s.left }) in x.upper)
+    by : (b : Bool)
+        → not (g (let x : Sides = cond b (record { upper = s.left; lower = s.right }) (record { upper = s.right; lower = s.left }) in x.upper)
         == g (let x : Sides = cond b (record { upper = s.left; lower = s.right }) (record { upper = s.right; lower = s.left }) in x.lower)) ≡ true
     by true = ap not (ne_eqb _ _ n)
     by false = ap not (ne_eqb _ _ (λ e. n (sym e)))
@@ -98,7 +99,8 @@ parts_differ : (g : ℕ → ℕ) (s : LabelledSegment) → parts g s ≡ true �
 parts_differ g s h = by (goes_right s.segment) (eqb-false _ _ (not-true _ h))
   where
     by : (b : Bool) → g (let x : Sides = cond b (record { upper = s.left; lower = s.right }) (record { upper = s.right; lower = s.left }) in x.upper)
-        ≢ g (let x : Sides = cond b (record { upper = s.left; lower = s.right }) (record { upper = s.right; lower = s.left }) in x.lower) → g s.left ≢ g s.right
+        ≢ g
+        (let x : Sides = cond b (record { upper = s.left; lower = s.right }) (record { upper = s.right; lower = s.left }) in x.lower) → g s.left ≢ g s.right
     by true n = n
     by false n = λ e. n (sym e)
 
@@ -131,7 +133,8 @@ base_strands m k l = map (λ s. strand (with_labels (label_at (merged m) k) s)) 
 abbrev slice_strands : BaseMap → ℕ → List Chain → Line → List Strand
 slice_strands m k cs l = map strand (stack l (all_segments m k cs))
 
-module _ (m : BaseMap) (base : is_base m ≡ true) (planar : IsPartition (base_segments m)) (k : ℕ) (cs : List Chain) (t : are_chains (merged m) k cs ≡ true) (l : Line) (rational : pos 0 <ℤ l.c) where
+module _ (m : BaseMap) (base : is_base m ≡ true) (planar : IsPartition (base_segments m)) (k : ℕ) (cs : List Chain)
+    (t : are_chains (merged m) k cs ≡ true) (l : Line) (rational : pos 0 <ℤ l.c) where
   slice_sorted : is_sorted_by (is_over l) (slice_strands m k cs l) ≡ true
   slice_sorted =
       map-is_sorted (λ s. Unit {0}) (higher l) (is_over l) strand (λ s u p q. higher_strands l s u) (stack l (all_segments m k cs)) (λ i d n. tt)
@@ -140,14 +143,18 @@ module _ (m : BaseMap) (base : is_base m ≡ true) (planar : IsPartition (base_s
   base_sorted : is_sorted_by (is_over l) (base_strands m k l) ≡ true
   base_sorted =
       let g : ℕ → ℕ = label_at (merged m) k in
-      map-is_sorted (λ s. Unit {0}) (higher l) (is_over l) (λ s. strand (with_labels g s)) (λ s u p q. higher_strands l (with_labels g s) (with_labels g u)) (kept m k l) (λ i d n. tt)
-      ∙ filter-is_sorted (order_of_heights l rational) (parts g) (stack l (base_segments m)) (stack_is_crossed l (base_segments m)) (stack_is_sorted l rational (base_segments m) planar.arcs.apart)
+      map-is_sorted (λ s. Unit {0}) (higher l) (is_over l) (λ s. strand (with_labels g s))
+      (λ s u p q. higher_strands l (with_labels g s) (with_labels g u)) (kept m k l) (λ i d n. tt)
+      ∙ filter-is_sorted (order_of_heights l rational) (parts g) (stack l (base_segments m)) (stack_is_crossed l (base_segments m))
+      (stack_is_sorted l rational (base_segments m) planar.arcs.apart)
 
   -- a segment that the line crosses is a member of the stack, and no other one is
-  in_stack : (segments : List LabelledSegment) (n : ℕ) (s : LabelledSegment) → At segments n s → crosses l s.segment ≡ true → Contains (stack l segments) s
+  in_stack : (segments : List LabelledSegment) (n : ℕ) (s : LabelledSegment) → At segments n s → crosses l s.segment ≡ true
+      → Contains (stack l segments) s
   in_stack segments n s a c = Contains-sort_by (higher l) (filter (crossed l) segments) s (Contains-filter (crossed l) segments s (contains_at segments n s a) c)
 
-  from_stack : (segments : List LabelledSegment) (s : LabelledSegment) → Contains (stack l segments) s → (n : ℕ) × At segments n s × (crosses l s.segment ≡ true)
+  from_stack : (segments : List LabelledSegment) (s : LabelledSegment) → Contains (stack l segments) s
+      → (n : ℕ) × At segments n s × (crosses l s.segment ≡ true)
   from_stack segments s c =
       let f = Contains-from_filter (crossed l) segments s (Contains-from_sort_by (higher l) (filter (crossed l) segments) s c) in
       let n = at_contains segments s f.0 in

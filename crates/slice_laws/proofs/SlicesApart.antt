@@ -82,7 +82,8 @@ module _ (m : BaseMap) (base : is_base m ≡ true) (k : ℕ) (cs : List Chain) (
 
   -- ---- two segments at different places
 
-  module _ {i n j o : ℕ} {c e : Chain} {p q : Piece} {s u : LabelledSegment} (x : IsSegmentAt i n c p s) (y : IsSegmentAt j o e q u) (apart : i ≡ j → n ≡ o → ⊥) where
+  module _ {i n j o : ℕ} {c e : Chain} {p q : Piece} {s u : LabelledSegment} (x : IsSegmentAt i n c p s) (y : IsSegmentAt j o e q u)
+      (apart : i ≡ j → n ≡ o → ⊥) where
     -- they show different pieces
     differ : p ≡ q → ⊥
     differ f = let same = one_place m base k cs t x.stands y.stands f in apart same.0 same.2
@@ -103,7 +104,8 @@ module _ (m : BaseMap) (base : is_base m ≡ true) (k : ℕ) (cs : List Chain) (
         (eq-eqb _ _ (x.shows.arc ∙ ap key f ∙ sym y.shows.arc)) (eq-eqb _ _ (omega (arith, x.shows.place, y.shows.place, g)))
 
     -- the next segment of an arc is the next one of the edge
-    in_link : (v : Point) → p.link ≡ q.link → cond p.link.turned (follows q.base p.base) (follows p.base q.base) ≡ true → (shown p).b ≡ v → (shown q).a ≡ v → MayMeet s u v
+    in_link : (v : Point) → p.link ≡ q.link → cond p.link.turned (follows q.base p.base) (follows p.base q.base) ≡ true → (shown p).b ≡ v
+        → (shown q).a ≡ v → MayMeet s u v
     in_link v f w a b =
         let there = follows_at m base k cs t x.stands y.stands f w in
         inr (inl (is_next there.0 there.1, ap (λ (g : Seg). g.b) x.shows.segment ∙ a, ap (λ (g : Seg). g.a) y.shows.segment ∙ b))
@@ -162,7 +164,8 @@ module _ (m : BaseMap) (base : is_base m ≡ true) (k : ℕ) (cs : List Chain) (
         | inr (o, r, number, there, way, back) ↦
             let e = before_first v f g h o r number there way back (end_side y.stands v b) in
             inr (inr (inr (
-              and_from (u.arc == s.arc) (u.place + 1 == s.place) (eq-eqb _ _ (y.shows.arc ∙ sym (ap key e.0) ∙ sym x.shows.arc)) (eq-eqb _ _ (omega (arith, x.shows.place, y.shows.place, e.1))),
+              and_from (u.arc == s.arc) (u.place + 1 == s.place) (eq-eqb _ _ (y.shows.arc ∙ sym (ap key e.0) ∙ sym x.shows.arc))
+                  (eq-eqb _ _ (omega (arith, x.shows.place, y.shows.place, e.1))),
               ap (λ (g : Seg). g.b) y.shows.segment ∙ e.2,
               ap (λ (g : Seg). g.a) x.shows.segment ∙ e.3,
             )))
@@ -200,7 +203,8 @@ module _ (m : BaseMap) (base : is_base m ≡ true) (k : ℕ) (cs : List Chain) (
           (ap (λ (b : Bool). (cond b (flip p.base.segment) p.base.segment).a) w ∙ a))
 
   -- where two segments of arcs may meet, those of the slice may
-  slice_meets : {i n j o : ℕ} {c e : Chain} {p q : Piece} {s u : LabelledSegment} → IsSegmentAt i n c p s → IsSegmentAt j o e q u → (i ≡ j → n ≡ o → ⊥)
+  slice_meets : {i n j o : ℕ} {c e : Chain} {p q : Piece} {s u : LabelledSegment} → IsSegmentAt i n c p s → IsSegmentAt j o e q u
+      → (i ≡ j → n ≡ o → ⊥)
       → (v : Point) → MayMeet p.base q.base v → MayMeet s u v
   slice_meets {s = s} {u = u} x y apart v (inl (a, b)) =
       elim (first_end x y apart v a b) [
@@ -219,10 +223,12 @@ module _ (m : BaseMap) (base : is_base m ≡ true) (k : ℕ) (cs : List Chain) (
   base_at : {i n : ℕ} {c : Chain} {p : Piece} → StandsAt m base k cs t i n c p → (a : ℕ) × At (base_segments m) a p.base
   base_at {p = p} s =
       let border = (known_of m base k cs t s).border p.link (link_of m base k cs t s) in
-      among_at (base_segments m) p.base (block_among (arc_number m.arcs) 0 m.arcs (numbers_lead_all m.arcs) p.link.arc (omega arith) (omega (arith, border.within)) p.base (base_of m base k cs t s))
+      among_at (base_segments m) p.base
+      (block_among (arc_number m.arcs) 0 m.arcs (numbers_lead_all m.arcs) p.link.arc (omega arith) (omega (arith, border.within)) p.base (base_of m base k cs t s))
 
   -- what is on a segment of the slice is on that of the base map
-  on_base : {i n : ℕ} {c : Chain} {p : Piece} {s : LabelledSegment} → IsSegmentAt i n c p s → (f : Fraction) → is_on f s.segment ≡ true → is_on f p.base.segment ≡ true
+  on_base : {i n : ℕ} {c : Chain} {p : Piece} {s : LabelledSegment} → IsSegmentAt i n c p s → (f : Fraction) → is_on f s.segment ≡ true
+      → is_on f p.base.segment ≡ true
   on_base {p = p} x f h = by p.link.turned (ap (is_on f) (sym x.shows.segment) ∙ h)
     where
       by : (b : Bool) → is_on f (cond b (flip p.base.segment) p.base.segment) ≡ true → is_on f p.base.segment ≡ true

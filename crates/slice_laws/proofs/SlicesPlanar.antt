@@ -35,5 +35,6 @@ edges_planar m base planar k cs t = record {
 pub slices_are_partitions : SlicesArePartitions
 unfolding slice
 slices_are_partitions m base planar ratio k =
-    subst (λ (rs : List Removal). IsPartition (edge_segments (edges_of (merged m) k rs (chains_at (merged m) k)))) (sym (nothing_removed (merged m) k ratio))
+    subst (λ (rs : List Removal). IsPartition (edge_segments (edges_of (merged m) k rs (chains_at (merged m) k))))
+    (sym (nothing_removed (merged m) k ratio))
     (edges_planar m base planar k (chains_at (merged m) k) (chains_exist (merged m) k))

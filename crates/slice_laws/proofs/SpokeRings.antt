@@ -54,7 +54,9 @@ path_relabelled g a e (p ∷ ps) h = by (g p.left == g p.right) refl (path_relab
 no_gap_between : (p q : Spoke) (i j : ℕ) → gap_between p i q j ≡ None → p.left ≡ q.right
 no_gap_between p q i j e = by (p.left == q.right) refl e
   where
-    by : (b : Bool) → (p.left == q.right) ≡ b → ◌≡◌ {A = Option NodeGap} (if b then None else Some (record { node = p.node; spoke = i; next = j; left = p.left; right = q.right })) None → p.left ≡ q.right
+    by : (b : Bool) → (p.left == q.right) ≡ b
+        → ◌≡◌ {A = Option NodeGap} (if b then None else Some (record { node = p.node; spoke = i; next = j; left = p.left; right = q.right })) None
+        → p.left ≡ q.right
     by true f e = eqb-true _ _ f
     by false f e = absurd cc
 
@@ -126,7 +128,8 @@ spoke_from_ring segments v q c =
 pub ring_has_spoke : (segments : List LabelledSegment) (v : Point) (q : Spoke) → IsSpokeAt segments v q → Contains (ring_at segments v) q
 ring_has_spoke segments v q (n, s, a, e) =
     let m = among_at (all_spokes segments) q (among_flat spokes_from segments s q (at_among segments n s a) (by e)) in
-    Contains-filter (is_at_node v) (sort_by before (all_spokes segments)) q (Contains-sort_by before (all_spokes segments) q (contains_at (all_spokes segments) m.0 q m.1)) (same_point-from q.node v (node e))
+    Contains-filter (is_at_node v) (sort_by before (all_spokes segments)) q
+    (Contains-sort_by before (all_spokes segments) q (contains_at (all_spokes segments) m.0 q m.1)) (same_point-from q.node v (node e))
   where
     by : ((s.starts ≡ true) × (s.segment.a ≡ v) × (spoke s.segment.a s.segment.b s.left s.right ≡ q))
         ⊎ ((s.ends ≡ true) × (s.segment.b ≡ v) × (spoke s.segment.b s.segment.a s.right s.left ≡ q)) → Among q (spokes_from s)
@@ -156,7 +159,8 @@ module _ (segments : List LabelledSegment) (all_proper : list_all is_proper segm
   -- the fault of a node is the gap of its ring
   pub fault_of_ring : (v : Point) → node_fault segments v ≡ option_map disagrees (ring_of (ring_at segments v))
   fault_of_ring v =
-      node_fault-is segments (sort_by before (all_spokes segments)) all_proper apart (sort_by-permutation before (all_spokes segments)) spokes_in_order v
+      node_fault-is segments (sort_by before (all_spokes segments)) all_proper apart
+      (sort_by-permutation before (all_spokes segments)) spokes_in_order v
 
 pub no_gap : (o : Option NodeGap) → ◌≡◌ {A = Option MapFault} (option_map disagrees o) None → o ≡ None
 no_gap None e = refl

@@ -52,9 +52,11 @@ row_faces : (n i l r place : ℕ) (points : List Point) → l ≤ n → r ≤ n 
 row_faces n i l r place [] p q = All-nil _
 row_faces n i l r place (a ∷ []) p q = All-nil _
 row_faces n i l r place (a ∷ b ∷ points) p q =
-    All-cons (λ s. (s.left ≤ n) × (s.right ≤ n)) (row_of i l r place (record { a = a; b = b }) (is_empty points)) _ (p, q) (row_faces n i l r (place + 1) (b ∷ points) p q)
+    All-cons (λ s. (s.left ≤ n) × (s.right ≤ n)) (row_of i l r place (record { a = a; b = b }) (is_empty points)) _ (p, q)
+    (row_faces n i l r (place + 1) (b ∷ points) p q)
 
-segment_faces : (n i : ℕ) (arcs : List BaseArc) → ((a : BaseArc) → Among a arcs → ArcFacts n a) → All (λ s. (s.left ≤ n) × (s.right ≤ n)) (arc_segments i arcs)
+segment_faces : (n i : ℕ) (arcs : List BaseArc) → ((a : BaseArc) → Among a arcs → ArcFacts n a)
+    → All (λ s. (s.left ≤ n) × (s.right ≤ n)) (arc_segments i arcs)
 segment_faces n i [] facts = All-nil _
 segment_faces n i (a ∷ arcs) facts =
     let f = facts a (inl refl) in
@@ -67,7 +69,8 @@ segment_faces n i (a ∷ arcs) facts =
 abbrev face_below : BaseMap → Fraction → ℕ
 face_below m p = reached (λ s. is_above s.segment p) 0 (stack (line_through p) (base_segments m))
 
-module _ (m : BaseMap) (base : is_base m ≡ true) (planar : IsPartition (base_segments m)) (k : ℕ) (p : Fraction) (between : IsBetweenColumns (line_through p)) where
+module _ (m : BaseMap) (base : is_base m ≡ true) (planar : IsPartition (base_segments m)) (k : ℕ) (p : Fraction)
+    (between : IsBetweenColumns (line_through p)) where
   agrees : agree_from 0 (map sides (stack (line_through p) (base_segments m))) ≡ true
   agrees = planar.stacks (line_through p) between
 
