@@ -78,7 +78,8 @@ module _ (m : BaseMap) (base : is_base m ≡ true) (nodes : (v : Point) → node
   from_arc apart h =
       let a = any_among (λ a. is_between f g (labelled_at (merged m) k a)) m.arcs h in
       let n = among_number m.arcs a.0 a.1 in
-      let between : is_between f g (labelled_at (merged m) k (arc_number m.arcs n.0)) ≡ true = ap (λ (x : BaseArc). is_between f g (labelled_at (merged m) k x)) n.2 ∙ a.2 in
+      let between : is_between f g (labelled_at (merged m) k (arc_number m.arcs n.0)) ≡ true
+      = ap (λ (x : BaseArc). is_between f g (labelled_at (merged m) k x)) n.2 ∙ a.2 in
       let border : is_border (merged m) k (arc_number m.arcs n.0) ≡ true = ap not (ne_eqb _ _ (two_labels f g _ _ apart between)) in
       let p = border_in_chain (merged m) k cs t n.0 n.1 border in
       let keeps = chains_faces m base nodes k cs t removals p.0 p.1 in

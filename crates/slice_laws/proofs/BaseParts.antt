@@ -22,4 +22,5 @@ pub arcs_have_segments : (m : BaseMap) → is_base m ≡ true → list_all has_s
 arcs_have_segments m base = all_from has_segment m.arcs (λ a n. le-leb 2 (length a.points) (base_arc m base a n).two_points)
 
 pub arc_has_segment : (m : BaseMap) → is_base m ≡ true → (i : ℕ) → i < length m.arcs → has_segment (arc_number m.arcs i) ≡ true
-arc_has_segment m base i l = le-leb 2 (length (arc_number m.arcs i).points) (base_arc m base (arc_number m.arcs i) (number_among m.arcs i l)).two_points
+arc_has_segment m base i l =
+    le-leb 2 (length (arc_number m.arcs i).points) (base_arc m base (arc_number m.arcs i) (number_among m.arcs i l)).two_points

@@ -109,7 +109,8 @@ block_among number i (a ∷ arcs) at j low high s m =
     elim (cases_eq i j) [
       | inl e ↦ among_left (path_segments i a.left a.right 0 a.points) (arc_segments (i + 1) arcs) s
           (subst (λ (x : BaseArc). Among s (path_segments i x.left x.right 0 x.points)) at.0 (subst (λ n. Among s (path_segments n (number n).left (number n).right 0 (number n).points)) (sym e) m))
-      | inr apart ↦ among_right (path_segments i a.left a.right 0 a.points) (arc_segments (i + 1) arcs) s (block_among number (i + 1) arcs at.1 j (omega arith) (omega arith) s m)
+      | inr apart ↦
+          among_right (path_segments i a.left a.right 0 a.points) (arc_segments (i + 1) arcs) s (block_among number (i + 1) arcs at.1 j (omega arith) (omega arith) s m)
     ]
 
 -- the segments of an arc, in its direction
@@ -117,7 +118,8 @@ pub block_row : (i l r : ℕ) (points : List Point) → nat_le 2 (length points)
     → (first : LabelledSegment) × (last : LabelledSegment) × IsRowFrom IsNext first last (path_segments i l r 0 points) × (first.starts ≡ true) × (last.ends ≡ true)
 block_row i l r [] h = absurd cc
 block_row i l r (a ∷ []) h = absurd cc
-block_row i l r (a ∷ b ∷ points) h = let row = row_block i l r 0 a b points in (row_of i l r 0 (record { a = a; b = b }) (is_empty points), row.0, row.1, refl, row.2)
+block_row i l r (a ∷ b ∷ points) h =
+    let row = row_block i l r 0 a b points in (row_of i l r 0 (record { a = a; b = b }) (is_empty points), row.0, row.1, refl, row.2)
 
 -- none is later than the one that ends the arc
 pub end_greatest : (i l r place : ℕ) (points : List Point) (s t : LabelledSegment) → Among s (path_segments i l r place points)
@@ -125,7 +127,8 @@ pub end_greatest : (i l r place : ℕ) (points : List Point) (s t : LabelledSegm
     → s.ends ≡ true → t.place ≤ s.place
 end_greatest i l r place [] s t m n e = absurd m
 end_greatest i l r place (a ∷ []) s t m n e = absurd m
-end_greatest i l r place (a ∷ b ∷ []) s t (inl u) (inl v) e = omega (arith, ap (λ (x : LabelledSegment). x.place) u, ap (λ (x : LabelledSegment). x.place) v)
+end_greatest i l r place (a ∷ b ∷ []) s t (inl u) (inl v) e =
+    omega (arith, ap (λ (x : LabelledSegment). x.place) u, ap (λ (x : LabelledSegment). x.place) v)
 end_greatest i l r place (a ∷ b ∷ []) s t (inr m) n e = absurd m
 end_greatest i l r place (a ∷ b ∷ []) s t (inl u) (inr n) e = absurd n
 end_greatest i l r place (a ∷ b ∷ c ∷ points) s t (inl u) n e = absurd (true≢false (sym e ∙ sym (ap (λ (x : LabelledSegment). x.ends) u)))

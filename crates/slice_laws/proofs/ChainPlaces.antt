@@ -78,8 +78,10 @@ module _ (m : BaseMap) (base : is_base m ≡ true) (k : ℕ) (cs : List Chain) (
       place : i ≡ j
       place = elim (cases_order i j) [
         | inl same ↦ same
-        | inr (inl less) ↦ absurd (omega (arith, few, two_counted (λ (d : Link). d.arc == x.arc) cs i j c e x y a b less n o (eq-eqb x.arc x.arc refl) (eq-eqb y.arc x.arc (sym s))))
-        | inr (inr more) ↦ absurd (omega (arith, few, two_counted (λ (d : Link). d.arc == x.arc) cs j i e c y x b a more o n (eq-eqb y.arc x.arc (sym s)) (eq-eqb x.arc x.arc refl)))
+        | inr (inl less) ↦
+            absurd (omega (arith, few, two_counted (λ (d : Link). d.arc == x.arc) cs i j c e x y a b less n o (eq-eqb x.arc x.arc refl) (eq-eqb y.arc x.arc (sym s))))
+        | inr (inr more) ↦
+            absurd (omega (arith, few, two_counted (λ (d : Link). d.arc == x.arc) cs j i e c y x b a more o n (eq-eqb y.arc x.arc (sym s)) (eq-eqb x.arc x.arc refl)))
       ]
 
   -- ---- a piece at a place

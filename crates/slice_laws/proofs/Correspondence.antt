@@ -92,7 +92,8 @@ module _ (m : BaseMap) (base : is_base m ≡ true) (nodes : (v : Point) → node
         p = row.0;
         at = record {
           stands = record { chain = st.chain; piece = row.1.at };
-          shows = record { segment = row.1.segment; arc = row.1.arc; place = omega (arith, row.1.place); starts = row.1.starts; ends = row.1.ends; last = row.1.last };
+          shows =
+              record { segment = row.1.segment; arc = row.1.arc; place = omega (arith, row.1.place); starts = row.1.starts; ends = row.1.ends; last = row.1.last };
         };
         left = row.1.left;
         right = row.1.right;
@@ -107,7 +108,8 @@ module _ (m : BaseMap) (base : is_base m ≡ true) (nodes : (v : Point) → node
       let g : ℕ → ℕ = label_at (merged m) k in
       let j = among_block (arc_number m.arcs) 0 m.arcs (numbers_lead_all m.arcs) b member in
       let row = of_row _ _ _ 0 _ b j.3 in
-      let border : is_border (merged m) k (arc_number m.arcs j.0) ≡ true = ap not (ne_eqb _ _ (λ e. differ (ap g row.left ∙ e ∙ ap g (sym row.right)))) in
+      let border : is_border (merged m) k (arc_number m.arcs j.0) ≡ true
+      = ap not (ne_eqb _ _ (λ e. differ (ap g row.left ∙ e ∙ ap g (sym row.right)))) in
       let found = border_in_chain (merged m) k cs t j.0 (omega (arith, j.2)) border in
       by found.0 found.1 found.2 found.3 (subst (λ i. Among b (block m i)) (sym found.4) j.3)
     where

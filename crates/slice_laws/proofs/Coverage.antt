@@ -36,7 +36,8 @@ pub border_in_chain : (h : MergedMap) (k : ℕ) (cs : List Chain) → are_chains
     → is_border h k (arc_number h.base.arcs i) ≡ true
     → (c : Chain) × Among c cs × (d : Link) × Among d c × (d.arc ≡ i)
 border_in_chain h k cs t i l b =
-    let listed = among_kept (λ j. is_border h k (arc_number h.base.arcs j)) (range_with_len 0 (length h.base.arcs)) i (range_holds 0 (length h.base.arcs) i (omega arith) (omega arith)) b in
+    let listed =
+    among_kept (λ j. is_border h k (arc_number h.base.arcs j)) (range_with_len 0 (length h.base.arcs)) i (range_holds 0 (length h.base.arcs) i (omega arith) (omega arith)) b in
     let one : count_by (λ (d : Link). d.arc == i) (flat_map (λ c. c) cs) ≡ 1
     = chains_count h k cs t i l ∙ ap (λ b. if b then 1 else 0) (any_from (λ j. j == i) (border_numbers h k) i listed (eq-eqb i i refl)) in
     let found = counted_among (λ (d : Link). d.arc == i) (flat_map (λ c. c) cs) (omega arith) in

@@ -96,7 +96,9 @@ module _ (w : Seg → ℕ → ℕ → ℕ) (mirrored : (s : Seg) (l r : ℕ) →
           → sum_by (λ g. w g (label_at h k (cond t (arc_number h.base.arcs d.arc).right (arc_number h.base.arcs d.arc).left)) (label_at h k (cond t (arc_number h.base.arcs d.arc).left (arc_number h.base.arcs d.arc).right)))
           (path (cond t (reverse (arc_number h.base.arcs d.arc).points) (arc_number h.base.arcs d.arc).points)) ≡ arc_sum (label_at h k)
           (arc_number h.base.arcs d.arc)
-      by true = turned_sum (label_at h k (arc_number h.base.arcs d.arc).left) (label_at h k (arc_number h.base.arcs d.arc).right) (arc_number h.base.arcs d.arc).points
+      by true =
+          turned_sum (label_at h k (arc_number h.base.arcs d.arc).left) (label_at h k (arc_number h.base.arcs d.arc).right)
+          (arc_number h.base.arcs d.arc).points
       by false = refl
 
   -- the segments of a base map with other labels count what its arcs count

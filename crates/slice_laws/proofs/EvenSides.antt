@@ -73,7 +73,8 @@ module _ (m : BaseMap) (base : is_base m ≡ true) (nodes : (v : Point) → node
       → count_by (λ d. left_of (merged m) k d == f) (links_at v 0 m.arcs) ≡ count_by (λ d. right_of (merged m) k d == f) (links_at v 0 m.arcs)
   links_count v f =
       let spoke : Link → Spoke = λ (d : Link). arc_spoke (arc_number m.arcs d.arc) d.turned in
-      let spokes : flat_map (spokes_of v) (base_segments m) ≡ map spoke (links_at v 0 m.arcs) = arc_spokes v (arc_number m.arcs) 0 m.arcs (numbers_lead_all m.arcs) (arcs_have_segments m base) in
+      let spokes : flat_map (spokes_of v) (base_segments m) ≡ map spoke (links_at v 0 m.arcs)
+      = arc_spokes v (arc_number m.arcs) 0 m.arcs (numbers_lead_all m.arcs) (arcs_have_segments m base) in
       let l : Spoke → Bool = λ (s : Spoke). label_at (merged m) k s.left == f in
       let r : Spoke → Bool = λ (s : Spoke). label_at (merged m) k s.right == f in
       sym (sum_by-map (λ s. cond (l s) 1 0) spoke (links_at v 0 m.arcs)) ∙ ap (count_by l) (sym spokes)

@@ -156,5 +156,6 @@ pub members_meet : (segments : List LabelledSegment) → AllPairs AreApart segme
 members_meet segments apart s t i j a b other p d h k = elim (cases_order i j) [
   | inl e ↦ absurd (other e)
   | inr (inl less) ↦ apart_meets s t (places_from_pairs AreApart segments apart i j s t less a b) p d h k
-  | inr (inr more) ↦ (let m = apart_meets t s (places_from_pairs AreApart segments apart j i t s more b a) p d k h in (m.0, m.1, may_meet_turned t s m.0 m.2))
+  | inr (inr more) ↦
+      (let m = apart_meets t s (places_from_pairs AreApart segments apart j i t s more b a) p d k h in (m.0, m.1, may_meet_turned t s m.0 m.2))
 ]

@@ -125,7 +125,8 @@ pub link_listed : (v : Point) (number : ℕ → BaseArc) (i : ℕ) (arcs : List 
 link_listed v number i [] at d low high s = absurd (omega arith)
 link_listed v number i (a ∷ arcs) at d low high s =
     elim (cases_eq i d.arc) [
-      | inl e ↦ among_left (links_of v i a) (links_at v (i + 1) arcs) d (here e d.turned refl (ap (λ (x : BaseArc). arc_start x d.turned) (sym at.0 ∙ ap number e) ∙ s))
+      | inl e ↦
+          among_left (links_of v i a) (links_at v (i + 1) arcs) d (here e d.turned refl (ap (λ (x : BaseArc). arc_start x d.turned) (sym at.0 ∙ ap number e) ∙ s))
       | inr apart ↦ among_right (links_of v i a) (links_at v (i + 1) arcs) d (link_listed v number (i + 1) arcs at.1 d (omega arith) (omega arith) s)
     ]
   where
@@ -183,7 +184,8 @@ ends_are_links v p number i (a ∷ arcs) at =
     = ap length (filter-append q (links_of v i a) (links_at v (i + 1) arcs)) ∙ length-append (filter q (links_of v i a)) (filter q (links_at v (i + 1) arcs)) in
     let here = one_arc_links v p number i a at.0 in
     let rest = ends_are_links v p number (i + 1) arcs at.1 in
-    let sums : sum_by (λ a. if p a then ends_at v a else 0) (a ∷ arcs) ≡ (if p a then ends_at v a else 0) + sum_by (λ a. if p a then ends_at v a else 0) arcs = sum_by-cons (λ a. if p a then ends_at v a else 0) a arcs in
+    let sums : sum_by (λ a. if p a then ends_at v a else 0) (a ∷ arcs) ≡ (if p a then ends_at v a else 0) + sum_by (λ a. if p a then ends_at v a else 0) arcs
+    = sum_by-cons (λ a. if p a then ends_at v a else 0) a arcs in
     omega arith
 
 -- the arcs of a list by their numbers

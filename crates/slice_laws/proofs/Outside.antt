@@ -36,7 +36,8 @@ shared_faces a h =
 
 mergeable_faces : (arcs : List LabelledArc) → AreFaces (mergeable arcs)
 mergeable_faces [] = tt
-mergeable_faces (a ∷ arcs) = faces_append (if is_shared a then a.left ∷ a.right ∷ [] else []) (mergeable arcs) (by (is_shared a) refl) (mergeable_faces arcs)
+mergeable_faces (a ∷ arcs) =
+    faces_append (if is_shared a then a.left ∷ a.right ∷ [] else []) (mergeable arcs) (by (is_shared a) refl) (mergeable_faces arcs)
   where
     by : (b : Bool) → is_shared a ≡ b → AreFaces (if b then a.left ∷ a.right ∷ [] else [])
     by true e = let f = shared_faces a e in (f.0, (f.1, tt))
@@ -91,7 +92,8 @@ next_faces rules classes arcs s e = by (first_by (loses_before rules classes arc
     by : (o : Option ℕ) → first_by (loses_before rules classes arcs) (mergeable arcs) ≡ o
         → ◌≡◌ {A = Option MergeStep} (elim o [ None ↦ None | Some loser ↦ step_against rules classes arcs loser ]) (Some s) → IsOfFaces s
     by None f g = absurd cc
-    by (Some l) f g = against_faces rules classes arcs l s (first_by_face (loses_before rules classes arcs) (mergeable arcs) l (mergeable_faces arcs) f) g
+    by (Some l) f g =
+        against_faces rules classes arcs l s (first_by_face (loses_before rules classes arcs) (mergeable arcs) l (mergeable_faces arcs) f) g
 
 steps_faces : (n : ℕ) (rules : Rules) (classes : List ℕ) (arcs : List LabelledArc) → AreOfFaces (steps_from n rules classes arcs)
 steps_faces zero rules classes arcs = tt

@@ -82,7 +82,10 @@ module _ (m : BaseMap) (k : ℕ) where
       by true e (f, l, row, starts, ends) = record {
         first = l;
         last = f;
-        row = subst (λ (b : Bool). IsRowFrom (IsNextPiece m k) (piece d l) (piece d f) (map (piece d) (cond b (reverse (block m d.arc)) (block m d.arc)))) (sym e)
+        row =
+            subst
+            (λ (b : Bool). IsRowFrom (IsNextPiece m k) (piece d l) (piece d f) (map (piece d) (cond b (reverse (block m d.arc)) (block m d.arc))))
+            (sym e)
             (mapped_row (IsNextPiece m k) (piece d) (λ x y n. inl (refl, ap (λ (b : Bool). cond b (follows y x) (follows x y)) e ∙ n)) (reversed_from row));
         front = ap (λ (b : Bool). cond b l.ends l.starts) e ∙ ends;
         back = ap (λ (b : Bool). cond b f.starts f.ends) e ∙ starts;
@@ -90,7 +93,10 @@ module _ (m : BaseMap) (k : ℕ) where
       by false e (f, l, row, starts, ends) = record {
         first = f;
         last = l;
-        row = subst (λ (b : Bool). IsRowFrom (IsNextPiece m k) (piece d f) (piece d l) (map (piece d) (cond b (reverse (block m d.arc)) (block m d.arc)))) (sym e)
+        row =
+            subst
+            (λ (b : Bool). IsRowFrom (IsNextPiece m k) (piece d f) (piece d l) (map (piece d) (cond b (reverse (block m d.arc)) (block m d.arc))))
+            (sym e)
             (mapped_row (IsNextPiece m k) (piece d) (λ x y n. inl (refl, ap (λ (b : Bool). cond b (follows y x) (follows x y)) e ∙ n)) row);
         front = ap (λ (b : Bool). cond b f.ends f.starts) e ∙ starts;
         back = ap (λ (b : Bool). cond b l.starts l.ends) e ∙ ends;
@@ -130,13 +136,17 @@ module _ (m : BaseMap) (k : ℕ) where
 
   -- no piece stands twice
   pub pieces_distinct : (c : Chain) → AreDistinct c → AreDistinct (pieces m c)
-  pieces_distinct c d = distinct_flat_map (pieces_of m) (λ p. p.link) own c d (λ x n. distinct_map (piece x) (λ s t e. ap (λ (q : Piece). q.base) e) (link_segments m x) (by x x.turned))
+  pieces_distinct c d =
+      distinct_flat_map (pieces_of m) (λ p. p.link) own c d
+      (λ x n. distinct_map (piece x) (λ s t e. ap (λ (q : Piece). q.base) e) (link_segments m x) (by x x.turned))
     where
       own : (x : Link) (p : Piece) → Among p (pieces_of m x) → p.link ≡ x
       own x p n = let s = map_among (piece x) (link_segments m x) p n in sym (ap (λ (q : Piece). q.link) s.2)
 
       by : (x : Link) (t : Bool) → AreDistinct (cond t (reverse (block m x.arc)) (block m x.arc))
-      by x true = distinct_reverse (block m x.arc) (row_distinct x.arc (arc_number m.arcs x.arc).left (arc_number m.arcs x.arc).right 0 (arc_number m.arcs x.arc).points)
+      by x true =
+          distinct_reverse (block m x.arc)
+          (row_distinct x.arc (arc_number m.arcs x.arc).left (arc_number m.arcs x.arc).right 0 (arc_number m.arcs x.arc).points)
       by x false = row_distinct x.arc (arc_number m.arcs x.arc).left (arc_number m.arcs x.arc).right 0 (arc_number m.arcs x.arc).points
 
 -- ---- how they are shown
@@ -149,7 +159,9 @@ row_path i l r place (a ∷ b ∷ points) = ap (λ ss. record { a = a; b = b } �
 
 map_reverse : {A B : Type 0} (f : A → B) (xs : List A) → map f (reverse xs) ≡ reverse (map f xs)
 map_reverse f [] = refl
-map_reverse f (x ∷ xs) = ap (map f) (reverse_cons x xs) ∙ map-append f (reverse xs) (x ∷ []) ∙ ap (λ ys. ys ++ f x ∷ []) (map_reverse f xs) ∙ sym (reverse_cons (f x) (map f xs))
+map_reverse f (x ∷ xs) =
+    ap (map f) (reverse_cons x xs) ∙ map-append f (reverse xs) (x ∷ []) ∙ ap (λ ys. ys ++ f x ∷ []) (map_reverse f xs)
+    ∙ sym (reverse_cons (f x) (map f xs))
 
 module _ (m : BaseMap) where
   shown_link : (d : Link) → map shown (pieces_of m d) ≡ path (link_points m.arcs d)

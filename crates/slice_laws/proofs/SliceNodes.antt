@@ -39,7 +39,8 @@ module _ (m : BaseMap) (base : is_base m ≡ true) (planar : IsPartition (base_s
   -- ---- segments of the slice lie between two different points within the limits
 
   proper_base : (b : LabelledSegment) → Among b (base_segments m) → is_proper b ≡ true
-  proper_base b n = members_all (λ s. is_proper s ≡ true) (base_segments m) b (AllPass-from_list_all is_proper (base_segments m) (proper_segments m base)) n
+  proper_base b n =
+      members_all (λ s. is_proper s ≡ true) (base_segments m) b (AllPass-from_list_all is_proper (base_segments m) (proper_segments m base)) n
 
   -- the two points differ
   shown_points : {i n : ℕ} {c : Chain} {p : Piece} → StandsAt m base k cs t i n c p → (shown p).a ≢ (shown p).b
@@ -194,13 +195,15 @@ module _ (m : BaseMap) (base : is_base m ≡ true) (planar : IsPartition (base_s
     back_ends f b l = elim (cases_eq i j) [
       | inr other ↦ elim (after_back m base k cs t x f) [
         | inl w ↦ w
-        | inr (r, there, way, front) ↦ absurd (no_next (after_first m base k cs t x y (λ g w. other g) v f b l r there way front (edge_side y v ends)))
+        | inr (r, there, way, front) ↦
+            absurd (no_next (after_first m base k cs t x y (λ g w. other g) v f b l r there way front (edge_side y v ends)))
       ]
       | inl same ↦ elim (cases_eq n o) [
         | inl g ↦ ends_there same g b
         | inr other ↦ elim (after_back m base k cs t x f) [
           | inl w ↦ w
-          | inr (r, there, way, front) ↦ absurd (no_next (after_first m base k cs t x y (λ g w. other w) v f b l r there way front (edge_side y v ends)))
+          | inr (r, there, way, front) ↦
+              absurd (no_next (after_first m base k cs t x y (λ g w. other w) v f b l r there way front (edge_side y v ends)))
         ]
       ]
     ]

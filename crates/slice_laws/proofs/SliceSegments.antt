@@ -50,7 +50,8 @@ pub path_rows : (key l r place : ℕ) (points : List Point) → path_segments ke
 path_rows key l r place [] = refl
 path_rows key l r place (a ∷ []) = refl
 path_rows key l r place (a ∷ b ∷ []) = refl
-path_rows key l r place (a ∷ b ∷ c ∷ points) = ap (λ ss. row_of key l r place (record { a = a; b = b }) false ∷ ss) (path_rows key l r (place + 1) (b ∷ c ∷ points))
+path_rows key l r place (a ∷ b ∷ c ∷ points) =
+    ap (λ ss. row_of key l r place (record { a = a; b = b }) false ∷ ss) (path_rows key l r (place + 1) (b ∷ c ∷ points))
 
 -- what is known of a segment of a row that shows pieces
 pub record IsInRow (key l r first : ℕ) (ps : List Piece) (n : ℕ) (p : Piece) (s : LabelledSegment) : Type 0 where
@@ -164,7 +165,8 @@ module _ (m : BaseMap) (base : is_base m ≡ true) (k : ℕ) (cs : List Chain) (
         p = r.0;
         at = record {
           stands = record { chain = f.3; piece = r.1.at };
-          shows = record { segment = r.1.segment; arc = r.1.arc; place = omega (arith, r.1.place); starts = r.1.starts; ends = r.1.ends; last = r.1.last };
+          shows =
+              record { segment = r.1.segment; arc = r.1.arc; place = omega (arith, r.1.place); starts = r.1.starts; ends = r.1.ends; last = r.1.last };
         };
         left = r.1.left;
         right = r.1.right;
@@ -199,6 +201,7 @@ flat_map_at f (y ∷ xs) zero x o z a b =
     let e : o ≡ 0 + o = omega arith in
     subst (λ n. At (flat_map f (y ∷ xs)) n z) e (at_left (f y) (flat_map f xs) o z (subst (λ w. At (f w) o z) (sym a) b))
 flat_map_at f (y ∷ xs) (suc i) x o z a b =
-    let e : length (f y) + (length (flat_map f (take i xs)) + o) ≡ length (f y ++ flat_map f (take i xs)) + o = omega (arith, length-append (f y) (flat_map f (take i xs))) in
+    let e : length (f y) + (length (flat_map f (take i xs)) + o) ≡ length (f y ++ flat_map f (take i xs)) + o
+    = omega (arith, length-append (f y) (flat_map f (take i xs))) in
     subst (λ n. At (flat_map f (y ∷ xs)) n z) e
     (at_right (f y) (flat_map f xs) (length (flat_map f (take i xs)) + o) z (flat_map_at f xs i x o z a b))

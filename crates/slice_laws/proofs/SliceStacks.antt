@@ -151,7 +151,8 @@ module _ (m : BaseMap) (base : is_base m ≡ true) (planar : IsPartition (base_s
   -- a segment that the line crosses is a member of the stack, and no other one is
   in_stack : (segments : List LabelledSegment) (n : ℕ) (s : LabelledSegment) → At segments n s → crosses l s.segment ≡ true
       → Contains (stack l segments) s
-  in_stack segments n s a c = Contains-sort_by (higher l) (filter (crossed l) segments) s (Contains-filter (crossed l) segments s (contains_at segments n s a) c)
+  in_stack segments n s a c =
+      Contains-sort_by (higher l) (filter (crossed l) segments) s (Contains-filter (crossed l) segments s (contains_at segments n s a) c)
 
   from_stack : (segments : List LabelledSegment) (s : LabelledSegment) → Contains (stack l segments) s
       → (n : ℕ) × At segments n s × (crosses l s.segment ≡ true)

@@ -116,7 +116,8 @@ module _ (m : BaseMap) (base : is_base m ≡ true) (k : ℕ) (cs : List Chain) (
         → (IsFront q × ((shown q).a ≡ v) × (link_start m.arcs q.link ≡ v)) ⊎ (IsBack q × ((shown q).b ≡ v) × (link_end m.arcs q.link ≡ v))
         → (c ≡ e) × (o ≡ suc n) × ((shown p).b ≡ v) × ((shown q).a ≡ v)
     after_first v back at end r there way front (inl (fq, aq, sq)) =
-        let on : IsWayOn (merged m) k p.link q.link = record { from = border_p; to = border_q; meets = end ∙ sym sq; two = way.two; apart = unturned } in
+        let on : IsWayOn (merged m) k p.link q.link
+        = record { from = border_p; to = border_q; meets = end ∙ sym sq; two = way.two; apart = unturned } in
         let same = one_place m base k cs t there y.stands (front_once m base k cs t there y.stands (way_on_only way on) front fq) in
         (same.1, sym same.2, at, aq)
     after_first v back at end r there way front (inr (bq, aq, eq)) =
@@ -184,7 +185,9 @@ module _ (m : BaseMap) (base : is_base m ≡ true) (k : ℕ) (cs : List Chain) (
   between {p = p} {q = q} {s = s} {u = u} x y apart v (f, a, b) = by p.link.turned refl
     where
       arcs : p.link.arc ≡ q.link.arc
-      arcs = sym (of_row _ _ _ 0 _ p.base (base_of m base k cs t x.stands)).arc ∙ eqb-true _ _ (and_parts (p.base.arc == q.base.arc) (p.base.place + 1 == q.base.place) f).0
+      arcs =
+          sym (of_row _ _ _ 0 _ p.base (base_of m base k cs t x.stands)).arc
+          ∙ eqb-true _ _ (and_parts (p.base.arc == q.base.arc) (p.base.place + 1 == q.base.place) f).0
           ∙ (of_row _ _ _ 0 _ q.base (base_of m base k cs t y.stands)).arc
 
       link : p.link ≡ q.link

@@ -61,7 +61,8 @@ no_gap_between p q i j e = by (p.left == q.right) refl e
     by false f e = absurd cc
 
 none_between : (p q : Spoke) (i j : ℕ) → p.left ≡ q.right → gap_between p i q j ≡ None
-none_between p q i j e = ap (λ (b : Bool). if b then None else Some (record { node = p.node; spoke = i; next = j; left = p.left; right = q.right })) (eq-eqb _ _ e)
+none_between p q i j e =
+    ap (λ (b : Bool). if b then None else Some (record { node = p.node; spoke = i; next = j; left = p.left; right = q.right })) (eq-eqb _ _ e)
 
 no_first_gap : (o later : Option NodeGap) → or_gap o later ≡ None → (o ≡ None) × (later ≡ None)
 no_first_gap None later e = (refl, e)
@@ -133,8 +134,12 @@ ring_has_spoke segments v q (n, s, a, e) =
   where
     by : ((s.starts ≡ true) × (s.segment.a ≡ v) × (spoke s.segment.a s.segment.b s.left s.right ≡ q))
         ⊎ ((s.ends ≡ true) × (s.segment.b ≡ v) × (spoke s.segment.b s.segment.a s.right s.left ≡ q)) → Among q (spokes_from s)
-    by (inl (x, w, f)) = among_left (if s.starts then spoke s.segment.a s.segment.b s.left s.right ∷ [] else []) _ q (subst (λ y. Among y (if s.starts then spoke s.segment.a s.segment.b s.left s.right ∷ [] else [])) f (if_among s.starts _ x))
-    by (inr (x, w, f)) = among_right (if s.starts then spoke s.segment.a s.segment.b s.left s.right ∷ [] else []) _ q (subst (λ y. Among y (if s.ends then spoke s.segment.b s.segment.a s.right s.left ∷ [] else [])) f (if_among s.ends _ x))
+    by (inl (x, w, f)) =
+        among_left (if s.starts then spoke s.segment.a s.segment.b s.left s.right ∷ [] else []) _ q
+        (subst (λ y. Among y (if s.starts then spoke s.segment.a s.segment.b s.left s.right ∷ [] else [])) f (if_among s.starts _ x))
+    by (inr (x, w, f)) =
+        among_right (if s.starts then spoke s.segment.a s.segment.b s.left s.right ∷ [] else []) _ q
+        (subst (λ y. Among y (if s.ends then spoke s.segment.b s.segment.a s.right s.left ∷ [] else [])) f (if_among s.ends _ x))
 
     node : ((s.starts ≡ true) × (s.segment.a ≡ v) × (spoke s.segment.a s.segment.b s.left s.right ≡ q))
         ⊎ ((s.ends ≡ true) × (s.segment.b ≡ v) × (spoke s.segment.b s.segment.a s.right s.left ≡ q)) → q.node ≡ v
