@@ -19,7 +19,7 @@ next_places : (arc p q : ℕ) → q ≡ p + 1 → ((arc == arc) && (p + 1 == q))
 next_places arc p q e = and_from _ _ (eq-eqb arc arc refl) (eq-eqb (p + 1) q (sym e))
 
 -- the segments of a row of points are a row from the first one to the last one
-pub row_block : (i l r place : ℕ) (a b : Point) (points : List Point)
+row_block : (i l r place : ℕ) (a b : Point) (points : List Point)
     → (last : LabelledSegment) × IsRowFrom IsNext (row_of i l r place (record { a = a; b = b }) (is_empty points)) last (path_segments i l r place (a ∷ b ∷ points)) × (last.ends ≡ true)
 row_block i l r place a b [] =
     let s : LabelledSegment = row_of i l r place (record { a = a; b = b }) true in

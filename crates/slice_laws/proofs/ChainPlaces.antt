@@ -16,7 +16,7 @@ use Rattle.map_laws.proofs.ChainLinks.{chains_count, chains_within, chains_whole
 use Rattle.slice_laws.proofs.BaseParts.{arc_has_segment}
 use Rattle.slice_laws.proofs.Places.{At, at_among, at_only, at_once, is_row, next_at, at_last}
 use Rattle.slice_laws.proofs.Blocks.{of_row, one_start, one_end, end_greatest, place_once}
-use Rattle.slice_laws.proofs.Pieces.{Piece, piece, IsFront, IsBack, block, pieces, IsNextPiece, ArePieces, chain_pieces, piece_from, pieces_distinct}
+use Rattle.slice_laws.proofs.Pieces.{IsNextInLink, Piece, piece, IsFront, IsBack, block, pieces, IsNextPiece, ArePieces, chain_pieces, piece_from, pieces_distinct}
 
 -- members of two lists at different places that pass a test are counted twice
 two_counted : {A : Type 0} (p : A → Bool) (xss : List (List A)) (i j : ℕ) (xs ys : List A) (x y : A) → At xss i xs → At xss j ys → i < j → Among x xs
@@ -49,7 +49,7 @@ module _ (m : BaseMap) (base : is_base m ≡ true) (k : ℕ) (cs : List Chain) (
     pub once : (x y : Link) → Among x c → Among y c → x.arc ≡ y.arc → x ≡ y
     pub border : (x : Link) → Among x c → IsBorderLink (merged m) k x
 
-  pub known_chain : (c : Chain) → Among c cs → IsKnownChain c
+  known_chain : (c : Chain) → Among c cs → IsKnownChain c
   known_chain c n =
       let w = chains_whole (merged m) k cs t c n in
       subst IsKnownChain (sym w.2) (record {
@@ -62,7 +62,7 @@ module _ (m : BaseMap) (base : is_base m ≡ true) (k : ℕ) (cs : List Chain) (
       })
 
   -- chains that share an arc stand at one place
-  pub same_chain : (i j : ℕ) (c e : Chain) (x y : Link) → At cs i c → At cs j e → Among x c → Among y e → x.arc ≡ y.arc → (i ≡ j) × (c ≡ e)
+  same_chain : (i j : ℕ) (c e : Chain) (x y : Link) → At cs i c → At cs j e → Among x c → Among y e → x.arc ≡ y.arc → (i ≡ j) × (c ≡ e)
   same_chain i j c e x y a b n o s = (place, at_only cs j c e (subst (λ n. At cs n c) place a) b)
     where
       within : x.arc < length m.arcs
@@ -147,7 +147,7 @@ module _ (m : BaseMap) (base : is_base m ≡ true) (k : ℕ) (cs : List Chain) (
       omega arith
 
   pub front_first : (p q : Piece) → p.link ≡ q.link → Among p.base (block m p.link.arc) → Among q.base (block m q.link.arc) → IsFront q
-      → cond p.link.turned (follows q.base p.base) (follows p.base q.base) ≡ true → ⊥
+      → IsNextInLink p q → ⊥
   front_first p q f x y u v =
       by p.link.turned x (subst (λ (d : Link). Among q.base (block m d.arc)) (sym f) y) (subst (λ (d : Link). cond d.turned q.base.ends q.base.starts ≡ true) (sym f) u) v
     where
@@ -157,7 +157,7 @@ module _ (m : BaseMap) (base : is_base m ≡ true) (k : ℕ) (cs : List Chain) (
       by false x y u v = starts_none p.link.arc q.base p.base y x u v
 
   pub back_last : (p q : Piece) → p.link ≡ q.link → Among p.base (block m p.link.arc) → Among q.base (block m q.link.arc) → IsBack p
-      → cond p.link.turned (follows q.base p.base) (follows p.base q.base) ≡ true → ⊥
+      → IsNextInLink p q → ⊥
   back_last p q f x y u v =
       by p.link.turned x (subst (λ (d : Link). Among q.base (block m d.arc)) (sym f) y) u v
     where
@@ -168,8 +168,8 @@ module _ (m : BaseMap) (base : is_base m ≡ true) (k : ℕ) (cs : List Chain) (
 
   -- two pieces that follow the same one in a link are one
   follow_once : (p q r : Piece) → p.link ≡ q.link → p.link ≡ r.link → Among q.base (block m q.link.arc) → Among r.base (block m r.link.arc)
-      → cond p.link.turned (follows q.base p.base) (follows p.base q.base) ≡ true
-      → cond p.link.turned (follows r.base p.base) (follows p.base r.base) ≡ true → q ≡ r
+      → IsNextInLink p q
+      → IsNextInLink p r → q ≡ r
   follow_once p q r f g y z u v =
       piece_same q r (sym f ∙ g)
       (by p.link.turned (subst (λ (d : Link). Among q.base (block m d.arc)) (sym f) y) (subst (λ (d : Link). Among r.base (block m d.arc)) (sym g) z) u v)
@@ -185,7 +185,7 @@ module _ (m : BaseMap) (base : is_base m ≡ true) (k : ℕ) (cs : List Chain) (
 
   -- a piece that follows another one in their link stands at the next place
   pub follows_at : {i n j o : ℕ} {c e : Chain} {p q : Piece} → StandsAt i n c p → StandsAt j o e q → p.link ≡ q.link
-      → cond p.link.turned (follows q.base p.base) (follows p.base q.base) ≡ true → (c ≡ e) × (o ≡ suc n)
+      → IsNextInLink p q → (c ≡ e) × (o ≡ suc n)
   follows_at {i} {n} {j} {o} {c} {e} {p} {q} s u f v =
       elim (next_at (IsNextPiece m k) (pieces m c) n p (is_row (known_of s).are.row) s.piece) [
         | inl last ↦

@@ -37,7 +37,7 @@ without_none [] = refl
 without_none (p ∷ points) = ap (λ ps. p ∷ ps) (without_none points)
 
 -- a row of one relation is a row of a weaker one
-pub row_weaker : {A : Type 0} (R S : A → A → Type 0) → ((x y : A) → R x y → S x y) → (xs : List A) → IsRow R xs → IsRow S xs
+row_weaker : {A : Type 0} (R S : A → A → Type 0) → ((x y : A) → R x y → S x y) → (xs : List A) → IsRow R xs → IsRow S xs
 row_weaker R S h [] r = tt
 row_weaker R S h (x ∷ []) r = tt
 row_weaker R S h (x ∷ y ∷ ys) r = (h x y r.0, row_weaker R S h (y ∷ ys) r.1)
@@ -56,10 +56,6 @@ pub chain_meets : (m : BaseMap) (k : ℕ) (d : Link) (chain : List Link) → IsW
 chain_meets m k d chain w = row_weaker (IsWayOn (merged m) k) (Meets m.arcs) (λ x y u. u.meets) (d ∷ chain) w.row
 
 module _ (w : Seg → ℕ → ℕ → ℕ) (mirrored : (s : Seg) (l r : ℕ) → w (flip s) r l ≡ w s l r) where
-  -- what a labelled segment counts
-  abbrev pub weight : LabelledSegment → ℕ
-  weight s = w s.segment s.left s.right
-
   -- what a row of points counts
   row_sum : (i l r place : ℕ) (points : List Point)
       → sum_by (λ s. w s.segment s.left s.right) (path_segments i l r place points) ≡ sum_by (λ g. w g l r) (path points)

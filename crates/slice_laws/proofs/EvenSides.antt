@@ -32,10 +32,10 @@ turned_choice g false a b = refl
 
 module _ (h : MergedMap) (k : ℕ) where
   -- a link turned round has its faces exchanged
-  pub turn_left : (d : Link) → left_of h k (turn d) ≡ right_of h k d
+  turn_left : (d : Link) → left_of h k (turn d) ≡ right_of h k d
   turn_left d = turned_choice (label_at h k) d.turned (arc_number h.base.arcs d.arc).right (arc_number h.base.arcs d.arc).left
 
-  pub turn_right : (d : Link) → right_of h k (turn d) ≡ left_of h k d
+  turn_right : (d : Link) → right_of h k (turn d) ≡ left_of h k d
   turn_right d = turned_choice (label_at h k) d.turned (arc_number h.base.arcs d.arc).left (arc_number h.base.arcs d.arc).right
 
   -- its faces are one exactly where its arc borders none
@@ -131,7 +131,7 @@ module _ (m : BaseMap) (base : is_base m ≡ true) (nodes : (v : Point) → node
 
 module _ (m : BaseMap) (base : is_base m ≡ true) (nodes : (v : Point) → node_fault (base_segments m) v ≡ None) (k : ℕ) where
   -- the links of a whole chain have the faces of its least arc, which has the direction of the chain
-  pub chain_faces : (d : Link) (chain : Chain) → IsWholeChain (merged m) k d chain → (removals : List Removal)
+  chain_faces : (d : Link) (chain : Chain) → IsWholeChain (merged m) k d chain → (removals : List Removal)
       → KeepsFaces (merged m) k removals (d ∷ chain)
   chain_faces d chain w removals =
       let first = key_among d chain in

@@ -1,8 +1,8 @@
 -- The laws of slices on a worked map: four squares round one node, after two steps an upper half and a lower one.
-use Rattle.std.proofs.Common.{◌≡◌, ℕ, true, false, pos, List, [], ◌∷◌, refl, None}
+use Rattle.std.proofs.Common.{◌≡◌, true, false, pos, refl, None}
 use Rattle.std.specs.List.{list_any}
 use Rattle.tgap_model.specs.declared.geometry.Fraction.{Fraction}
-use Rattle.tgap_model.specs.Base.{BaseMap, is_transform, is_rules, is_arc, is_base}
+use Rattle.tgap_model.specs.Base.{is_transform, is_rules, is_arc, is_base}
 use Rattle.tgap_model.specs.Segment.{any_common, common_point, turns_before, is_higher, is_above}
 use Rattle.tgap_model.specs.Partition.{base_segments, edge_segments, arc_fault, map_fault, IsPartition}
 use Rattle.tgap_model.specs.Inside.{is_inside}
@@ -13,7 +13,6 @@ use Rattle.tgap_model.specs.Removals.{removals_to, sweep}
 use Rattle.tgap_model.specs.Records.{is_edge_between}
 use Rattle.tgap_model.specs.Slice.{IsSlice, slice}
 use Rattle.map_laws.proofs.Examples.{four_squares}
-use Rattle.slice_laws.specs.SliceLaws.{IsInsideBaseFace}
 use Rattle.slice_laws.proofs.EvenSides.{slices_are_slices}
 use Rattle.slice_laws.proofs.SlicesPlanar.{slices_are_partitions}
 use Rattle.slice_laws.proofs.Sound.{partition_from_no_fault}

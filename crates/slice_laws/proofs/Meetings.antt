@@ -60,7 +60,7 @@ may_meet_turned s t v (inr (inl e)) = inr (inr e)
 may_meet_turned s t v (inr (inr e)) = inr (inl e)
 
 -- a permitted point is one at which they may meet
-pub permitted_meets : (s t : LabelledSegment) (p : Fraction) → is_permitted (shared_ends s t) s.segment t.segment p ≡ true
+permitted_meets : (s t : LabelledSegment) (p : Fraction) → is_permitted (shared_ends s t) s.segment t.segment p ≡ true
     → (v : Point) × (is_at p v ≡ true) × MayMeet s t v
 permitted_meets s t p h = elim (or_cases ((aa || ab) && is_at p s.segment.a) ((ba || bb) && is_at p s.segment.b) h) [
   | inl e ↦ (let both = and_parts (aa || ab) (is_at p s.segment.a) e in (s.segment.a, both.1, at_first (or_cases aa ab both.0)))
@@ -106,7 +106,7 @@ permitted_meets s t p h = elim (or_cases ((aa || ab) && is_at p s.segment.a) ((b
         inl (inr (y.1, refl), inr (x.1, sym (same_point-true _ _ y.0)))
 
 -- and a point at which they may meet is permitted
-pub meets_permitted : (s t : LabelledSegment) (p : Fraction) (v : Point) → is_at p v ≡ true → MayMeet s t v
+meets_permitted : (s t : LabelledSegment) (p : Fraction) (v : Point) → is_at p v ≡ true → MayMeet s t v
     → is_permitted (shared_ends s t) s.segment t.segment p ≡ true
 meets_permitted s t p v at m = by m
   where

@@ -48,7 +48,7 @@ one_direction l s h = by (goes_right s) refl (goes_right (flip s)) refl
     by false e false f = absurd (upright (one_abscissa s.a.x s.b.x (int_lt-false s.a.x s.b.x e) (int_lt-false s.b.x s.a.x f)))
 
 -- so it has one direction to the right
-pub rightward_flip : (l : Line) (s : Seg) → crosses l s ≡ true → rightward (flip s) ≡ rightward s
+rightward_flip : (l : Line) (s : Seg) → crosses l s ≡ true → rightward (flip s) ≡ rightward s
 rightward_flip l s h = ap (λ (b : Bool). cond b (flip s) s) (one_direction l s h) ∙ by (goes_right s)
   where
     by : (b : Bool) → cond (not b) (flip s) s ≡ cond b s (flip s)

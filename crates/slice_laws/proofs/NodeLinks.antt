@@ -29,7 +29,7 @@ row_spokes v l r starts a b points =
     (if starts && same_point a v then record { toward = b; left = l; right = r } ∷ [] else [])
     ++ (if same_point (last_point (a ∷ b ∷ points)) v then record { toward = next_to_last (a ∷ b ∷ points); left = r; right = l } ∷ [] else [])
 
-pub path_spokes : (v : Point) (i l r place : ℕ) (a b : Point) (points : List Point)
+path_spokes : (v : Point) (i l r place : ℕ) (a b : Point) (points : List Point)
     → flat_map (spokes_of v) (path_segments i l r place (a ∷ b ∷ points)) ≡ row_spokes v l r (place == 0) a b points
 path_spokes v i l r place a b [] = append-nil _
 path_spokes v i l r place a b (c ∷ points) =
@@ -189,7 +189,7 @@ ends_are_links v p number i (a ∷ arcs) at =
     omega arith
 
 -- the arcs of a list by their numbers
-pub numbers_lead : (all arcs : List BaseArc) (i : ℕ) → ((j : ℕ) (d : BaseArc) → j < length arcs → arc_number all (i + j) ≡ get_or arcs j d)
+numbers_lead : (all arcs : List BaseArc) (i : ℕ) → ((j : ℕ) (d : BaseArc) → j < length arcs → arc_number all (i + j) ≡ get_or arcs j d)
     → AreNumbers (arc_number all) i arcs
 numbers_lead all [] i h = tt
 numbers_lead all (a ∷ arcs) i h = (

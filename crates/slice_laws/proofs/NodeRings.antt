@@ -28,7 +28,7 @@ no_fault_next : (b : Bool) (rest : Option MapFault) (fault : MapFault) → ◌�
 no_fault_next true rest fault e = (refl, e)
 no_fault_next false rest fault e = absurd cc
 
-pub ring_agrees : (v : Point) (first : Spoke) (i : ℕ) (p : Spoke) (spokes : List Spoke) → ring_fault v first i (p ∷ spokes) ≡ None
+ring_agrees : (v : Point) (first : Spoke) (i : ℕ) (p : Spoke) (spokes : List Spoke) → ring_fault v first i (p ∷ spokes) ≡ None
     → IsRing first.right p spokes
 ring_agrees v first i p [] e = eqb-true _ _ (no_fault_last (p.left == first.right) _ e)
 ring_agrees v first i p (q ∷ spokes) e =
@@ -42,12 +42,6 @@ same_test : (f a b : ℕ) → a ≡ b → cond {A = ℕ} (a == f) 1 0 ≡ cond (
 same_test f a b e = ap (λ (x : ℕ). cond {A = ℕ} (x == f) 1 0) e
 
 module _ (g : ℕ → ℕ) (f : ℕ) where
-  at_left : Spoke → Bool
-  at_left s = g s.left == f
-
-  at_right : Spoke → Bool
-  at_right s = g s.right == f
-
   ring_counts : (r : ℕ) (p : Spoke) (spokes : List Spoke) → IsRing r p spokes
       → count_by (λ s. g s.left == f) (p ∷ spokes) + cond (g p.right == f) 1 0 ≡ count_by (λ s. g s.right == f) (p ∷ spokes) + cond (g r == f) 1 0
   ring_counts r p [] e =

@@ -27,7 +27,7 @@ has_point (p ∷ points) e = tt
 -- ---- joined rows
 
 -- the segments of two rows of which the second begins where the first ends
-pub path_joined : (ps qs : List Point) → HasPoint ps → HasPoint qs → last_point ps ≡ first_point qs → path (ps ++ drop 1 qs) ≡ path ps ++ path qs
+path_joined : (ps qs : List Point) → HasPoint ps → HasPoint qs → last_point ps ≡ first_point qs → path (ps ++ drop 1 qs) ≡ path ps ++ path qs
 path_joined [] qs h g e = absurd h
 path_joined (p ∷ ps) [] h g e = absurd g
 path_joined (p ∷ []) (q ∷ qs) h g e = ap (λ x. path (x ∷ qs)) e
@@ -52,7 +52,7 @@ last_after [] p = refl
 last_after (q ∷ []) p = refl
 last_after (q ∷ r ∷ ps) p = last_after (r ∷ ps) p
 
-pub reverse_last : (p : Point) (ps : List Point) → last_point (reverse (p ∷ ps)) ≡ p
+reverse_last : (p : Point) (ps : List Point) → last_point (reverse (p ∷ ps)) ≡ p
 reverse_last p ps = ap last_point (reverse_cons p ps) ∙ last_after (reverse ps) p
 
 after_has_point : (ps : List Point) (p : Point) → HasPoint (ps ++ p ∷ [])
@@ -63,7 +63,7 @@ reverse_has_point : (ps : List Point) → HasPoint ps → HasPoint (reverse ps)
 reverse_has_point [] h = absurd h
 reverse_has_point (p ∷ ps) h = subst HasPoint (sym (reverse_cons p ps)) (after_has_point (reverse ps) p)
 
-pub reverse_first : (ps : List Point) → HasPoint ps → first_point (reverse ps) ≡ last_point ps
+reverse_first : (ps : List Point) → HasPoint ps → first_point (reverse ps) ≡ last_point ps
 reverse_first [] h = absurd h
 reverse_first (p ∷ []) h = refl
 reverse_first (p ∷ q ∷ ps) h =

@@ -12,7 +12,7 @@ use Rattle.tgap_model.specs.Base.{BaseMap}
 use Rattle.tgap_model.specs.Partition.{path_segments, follows}
 use Rattle.tgap_model.specs.Merged.{merged}
 use Rattle.tgap_model.specs.Removals.{path}
-use Rattle.tgap_model.specs.Chains.{Link, Chain, arc_number, link_points}
+use Rattle.tgap_model.specs.Chains.{Link, Chain, arc_number, link_points, link_start, link_end}
 use Rattle.map_laws.proofs.ChainMembers.{Among, AreDistinct}
 use Rattle.map_laws.proofs.ChainWalks.{IsRow, last_of}
 use Rattle.map_laws.proofs.ChainEnds.{IsWayOn}
@@ -40,6 +40,15 @@ IsFront p = cond p.link.turned p.base.ends p.base.starts ≡ true
 abbrev pub IsBack : Piece → Type 0
 IsBack p = cond p.link.turned p.base.starts p.base.ends ≡ true
 
+-- it stands at the front of its link, with its first point at v, or at the back with its last point there
+abbrev pub IsAtSide : BaseMap → Piece → Point → Type 0
+IsAtSide m p v =
+    (IsFront p × ((shown p).a ≡ v) × (link_start m.arcs p.link ≡ v)) ⊎ (IsBack p × ((shown p).b ≡ v) × (link_end m.arcs p.link ≡ v))
+
+-- the segment of the second follows that of the first in the direction of a link
+abbrev pub IsNextInLink : Piece → Piece → Type 0
+IsNextInLink p q = cond p.link.turned (follows q.base p.base) (follows p.base q.base) ≡ true
+
 -- the segments of an arc
 abbrev pub block : BaseMap → ℕ → List LabelledSegment
 block m i = path_segments i (arc_number m.arcs i).left (arc_number m.arcs i).right 0 (arc_number m.arcs i).points
@@ -58,7 +67,7 @@ pieces m c = flat_map (pieces_of m) c
 -- the next piece: of the same link, or of its way on
 abbrev pub IsNextPiece : BaseMap → ℕ → Piece → Piece → Type 0
 IsNextPiece m k p q =
-    ((p.link ≡ q.link) × (cond p.link.turned (follows q.base p.base) (follows p.base q.base) ≡ true))
+    ((p.link ≡ q.link) × IsNextInLink p q)
     ⊎ (IsWayOn (merged m) k p.link q.link × IsBack p × IsFront q)
 
 -- a row of pieces from the front of a link to the back of another one

@@ -80,7 +80,7 @@ module _ {A : Type 0} (R : A → A → Type 0) where
   ]
 
   -- two rows of which the last of the first stands in the relation to the first of the second
-  pub row_append : (x : A) (xs : List A) (y : A) (ys : List A) → IsRow R (x ∷ xs) → IsRow R (y ∷ ys) → R (last_of x xs) y
+  row_append : (x : A) (xs : List A) (y : A) (ys : List A) → IsRow R (x ∷ xs) → IsRow R (y ∷ ys) → R (last_of x xs) y
       → IsRow R ((x ∷ xs) ++ y ∷ ys)
   row_append x [] y ys r s u = (u, s)
   row_append x (z ∷ zs) y ys r s u = (r.0, row_append z zs y ys r.1 s u)
@@ -111,7 +111,7 @@ joined_rows {A} {R} {a} {b} {c} {d} {xs} {ys} p q u = record {
 }
 
 -- turned round
-pub reversed_row : {A : Type 0} (R : A → A → Type 0) (x : A) (xs : List A) → IsRow R (x ∷ xs)
+reversed_row : {A : Type 0} (R : A → A → Type 0) (x : A) (xs : List A) → IsRow R (x ∷ xs)
     → IsRowFrom (λ a b. R b a) (last_of x xs) x (reverse (x ∷ xs))
 reversed_row R x [] r = record { head = x; tail = []; is = refl; begins = refl; ends = refl; row = tt }
 reversed_row {A} R x (y ∷ ys) r =
@@ -141,7 +141,7 @@ mapped_row {A} {B} {R} S f keeps {a} {b} {xs} p = record {
 
 -- ---- distinct members
 
-pub distinct_append : {A : Type 0} (xs ys : List A) → AreDistinct xs → AreDistinct ys → ((x : A) → Among x xs → Among x ys → ⊥)
+distinct_append : {A : Type 0} (xs ys : List A) → AreDistinct xs → AreDistinct ys → ((x : A) → Among x xs → Among x ys → ⊥)
     → AreDistinct (xs ++ ys)
 distinct_append [] ys d e apart = e
 distinct_append (x ∷ xs) ys d e apart = (

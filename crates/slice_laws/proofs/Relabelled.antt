@@ -15,7 +15,7 @@ abbrev pub with_labels : (ℕ → ℕ) → LabelledSegment → LabelledSegment
 with_labels g s = record s { left = g s.left; right = g s.right }
 
 -- a filter of what a map makes
-pub filter-of_map : {A B : Type 0} (p : B → Bool) (f : A → B) (xs : List A) → filter p (map f xs) ≡ map f (filter (λ x. p (f x)) xs)
+filter-of_map : {A B : Type 0} (p : B → Bool) (f : A → B) (xs : List A) → filter p (map f xs) ≡ map f (filter (λ x. p (f x)) xs)
 filter-of_map p f [] = refl
 filter-of_map p f (x ∷ xs) = by (p (f x)) (filter-of_map p f xs)
   where
@@ -31,9 +31,6 @@ other_sides g s = record { upper = g s.upper; lower = g s.lower }
 pub sides_with_labels : (g : ℕ → ℕ) (s : LabelledSegment) → sides (with_labels g s) ≡ other_sides g (sides s)
 sides_with_labels g s = by (goes_right s.segment)
   where
-    choose : Bool → ℕ → ℕ → Sides
-    choose b l r = cond b (record { upper = l; lower = r }) (record { upper = r; lower = l })
-
     by : (b : Bool) → cond b (record { upper = g s.left; lower = g s.right }) (record { upper = g s.right; lower = g s.left })
         ≡ other_sides g (cond b (record { upper = s.left; lower = s.right }) (record { upper = s.right; lower = s.left }))
     by true = refl
@@ -81,9 +78,6 @@ reached_bounded n t u (s ∷ ss) h all =
   where
     faces : (s.left ≤ n) × (s.right ≤ n)
     faces = All-head (λ s. (s.left ≤ n) × (s.right ≤ n)) s ss all
-
-    lower_by : Bool → Sides
-    lower_by b = cond b (record { upper = s.left; lower = s.right }) (record { upper = s.right; lower = s.left })
 
     lower : (b : Bool)
         → (let x : Sides = cond b (record { upper = s.left; lower = s.right }) (record { upper = s.right; lower = s.left }) in x.lower) ≤ n

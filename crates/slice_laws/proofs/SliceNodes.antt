@@ -1,6 +1,6 @@
 -- Round each node of a slice the faces agree: where an edge ends at a node, all border arcs there are ends of edges, and these are the
 -- spokes of the base map with their labels, less those with one label.
-use Rattle.std.proofs.Common.{◌≡◌, ◌≢◌, ◌⊎◌, inl, inr, ℕ, suc, ◌<◌, Bool, true, false, not, cond, ◌&&◌, ◌==◌, List, [], ◌∷◌, map, filter, length, Contains, None, option_map, refl, sym, ap, ap₂, ◌∙◌, subst, eq-eqb, ne_eqb, arith}
+use Rattle.std.proofs.Common.{◌≡◌, ◌≢◌, inl, inr, ℕ, suc, ◌<◌, Bool, true, false, not, cond, ◌&&◌, ◌==◌, List, [], ◌∷◌, map, filter, length, Contains, None, option_map, refl, sym, ap, ap₂, ◌∙◌, subst, eq-eqb, ne_eqb, arith}
 use Rattle.std.specs.List.{list_all}
 use Rattle.std.proofs.lemmas.Bool.{and_from, eqb-true, eqb-false, not-true, cases_eq}
 use Rattle.std.proofs.lemmas.List.Sums.{AllPass-from_list_all, list_all-from_AllPass}
@@ -24,13 +24,13 @@ use Rattle.map_laws.proofs.ChainMembers.{Among}
 use Rattle.slice_laws.proofs.Paths.{flip}
 use Rattle.slice_laws.proofs.Places.{At, at_among, at_only, among_at, at_place, at_first, at_last}
 use Rattle.slice_laws.proofs.Blocks.{starts_at, ends_at_last}
-use Rattle.slice_laws.proofs.Pieces.{Piece, shown, IsFront, IsBack, block, pieces}
+use Rattle.slice_laws.proofs.Pieces.{IsAtSide, Piece, shown, IsFront, IsBack, block, pieces}
 use Rattle.slice_laws.proofs.ChainPlaces.{StandsAt, base_of, known_of}
 use Rattle.slice_laws.proofs.Meetings.{IsEnd}
 use Rattle.slice_laws.proofs.SlicesApart.{IsSegmentAt, before_front, after_back, before_first, after_first}
 use Rattle.slice_laws.proofs.SliceSegments.{IsShownAt, shown_at, slice_apart}
 use Rattle.slice_laws.proofs.Correspondence.{shown_labels, piece_among, labels_differ, base_piece, piece_shown}
-use Rattle.slice_laws.proofs.SpokeRings.{ring_at, with_faces, has_two, path_relabelled, closed_from_ring, ring_from_closed, IsSpokeAt, spoke_from_ring, ring_has_spoke, ring_is_sorted, fault_of_ring, no_gap}
+use Rattle.slice_laws.proofs.SpokeRings.{first_spoke, last_spoke, HasSpoke, ring_at, with_faces, has_two, path_relabelled, closed_from_ring, ring_from_closed, IsSpokeAt, spoke_from_ring, ring_has_spoke, ring_is_sorted, fault_of_ring, no_gap}
 use Rattle.map_laws.proofs.Lists.{all_members, members_all}
 use Rattle.slice_laws.proofs.EdgeSums.{all_segments}
 
@@ -110,7 +110,7 @@ module _ (m : BaseMap) (base : is_base m ≡ true) (planar : IsPartition (base_s
       subst IsBack (sym (at_last w.row n p x.stands.piece (x.shows.last e))) w.back
 
   edge_side : {i n : ℕ} {c : Chain} {p : Piece} {s : LabelledSegment} → IsSegmentAt m base k cs t i n c p s → (v : Point) → IsEnd s v
-      → (IsFront p × ((shown p).a ≡ v) × (link_start m.arcs p.link ≡ v)) ⊎ (IsBack p × ((shown p).b ≡ v) × (link_end m.arcs p.link ≡ v))
+      → IsAtSide m p v
   edge_side x v (inl (e, f)) =
       let front = start_front x e in
       let at = sym (ap (λ (g : Seg). g.a) x.shows.segment) ∙ f in
@@ -210,10 +210,6 @@ module _ (m : BaseMap) (base : is_base m ≡ true) (planar : IsPartition (base_s
 
   -- ---- the spokes of the slice and those of the base map
 
-  -- a spoke from one end of a segment to the other
-  abbrev along : Seg → ℕ → ℕ → Spoke
-  along g l r = spoke g.a g.b l r
-
   two_faces_test : (a b : ℕ) → a ≢ b → not (a == b) ≡ true
   two_faces_test a b n = ap not (ne_eqb a b n)
 
@@ -234,16 +230,16 @@ module _ (m : BaseMap) (base : is_base m ≡ true) (planar : IsPartition (base_s
           → label_at (merged m) k b.left ≢ label_at (merged m) k b.right
           → (w : Bool) → cond w b.ends b.starts ≡ true → s.segment ≡ cond w (flip b.segment) b.segment
           → s.left ≡ label_at (merged m) k (cond w b.right b.left) → s.right ≡ label_at (merged m) k (cond w b.left b.right) → s.segment.a ≡ v
-          → spoke s.segment.a s.segment.b s.left s.right ≡ q
+          → first_spoke s ≡ q
           → (r : Spoke) × IsSpokeAt (base_segments m) v r × (has_two (label_at (merged m) k) r ≡ true) × (with_faces (label_at (merged m) k) r ≡ q)
       at_start b o at s differ true e g l r f h = (
-        spoke b.segment.b b.segment.a b.right b.left,
+        last_spoke b,
         (o, b, at, inr (e, ap (λ (z : Seg). z.a) (sym g) ∙ f, refl)),
         two_faces_test _ _ (λ z. differ (sym z)),
         sym (ap (λ (z : Seg). spoke z.a z.b s.left s.right) g ∙ ap₂ (λ (y z : ℕ). spoke b.segment.b b.segment.a y z) l r) ∙ h,
       )
       at_start b o at s differ false e g l r f h = (
-        spoke b.segment.a b.segment.b b.left b.right,
+        first_spoke b,
         (o, b, at, inl (e, ap (λ (z : Seg). z.a) (sym g) ∙ f, refl)),
         two_faces_test _ _ differ,
         sym (ap (λ (z : Seg). spoke z.a z.b s.left s.right) g ∙ ap₂ (λ (y z : ℕ). spoke b.segment.a b.segment.b y z) l r) ∙ h,
@@ -253,16 +249,16 @@ module _ (m : BaseMap) (base : is_base m ≡ true) (planar : IsPartition (base_s
           → label_at (merged m) k b.left ≢ label_at (merged m) k b.right
           → (w : Bool) → cond w b.starts b.ends ≡ true → s.segment ≡ cond w (flip b.segment) b.segment
           → s.left ≡ label_at (merged m) k (cond w b.right b.left) → s.right ≡ label_at (merged m) k (cond w b.left b.right) → s.segment.b ≡ v
-          → spoke s.segment.b s.segment.a s.right s.left ≡ q
+          → last_spoke s ≡ q
           → (r : Spoke) × IsSpokeAt (base_segments m) v r × (has_two (label_at (merged m) k) r ≡ true) × (with_faces (label_at (merged m) k) r ≡ q)
       at_end b o at s differ true e g l r f h = (
-        spoke b.segment.a b.segment.b b.left b.right,
+        first_spoke b,
         (o, b, at, inl (e, ap (λ (z : Seg). z.b) (sym g) ∙ f, refl)),
         two_faces_test _ _ differ,
         sym (ap (λ (z : Seg). spoke z.b z.a s.right s.left) g ∙ ap₂ (λ (y z : ℕ). spoke b.segment.a b.segment.b z y) l r) ∙ h,
       )
       at_end b o at s differ false e g l r f h = (
-        spoke b.segment.b b.segment.a b.right b.left,
+        last_spoke b,
         (o, b, at, inr (e, ap (λ (z : Seg). z.b) (sym g) ∙ f, refl)),
         two_faces_test _ _ (λ z. differ (sym z)),
         sym (ap (λ (z : Seg). spoke z.b z.a s.right s.left) g ∙ ap₂ (λ (y z : ℕ). spoke b.segment.b b.segment.a z y) l r) ∙ h,
@@ -272,7 +268,7 @@ module _ (m : BaseMap) (base : is_base m ≡ true) (planar : IsPartition (base_s
   module _ (v : Point) (j : ℕ) (u : LabelledSegment) (y : IsShownAt m base k cs t j u) (ends : IsEnd u v) where
     first_shown : (n : ℕ) (s : LabelledSegment) → At (all_segments m k cs) n s → (x : IsShownAt m base k cs t n s) → x.p.base.starts ≡ true
         → x.p.base.segment.a ≡ v
-        → IsSpokeAt (all_segments m k cs) v (with_faces (label_at (merged m) k) (spoke x.p.base.segment.a x.p.base.segment.b x.p.base.left x.p.base.right))
+        → IsSpokeAt (all_segments m k cs) v (with_faces (label_at (merged m) k) (first_spoke x.p.base))
     first_shown n s a x e f =
         let labels = shown_labels m base planar.arcs.nodes k cs t n s x in
         by x.p.link.turned (λ front at. front_starts x.at y.at v ends front at (sym (front_points x.at.stands front) ∙ at)) (λ back at. back_ends x.at y.at v ends back at (sym (back_points x.at.stands back) ∙ at))
@@ -284,7 +280,7 @@ module _ (m : BaseMap) (base : is_base m ≡ true) (planar : IsPartition (base_s
             → s.segment ≡ cond w (flip x.p.base.segment) x.p.base.segment
             → s.left ≡ label_at (merged m) k (cond w x.p.base.right x.p.base.left)
             → s.right ≡ label_at (merged m) k (cond w x.p.base.left x.p.base.right)
-            → IsSpokeAt (all_segments m k cs) v (with_faces (label_at (merged m) k) (spoke x.p.base.segment.a x.p.base.segment.b x.p.base.left x.p.base.right))
+            → IsSpokeAt (all_segments m k cs) v (with_faces (label_at (merged m) k) (first_spoke x.p.base))
         by true start finish g l r = (
           n,
           s,
@@ -308,7 +304,7 @@ module _ (m : BaseMap) (base : is_base m ≡ true) (planar : IsPartition (base_s
 
     last_shown : (n : ℕ) (s : LabelledSegment) → At (all_segments m k cs) n s → (x : IsShownAt m base k cs t n s) → x.p.base.ends ≡ true
         → x.p.base.segment.b ≡ v
-        → IsSpokeAt (all_segments m k cs) v (with_faces (label_at (merged m) k) (spoke x.p.base.segment.b x.p.base.segment.a x.p.base.right x.p.base.left))
+        → IsSpokeAt (all_segments m k cs) v (with_faces (label_at (merged m) k) (last_spoke x.p.base))
     last_shown n s a x e f =
         let labels = shown_labels m base planar.arcs.nodes k cs t n s x in
         by x.p.link.turned (λ front at. front_starts x.at y.at v ends front at (sym (front_points x.at.stands front) ∙ at)) (λ back at. back_ends x.at y.at v ends back at (sym (back_points x.at.stands back) ∙ at))
@@ -320,7 +316,7 @@ module _ (m : BaseMap) (base : is_base m ≡ true) (planar : IsPartition (base_s
             → s.segment ≡ cond w (flip x.p.base.segment) x.p.base.segment
             → s.left ≡ label_at (merged m) k (cond w x.p.base.right x.p.base.left)
             → s.right ≡ label_at (merged m) k (cond w x.p.base.left x.p.base.right)
-            → IsSpokeAt (all_segments m k cs) v (with_faces (label_at (merged m) k) (spoke x.p.base.segment.b x.p.base.segment.a x.p.base.right x.p.base.left))
+            → IsSpokeAt (all_segments m k cs) v (with_faces (label_at (merged m) k) (last_spoke x.p.base))
         by true start finish g l r = (
           n,
           s,
@@ -351,7 +347,7 @@ module _ (m : BaseMap) (base : is_base m ≡ true) (planar : IsPartition (base_s
         let z = piece_shown m base planar.arcs.nodes k cs t w.0 w.1 w.2 w.3 w.4 in
         let same : z.3.p.base ≡ b = z.4 ∙ w.5 in
         subst (λ (q : Spoke). IsSpokeAt (all_segments m k cs) v (with_faces g q))
-        (ap (λ (c : LabelledSegment). spoke c.segment.a c.segment.b c.left c.right) same ∙ h)
+        (ap first_spoke same ∙ h)
         (first_shown z.0 z.1 z.2 z.3 (ap (λ (c : LabelledSegment). c.starts) same ∙ e) (ap (λ (c : LabelledSegment). c.segment.a) same ∙ f))
     spoke_back r (n, b, a, inr (e, f, h)) two =
         let g : ℕ → ℕ = label_at (merged m) k in
@@ -360,7 +356,7 @@ module _ (m : BaseMap) (base : is_base m ≡ true) (planar : IsPartition (base_s
         let z = piece_shown m base planar.arcs.nodes k cs t w.0 w.1 w.2 w.3 w.4 in
         let same : z.3.p.base ≡ b = z.4 ∙ w.5 in
         subst (λ (q : Spoke). IsSpokeAt (all_segments m k cs) v (with_faces g q))
-        (ap (λ (c : LabelledSegment). spoke c.segment.b c.segment.a c.right c.left) same ∙ h)
+        (ap last_spoke same ∙ h)
         (last_shown z.0 z.1 z.2 z.3 (ap (λ (c : LabelledSegment). c.ends) same ∙ e) (ap (λ (c : LabelledSegment). c.segment.b) same ∙ f))
 
     -- ---- one ring
@@ -410,7 +406,6 @@ module _ (m : BaseMap) (base : is_base m ≡ true) (planar : IsPartition (base_s
           ap ring_of (same_ring v there.0 there.1 (shown_at m base k cs t there.0 there.1 there.2) (end_of there.1 p there.3))
           ∙ ring_from_closed _ (g closed.0) (path_relabelled g closed.0 closed.0 (ring_at (base_segments m) v) closed.1)
         where
-          end_of : (s : LabelledSegment) (q : Spoke) → ((s.starts ≡ true) × (s.segment.a ≡ v) × (spoke s.segment.a s.segment.b s.left s.right ≡ q))
-              ⊎ ((s.ends ≡ true) × (s.segment.b ≡ v) × (spoke s.segment.b s.segment.a s.right s.left ≡ q)) → IsEnd s v
+          end_of : (s : LabelledSegment) (q : Spoke) → HasSpoke s v q → IsEnd s v
           end_of s q (inl (a, b, c)) = inl (a, b)
           end_of s q (inr (a, b, c)) = inr (a, b)

@@ -29,7 +29,7 @@ at_append (x ∷ xs) ys (suc n) z a = elim (at_append xs ys n z a) [
 ]
 
 -- a place in lists put together is a place in one of them
-pub at_flat_map : {A B : Type 0} (f : A → List B) (xs : List A) (n : ℕ) (z : B) → At (flat_map f xs) n z
+at_flat_map : {A B : Type 0} (f : A → List B) (xs : List A) (n : ℕ) (z : B) → At (flat_map f xs) n z
     → (i : ℕ) × (x : A) × (o : ℕ) × At xs i x × At (f x) o z × (n ≡ length (flat_map f (take i xs)) + o)
 at_flat_map f [] n z a = absurd a
 at_flat_map f (x ∷ xs) n z a = elim (at_append (f x) (flat_map f xs) n z a) [
@@ -46,7 +46,7 @@ abbrev pub rows : ℕ → ℕ → ℕ → ℕ → List Seg → List LabelledSegm
 rows key l r place [] = []
 rows key l r place (g ∷ gs) = row_of key l r place g (is_empty gs) ∷ rows key l r (place + 1) gs
 
-pub path_rows : (key l r place : ℕ) (points : List Point) → path_segments key l r place points ≡ rows key l r place (path points)
+path_rows : (key l r place : ℕ) (points : List Point) → path_segments key l r place points ≡ rows key l r place (path points)
 path_rows key l r place [] = refl
 path_rows key l r place (a ∷ []) = refl
 path_rows key l r place (a ∷ b ∷ []) = refl

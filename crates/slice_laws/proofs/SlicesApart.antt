@@ -17,7 +17,7 @@ use Rattle.slice_laws.proofs.NodeLinks.{numbers_lead_all}
 use Rattle.slice_laws.proofs.Paths.{flip}
 use Rattle.slice_laws.proofs.Places.{At, at_only, among_at, is_row, next_at, prev_at}
 use Rattle.slice_laws.proofs.Blocks.{of_row, starts_at, ends_at_last, block_among}
-use Rattle.slice_laws.proofs.Pieces.{Piece, shown, IsFront, IsBack, block, pieces, IsNextPiece}
+use Rattle.slice_laws.proofs.Pieces.{IsNextInLink, IsAtSide, Piece, shown, IsFront, IsBack, block, pieces, IsNextPiece}
 use Rattle.slice_laws.proofs.ChainPlaces.{piece_same, StandsAt, link_of, base_of, known_of, one_link, one_place, front_once, back_once, front_first, back_last, follows_at}
 use Rattle.slice_laws.proofs.Meetings.{on_flip, IsEnd, IsBetween, MayMeet, may_meet_turned, apart_from_meets, members_meet}
 
@@ -40,7 +40,7 @@ module _ (m : BaseMap) (base : is_base m ≡ true) (k : ℕ) (cs : List Chain) (
   -- ---- an end of an arc is at the front or at the back of a link
 
   pub end_side : {i n : ℕ} {c : Chain} {p : Piece} → StandsAt m base k cs t i n c p → (v : Point) → IsEnd p.base v
-      → (IsFront p × ((shown p).a ≡ v) × (link_start m.arcs p.link ≡ v)) ⊎ (IsBack p × ((shown p).b ≡ v) × (link_end m.arcs p.link ≡ v))
+      → IsAtSide m p v
   end_side {p = p} s v e = by p.link.turned (base_of m base k cs t s) e
     where
       points : List Point
@@ -104,7 +104,7 @@ module _ (m : BaseMap) (base : is_base m ≡ true) (k : ℕ) (cs : List Chain) (
         (eq-eqb _ _ (x.shows.arc ∙ ap key f ∙ sym y.shows.arc)) (eq-eqb _ _ (omega (arith, x.shows.place, y.shows.place, g)))
 
     -- the next segment of an arc is the next one of the edge
-    in_link : (v : Point) → p.link ≡ q.link → cond p.link.turned (follows q.base p.base) (follows p.base q.base) ≡ true → (shown p).b ≡ v
+    in_link : (v : Point) → p.link ≡ q.link → IsNextInLink p q → (shown p).b ≡ v
         → (shown q).a ≡ v → MayMeet s u v
     in_link v f w a b =
         let there = follows_at m base k cs t x.stands y.stands f w in
@@ -113,7 +113,7 @@ module _ (m : BaseMap) (base : is_base m ≡ true) (k : ℕ) (cs : List Chain) (
     -- a chain that goes on after the back of the first goes on to the second
     pub after_first : (v : Point) → IsBack p → (shown p).b ≡ v → link_end m.arcs p.link ≡ v
         → (r : Piece) → StandsAt m base k cs t i (suc n) c r → IsWayOn (merged m) k p.link r.link → IsFront r
-        → (IsFront q × ((shown q).a ≡ v) × (link_start m.arcs q.link ≡ v)) ⊎ (IsBack q × ((shown q).b ≡ v) × (link_end m.arcs q.link ≡ v))
+        → IsAtSide m q v
         → (c ≡ e) × (o ≡ suc n) × ((shown p).b ≡ v) × ((shown q).a ≡ v)
     after_first v back at end r there way front (inl (fq, aq, sq)) =
         let on : IsWayOn (merged m) k p.link q.link
@@ -134,7 +134,7 @@ module _ (m : BaseMap) (base : is_base m ≡ true) (k : ℕ) (cs : List Chain) (
     -- and before its front it comes from the second
     pub before_first : (v : Point) → IsFront p → (shown p).a ≡ v → link_start m.arcs p.link ≡ v
         → (h : ℕ) (r : Piece) → n ≡ suc h → StandsAt m base k cs t i h c r → IsWayOn (merged m) k r.link p.link → IsBack r
-        → (IsFront q × ((shown q).a ≡ v) × (link_start m.arcs q.link ≡ v)) ⊎ (IsBack q × ((shown q).b ≡ v) × (link_end m.arcs q.link ≡ v))
+        → IsAtSide m q v
         → (c ≡ e) × (n ≡ suc o) × ((shown q).b ≡ v) × ((shown p).a ≡ v)
     before_first v front at start h r number there way back (inr (bq, aq, eq)) =
         let on : IsWayOn (merged m) k q.link p.link = record {

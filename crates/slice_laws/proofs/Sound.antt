@@ -1,9 +1,8 @@
 -- A base map without a fault is a planar partition.
-use Rattle.std.proofs.Common.{◌≡◌, true, List, Option, Some, None, option_map, AllPairs, refl, ◌∙◌}
+use Rattle.std.proofs.Common.{◌≡◌, true, Option, Some, None, AllPairs, refl, ◌∙◌}
 use Rattle.lemmas.specs.Sorting.{sort_by}
 use Rattle.lemmas.proofs.Sorting.{sort_by-permutation}
 use Rattle.tgap_model.specs.declared.fault.MapFault.{MapFault}
-use Rattle.tgap_model.specs.declared.segment.LabelledSegment.{LabelledSegment}
 use Rattle.tgap_model.specs.Base.{BaseMap, is_base}
 use Rattle.tgap_model.specs.Partition.{base_segments, AreApart, meeting_fault, ring_fault_of, stack_fault_of, or_else, arc_fault, map_fault, IsPartition}
 use Rattle.tgap_model.proofs.Segments.{proper_segments}

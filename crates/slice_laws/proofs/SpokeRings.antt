@@ -94,12 +94,23 @@ ring_from_closed (p ∷ ps) a h = ring_from_path p 0 p ps (subst (λ e. IsPath p
 abbrev pub ring_at : List LabelledSegment → Point → List Spoke
 ring_at segments v = filter (is_at_node v) (sort_by before (all_spokes segments))
 
+-- the spokes of the two ends of a segment
+abbrev pub first_spoke : LabelledSegment → Spoke
+first_spoke s = spoke s.segment.a s.segment.b s.left s.right
+
+abbrev pub last_spoke : LabelledSegment → Spoke
+last_spoke s = spoke s.segment.b s.segment.a s.right s.left
+
+-- a segment starts or ends an arc or edge at the node, and has the spoke there
+abbrev pub HasSpoke : LabelledSegment → Point → Spoke → Type 0
+HasSpoke s v q =
+    ((s.starts ≡ true) × (s.segment.a ≡ v) × (first_spoke s ≡ q)) ⊎ ((s.ends ≡ true) × (s.segment.b ≡ v) × (last_spoke s ≡ q))
+
 -- what the ring has: an end of an arc at the node, seen from there
 abbrev pub IsSpokeAt : List LabelledSegment → Point → Spoke → Type 0
 IsSpokeAt segments v q =
     (n : ℕ) × (s : LabelledSegment) × At segments n s
-    × (((s.starts ≡ true) × (s.segment.a ≡ v) × (spoke s.segment.a s.segment.b s.left s.right ≡ q))
-    ⊎ ((s.ends ≡ true) × (s.segment.b ≡ v) × (spoke s.segment.b s.segment.a s.right s.left ≡ q)))
+    × HasSpoke s v q
 
 among_if : {A : Type 0} (b : Bool) (x y : A) → Among y (if b then x ∷ [] else []) → (b ≡ true) × (x ≡ y)
 among_if true x y (inl e) = (refl, e)
@@ -117,12 +128,11 @@ spoke_from_ring segments v q c =
     let s = among_flat_map spokes_from segments q (at_among (all_spokes segments) a.0 q a.1) in
     let n = among_at segments s.0 s.1 in
     let node : q.node ≡ v = same_point-true q.node v f.1 in
-    (n.0, s.0, n.1, by s.0 node (append_among (if s.0.starts then spoke s.0.segment.a s.0.segment.b s.0.left s.0.right ∷ [] else []) (if s.0.ends then spoke s.0.segment.b s.0.segment.a s.0.right s.0.left ∷ [] else []) q s.2))
+    (n.0, s.0, n.1, by s.0 node (append_among (if s.0.starts then first_spoke s.0 ∷ [] else []) (if s.0.ends then last_spoke s.0 ∷ [] else []) q s.2))
   where
     by : (s : LabelledSegment) → q.node ≡ v
-        → Among q (if s.starts then spoke s.segment.a s.segment.b s.left s.right ∷ [] else []) ⊎ Among q (if s.ends then spoke s.segment.b s.segment.a s.right s.left ∷ [] else [])
-        → ((s.starts ≡ true) × (s.segment.a ≡ v) × (spoke s.segment.a s.segment.b s.left s.right ≡ q))
-        ⊎ ((s.ends ≡ true) × (s.segment.b ≡ v) × (spoke s.segment.b s.segment.a s.right s.left ≡ q))
+        → Among q (if s.starts then first_spoke s ∷ [] else []) ⊎ Among q (if s.ends then last_spoke s ∷ [] else [])
+        → HasSpoke s v q
     by s node (inl m) = let e = among_if s.starts _ q m in inl (e.0, ap (λ (x : Spoke). x.node) e.1 ∙ node, e.1)
     by s node (inr m) = let e = among_if s.ends _ q m in inr (e.0, ap (λ (x : Spoke). x.node) e.1 ∙ node, e.1)
 
@@ -132,17 +142,15 @@ ring_has_spoke segments v q (n, s, a, e) =
     Contains-filter (is_at_node v) (sort_by before (all_spokes segments)) q
     (Contains-sort_by before (all_spokes segments) q (contains_at (all_spokes segments) m.0 q m.1)) (same_point-from q.node v (node e))
   where
-    by : ((s.starts ≡ true) × (s.segment.a ≡ v) × (spoke s.segment.a s.segment.b s.left s.right ≡ q))
-        ⊎ ((s.ends ≡ true) × (s.segment.b ≡ v) × (spoke s.segment.b s.segment.a s.right s.left ≡ q)) → Among q (spokes_from s)
+    by : HasSpoke s v q → Among q (spokes_from s)
     by (inl (x, w, f)) =
-        among_left (if s.starts then spoke s.segment.a s.segment.b s.left s.right ∷ [] else []) _ q
-        (subst (λ y. Among y (if s.starts then spoke s.segment.a s.segment.b s.left s.right ∷ [] else [])) f (if_among s.starts _ x))
+        among_left (if s.starts then first_spoke s ∷ [] else []) _ q
+        (subst (λ y. Among y (if s.starts then first_spoke s ∷ [] else [])) f (if_among s.starts _ x))
     by (inr (x, w, f)) =
-        among_right (if s.starts then spoke s.segment.a s.segment.b s.left s.right ∷ [] else []) _ q
-        (subst (λ y. Among y (if s.ends then spoke s.segment.b s.segment.a s.right s.left ∷ [] else [])) f (if_among s.ends _ x))
+        among_right (if s.starts then first_spoke s ∷ [] else []) _ q
+        (subst (λ y. Among y (if s.ends then last_spoke s ∷ [] else [])) f (if_among s.ends _ x))
 
-    node : ((s.starts ≡ true) × (s.segment.a ≡ v) × (spoke s.segment.a s.segment.b s.left s.right ≡ q))
-        ⊎ ((s.ends ≡ true) × (s.segment.b ≡ v) × (spoke s.segment.b s.segment.a s.right s.left ≡ q)) → q.node ≡ v
+    node : HasSpoke s v q → q.node ≡ v
     node (inl (x, w, f)) = sym (ap (λ (y : Spoke). y.node) f) ∙ w
     node (inr (x, w, f)) = sym (ap (λ (y : Spoke). y.node) f) ∙ w
 

@@ -29,13 +29,15 @@ ChainsKeepFaces =
 -- the slice of a planar partition is a slice
 abbrev pub SlicesAreSlices : Type 0
 SlicesAreSlices =
-    (m : BaseMap) → IsTrue (is_base m) → IsPartition (base_segments m) → (k : ℕ) → IsSlice (merged m) k (removals_to (merged m) k) (slice m k)
+    (m : BaseMap) → IsTrue (is_base m) → IsPartition (base_segments m)
+    → (k : ℕ) → IsSlice (merged m) k (removals_to (merged m) k) (slice m k)
 
 -- Two faces are at the two sides of an edge of the slice exactly where their base faces are at the two sides of an arc.
 abbrev pub FacesAreAdjacent : Type 0
 FacesAreAdjacent =
     (m : BaseMap) → IsTrue (is_base m) → IsPartition (base_segments m) → (k f g : ℕ) → f ≢ g
-    → IsTrue (list_any (is_edge_between f g) (slice m k).edges) ↔ IsTrue (list_any (λ a. is_between f g (labelled_at (merged m) k a)) m.arcs)
+    → IsTrue (list_any (is_edge_between f g) (slice m k).edges)
+    ↔ IsTrue (list_any (λ a. is_between f g (labelled_at (merged m) k a)) m.arcs)
 
 -- the point is inside a base face whose ancestor after k steps is f
 pub record IsInsideBaseFace (m : BaseMap) (k f : ℕ) (p : Fraction) : Type 0 where
@@ -45,14 +47,16 @@ pub record IsInsideBaseFace (m : BaseMap) (k f : ℕ) (p : Fraction) : Type 0 wh
   pub ancestor : label_at (merged m) k face ≡ f
   pub inside : IsTrue (is_inside (base_segments m) face p)
 
--- Where no vertex is removed, a point between whole abscissas is inside a face of the slice exactly where it is inside one of
--- the base faces that the face was made of.
+-- Where no vertex is removed, a point between whole abscissas is inside a face of the slice exactly where it is inside
+-- one of the base faces that the face was made of.
 abbrev pub FacesAreUnions : Type 0
 FacesAreUnions =
     (m : BaseMap) → IsTrue (is_base m) → IsPartition (base_segments m) → m.rules.ratio ≡ 0 → (k f : ℕ) → f ≢ 0
-    → (p : Fraction) → IsBetweenColumns (line_through p) → IsTrue (is_inside (edge_segments (slice m k).edges) f p) ↔ IsInsideBaseFace m k f p
+    → (p : Fraction) → IsBetweenColumns (line_through p)
+    → IsTrue (is_inside (edge_segments (slice m k).edges) f p) ↔ IsInsideBaseFace m k f p
 
 -- Where no vertex is removed, the slice of a planar partition is a planar partition.
 abbrev pub SlicesArePartitions : Type 0
 SlicesArePartitions =
-    (m : BaseMap) → IsTrue (is_base m) → IsPartition (base_segments m) → m.rules.ratio ≡ 0 → (k : ℕ) → IsPartition (edge_segments (slice m k).edges)
+    (m : BaseMap) → IsTrue (is_base m) → IsPartition (base_segments m) → m.rules.ratio ≡ 0
+    → (k : ℕ) → IsPartition (edge_segments (slice m k).edges)

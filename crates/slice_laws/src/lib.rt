@@ -1,5 +1,6 @@
-//! Laws of slices, which show that the definition of a slice means what it should. The functions do nothing: the contract of
-//! each is a law, which is proved with the crate. It stands on `tgap_model`, whose definitions the laws are about.
+//! Laws of slices, which show that the definition of a slice means what it should. The functions do nothing: the contract
+//! of each is a law, which is proved with the crate. It stands on `tgap_model`, whose definitions the laws are about, on the
+//! laws of planar partitions and chains, and on what the check of a base map rests on.
 #![tactic(auto)]
 
 mod slices;

@@ -1,4 +1,4 @@
-//! Laws of the faces beside the edges of a slice.
+//! Laws of the faces beside the edges of a slice, of the points inside its faces, and of the partition that it is.
 
 ghost use Rattle.slice_laws.specs.SliceLaws.{ChainsKeepFaces, SlicesAreSlices, FacesAreAdjacent, FacesAreUnions, SlicesArePartitions};
 
@@ -7,19 +7,20 @@ pub fn chains_keep_faces()
     ensures { ChainsKeepFaces }
 {}
 
-/// The slice of a planar partition after some steps of its history has the faces and the edges that a slice has to have.
+/// The slice of a planar partition after some steps of its history has the faces and the edges that a slice has to
+/// have.
 pub fn slices_are_slices()
     ensures { SlicesAreSlices }
 {}
 
-/// Two faces are adjacent in a slice exactly where an arc of the base map has them at its sides, each as the ancestor of its
-/// base face.
+/// Two faces are adjacent in a slice exactly where an arc of the base map has them at its sides, each as the ancestor of
+/// its base face.
 pub fn faces_are_adjacent()
     ensures { FacesAreAdjacent }
 {}
 
-/// Where no vertex is removed, each face of a slice is the union of the base faces that it was made of: a point between whole
-/// abscissas is inside it exactly where it is inside one of them.
+/// Where no vertex is removed, each face of a slice is the union of the base faces that it was made of: a point between
+/// whole abscissas is inside it exactly where it is inside one of them.
 pub fn faces_are_unions()
     ensures { FacesAreUnions }
 {}
