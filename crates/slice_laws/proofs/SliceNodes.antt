@@ -1,25 +1,24 @@
 -- Round each node of a slice the faces agree: where an edge ends at a node, all border arcs there are ends of edges, and these are the
 -- spokes of the base map with their labels, less those with one label.
-use Rattle.std.proofs.Common.{◌≡◌, ◌≢◌, inl, inr, ℕ, suc, ◌<◌, Bool, true, false, not, cond, ◌&&◌, ◌==◌, List, [], ◌∷◌, map, filter, length, Contains, None, option_map, refl, sym, ap, ap₂, ◌∙◌, subst, eq-eqb, ne_eqb, arith}
+use Rattle.std.proofs.Common.{◌≡◌, ◌≢◌, inl, inr, ℕ, suc, ◌<◌, Bool, true, false, not, cond, ◌&&◌, ◌==◌, List, [], ◌∷◌, map, filter, length, All, Contains, None, refl, sym, ap, ap₂, ◌∙◌, subst, eq-eqb, ne_eqb, arith}
 use Rattle.std.specs.List.{list_all}
 use Rattle.std.proofs.lemmas.Bool.{and_from, eqb-true, eqb-false, not-true, cases_eq}
+use Rattle.std.proofs.lemmas.List.Elements.{All-filter, All-map}
 use Rattle.std.proofs.lemmas.List.Sums.{AllPass-from_list_all, list_all-from_AllPass}
 use Rattle.lemmas.proofs.Sorting.{filter-is_sorted, map-is_sorted, sorted_same}
-use Rattle.lemmas.proofs.Members.{Contains-filter, Contains-from_filter, Contains-map, Contains-from_map}
+use Rattle.lemmas.proofs.Members.{in_head, Contains-filter, Contains-from_filter, Contains-map, Contains-from_map}
 use Rattle.tgap_model.specs.declared.geometry.Point.{Point}
 use Rattle.tgap_model.specs.declared.geometry.Seg.{Seg}
 use Rattle.tgap_model.specs.declared.segment.LabelledSegment.{LabelledSegment}
 use Rattle.tgap_model.specs.Base.{BaseMap, is_base, in_limits, same_point}
-use Rattle.tgap_model.specs.Partition.{base_segments, node_fault, is_proper, IsPartition}
+use Rattle.tgap_model.specs.Partition.{Spoke, base_segments, spokes_at, node_fault, is_proper, IsPartition}
 use Rattle.tgap_model.specs.Merged.{merged, label_at}
 use Rattle.tgap_model.specs.Chains.{Chain, arc_number, first_point, last_point, link_start, link_end, are_chains}
 use Rattle.tgap_model.proofs.Points.{same_point-true}
 use Rattle.tgap_model.proofs.Proper.{proper_parts}
 use Rattle.tgap_model.proofs.Segments.{proper_segments}
-use Rattle.base_check.specs.declared.spoke.Spoke.{Spoke}
-use Rattle.base_check.specs.Spokes.{disagrees, spoke, before}
-use Rattle.base_check.proofs.Order.{before_strict}
-use Rattle.base_check.proofs.Rings.{ring_of}
+use Rattle.base_check.proofs.Spokes.{first_spoke, last_spoke}
+use Rattle.base_check.proofs.Faults.{fault_of}
 use Rattle.map_laws.proofs.ChainMembers.{Among}
 use Rattle.slice_laws.proofs.Paths.{flip}
 use Rattle.slice_laws.proofs.Places.{At, at_among, at_only, among_at, at_place, at_first, at_last}
@@ -30,7 +29,7 @@ use Rattle.slice_laws.proofs.Meetings.{IsEnd}
 use Rattle.slice_laws.proofs.SlicesApart.{IsSegmentAt, before_front, after_back, before_first, after_first}
 use Rattle.slice_laws.proofs.SliceSegments.{IsShownAt, shown_at, slice_apart}
 use Rattle.slice_laws.proofs.Correspondence.{shown_labels, piece_among, labels_differ, base_piece, piece_shown}
-use Rattle.slice_laws.proofs.SpokeRings.{first_spoke, last_spoke, HasSpoke, ring_at, with_faces, has_two, path_relabelled, closed_from_ring, ring_from_closed, IsSpokeAt, spoke_from_ring, ring_has_spoke, ring_is_sorted, fault_of_ring, no_gap}
+use Rattle.slice_laws.proofs.SpokeRings.{with_faces, has_two, path_relabelled, closed_from_ring, ring_from_closed, spoke, comes_before, order_of_spokes, HasSpoke, IsSpokeAt, spoke_from_ring, ring_has_spoke, ring_leaves, ring_is_sorted}
 use Rattle.map_laws.proofs.Lists.{all_members, members_all}
 use Rattle.slice_laws.proofs.EdgeSums.{all_segments}
 
@@ -236,13 +235,13 @@ module _ (m : BaseMap) (base : is_base m ≡ true) (planar : IsPartition (base_s
         last_spoke b,
         (o, b, at, inr (e, ap (λ (z : Seg). z.a) (sym g) ∙ f, refl)),
         two_faces_test _ _ (λ z. differ (sym z)),
-        sym (ap (λ (z : Seg). spoke z.a z.b s.left s.right) g ∙ ap₂ (λ (y z : ℕ). spoke b.segment.b b.segment.a y z) l r) ∙ h,
+        sym (ap (λ (z : Seg). spoke z.b s.left s.right) g ∙ ap₂ (λ (y z : ℕ). spoke b.segment.a y z) l r) ∙ h,
       )
       at_start b o at s differ false e g l r f h = (
         first_spoke b,
         (o, b, at, inl (e, ap (λ (z : Seg). z.a) (sym g) ∙ f, refl)),
         two_faces_test _ _ differ,
-        sym (ap (λ (z : Seg). spoke z.a z.b s.left s.right) g ∙ ap₂ (λ (y z : ℕ). spoke b.segment.a b.segment.b y z) l r) ∙ h,
+        sym (ap (λ (z : Seg). spoke z.b s.left s.right) g ∙ ap₂ (λ (y z : ℕ). spoke b.segment.b y z) l r) ∙ h,
       )
 
       at_end : (b : LabelledSegment) (o : ℕ) → At (base_segments m) o b → (s : LabelledSegment)
@@ -255,13 +254,13 @@ module _ (m : BaseMap) (base : is_base m ≡ true) (planar : IsPartition (base_s
         first_spoke b,
         (o, b, at, inl (e, ap (λ (z : Seg). z.b) (sym g) ∙ f, refl)),
         two_faces_test _ _ differ,
-        sym (ap (λ (z : Seg). spoke z.b z.a s.right s.left) g ∙ ap₂ (λ (y z : ℕ). spoke b.segment.a b.segment.b z y) l r) ∙ h,
+        sym (ap (λ (z : Seg). spoke z.a s.right s.left) g ∙ ap₂ (λ (y z : ℕ). spoke b.segment.b z y) l r) ∙ h,
       )
       at_end b o at s differ false e g l r f h = (
         last_spoke b,
         (o, b, at, inr (e, ap (λ (z : Seg). z.b) (sym g) ∙ f, refl)),
         two_faces_test _ _ (λ z. differ (sym z)),
-        sym (ap (λ (z : Seg). spoke z.b z.a s.right s.left) g ∙ ap₂ (λ (y z : ℕ). spoke b.segment.b b.segment.a z y) l r) ∙ h,
+        sym (ap (λ (z : Seg). spoke z.a s.right s.left) g ∙ ap₂ (λ (y z : ℕ). spoke b.segment.a z y) l r) ∙ h,
       )
 
   -- where an edge ends at the node, the ends of a segment of a border arc there are ends of an edge
@@ -288,7 +287,7 @@ module _ (m : BaseMap) (base : is_base m ≡ true) (planar : IsPartition (base_s
           inr (
             finish e f,
             ap (λ (z : Seg). z.b) g ∙ f,
-            ap (λ (z : Seg). spoke z.b z.a s.right s.left) g ∙ ap₂ (λ (c d : ℕ). spoke x.p.base.segment.a x.p.base.segment.b d c) l r,
+            ap (λ (z : Seg). spoke z.a s.right s.left) g ∙ ap₂ (λ (c d : ℕ). spoke x.p.base.segment.b d c) l r,
           ),
         )
         by false start finish g l r = (
@@ -298,7 +297,7 @@ module _ (m : BaseMap) (base : is_base m ≡ true) (planar : IsPartition (base_s
           inl (
             start e f,
             ap (λ (z : Seg). z.a) g ∙ f,
-            ap (λ (z : Seg). spoke z.a z.b s.left s.right) g ∙ ap₂ (λ (c d : ℕ). spoke x.p.base.segment.a x.p.base.segment.b c d) l r,
+            ap (λ (z : Seg). spoke z.b s.left s.right) g ∙ ap₂ (λ (c d : ℕ). spoke x.p.base.segment.b c d) l r,
           ),
         )
 
@@ -324,7 +323,7 @@ module _ (m : BaseMap) (base : is_base m ≡ true) (planar : IsPartition (base_s
           inl (
             start e f,
             ap (λ (z : Seg). z.a) g ∙ f,
-            ap (λ (z : Seg). spoke z.a z.b s.left s.right) g ∙ ap₂ (λ (c d : ℕ). spoke x.p.base.segment.b x.p.base.segment.a c d) l r,
+            ap (λ (z : Seg). spoke z.b s.left s.right) g ∙ ap₂ (λ (c d : ℕ). spoke x.p.base.segment.a c d) l r,
           ),
         )
         by false start finish g l r = (
@@ -334,7 +333,7 @@ module _ (m : BaseMap) (base : is_base m ≡ true) (planar : IsPartition (base_s
           inr (
             finish e f,
             ap (λ (z : Seg). z.b) g ∙ f,
-            ap (λ (z : Seg). spoke z.b z.a s.right s.left) g ∙ ap₂ (λ (c d : ℕ). spoke x.p.base.segment.b x.p.base.segment.a d c) l r,
+            ap (λ (z : Seg). spoke z.a s.right s.left) g ∙ ap₂ (λ (c d : ℕ). spoke x.p.base.segment.a d c) l r,
           ),
         )
 
@@ -361,17 +360,21 @@ module _ (m : BaseMap) (base : is_base m ≡ true) (planar : IsPartition (base_s
 
     -- ---- one ring
 
-    same_ring : ring_at (all_segments m k cs) v
-        ≡ map (with_faces (label_at (merged m) k)) (filter (has_two (label_at (merged m) k)) (ring_at (base_segments m) v))
+    same_ring : spokes_at v (all_segments m k cs)
+        ≡ map (with_faces (label_at (merged m) k)) (filter (has_two (label_at (merged m) k)) (spokes_at v (base_segments m)))
     same_ring =
         let g : ℕ → ℕ = label_at (merged m) k in
         let slice : List LabelledSegment = all_segments m k cs in
-        let ring : List Spoke = ring_at (base_segments m) v in
-        sorted_same before_strict (ring_at slice v) (map (with_faces g) (filter (has_two g) ring)) (λ i d l. tt) (λ i d l. tt)
+        let ring : List Spoke = spokes_at v (base_segments m) in
+        let Leaves : Spoke → Type 0 = λ (q : Spoke). v ≢ q.toward in
+        let proper = proper_segments m base in
+        let leaves : All Leaves ring = ring_leaves (base_segments m) proper v in
+        let kept : All Leaves (filter (has_two g) ring) = All-filter (has_two g) Leaves ring leaves in
+        sorted_same (order_of_spokes v) (spokes_at v slice) (map (with_faces g) (filter (has_two g) ring))
+        (ring_leaves slice slice_proper v) (All-map Leaves (with_faces g) (filter (has_two g) ring) kept)
         (ring_is_sorted slice slice_proper (slice_apart m base k cs t planar.arcs.apart) v)
-        (map-is_sorted (λ p. Unit {0}) before before (with_faces g) (λ p q a b. refl) (filter (has_two g) ring) (λ i d l. tt)
-        ∙ filter-is_sorted before_strict (has_two g) ring (λ i d l. tt)
-        (ring_is_sorted (base_segments m) (proper_segments m base) planar.arcs.apart v))
+        (map-is_sorted (λ p. Unit {0}) (comes_before v) (comes_before v) (with_faces g) (λ p q a b. refl) (filter (has_two g) ring) (λ i d l. tt)
+        ∙ filter-is_sorted (order_of_spokes v) (has_two g) ring leaves (ring_is_sorted (base_segments m) proper planar.arcs.apart v))
         (λ q c.
         let r = spoke_there v q (spoke_from_ring slice v q c) in
         subst (Contains (map (with_faces g) (filter (has_two g) ring))) r.3
@@ -379,33 +382,24 @@ module _ (m : BaseMap) (base : is_base m ≡ true) (planar : IsPartition (base_s
         (λ q c.
         let r = Contains-from_map (with_faces g) (filter (has_two g) ring) q c in
         let f = Contains-from_filter (has_two g) ring r.0 r.1 in
-        subst (Contains (ring_at slice v)) r.2
+        subst (Contains (spokes_at v slice)) r.2
         (ring_has_spoke slice v (with_faces g r.0) (spoke_back r.0 (spoke_from_ring (base_segments m) v r.0 f.0) f.1)))
 
   -- round each node the faces agree
   pub slice_nodes : (v : Point) → node_fault (all_segments m k cs) v ≡ None
-  slice_nodes v =
-      let slice : List LabelledSegment = all_segments m k cs in
-      fault_of_ring slice slice_proper (slice_apart m base k cs t planar.arcs.apart) v
-      ∙ ap (option_map disagrees) (by (ring_at slice v) refl)
+  slice_nodes v = by (spokes_at v (all_segments m k cs)) refl
     where
-      slice : List LabelledSegment
-      slice = all_segments m k cs
+      end_of : (s : LabelledSegment) (q : Spoke) → HasSpoke s v q → IsEnd s v
+      end_of s q (inl (a, b, c)) = inl (a, b)
+      end_of s q (inr (a, b, c)) = inr (a, b)
 
-      no_base_gap : ring_of (ring_at (base_segments m) v) ≡ None
-      no_base_gap = no_gap _ (sym (fault_of_ring (base_segments m) (proper_segments m base) planar.arcs.apart v) ∙ planar.arcs.nodes v)
-
-      by : (ps : List Spoke) → ring_at (all_segments m k cs) v ≡ ps
-          → ring_of (ring_at (all_segments m k cs) v) ≡ None
-      by [] e = ap ring_of e
+      by : (ps : List Spoke) → spokes_at v (all_segments m k cs) ≡ ps → fault_of v (spokes_at v (all_segments m k cs)) ≡ None
+      by [] e = ap (fault_of v) e
       by (p ∷ ps) e =
-          let c : Contains (ring_at (all_segments m k cs) v) p = subst (λ qs. Contains qs p) (sym e) (0, omega arith, refl) in
-          let there = spoke_from_ring (all_segments m k cs) v p c in
-          let closed = closed_from_ring (ring_at (base_segments m) v) no_base_gap in
           let g : ℕ → ℕ = label_at (merged m) k in
-          ap ring_of (same_ring v there.0 there.1 (shown_at m base k cs t there.0 there.1 there.2) (end_of there.1 p there.3))
-          ∙ ring_from_closed _ (g closed.0) (path_relabelled g closed.0 closed.0 (ring_at (base_segments m) v) closed.1)
-        where
-          end_of : (s : LabelledSegment) (q : Spoke) → HasSpoke s v q → IsEnd s v
-          end_of s q (inl (a, b, c)) = inl (a, b)
-          end_of s q (inr (a, b, c)) = inr (a, b)
+          let ring : List Spoke = spokes_at v (base_segments m) in
+          let here : Contains (spokes_at v (all_segments m k cs)) p = subst (λ qs. Contains qs p) (sym e) (in_head p ps) in
+          let there = spoke_from_ring (all_segments m k cs) v p here in
+          let closed = closed_from_ring v ring (planar.arcs.nodes v) in
+          ap (fault_of v) (same_ring v there.0 there.1 (shown_at m base k cs t there.0 there.1 there.2) (end_of there.1 p there.3))
+          ∙ ring_from_closed v (map (with_faces g) (filter (has_two g) ring)) (g closed.0) (path_relabelled g closed.0 closed.0 ring closed.1)
