@@ -9,7 +9,7 @@ use Rattle.face_merge.specs.Choice.{first_of, neighbour_at}
 use Rattle.face_merge.proofs.First.{first_by_more}
 
 -- one more element of a list is mapped in place
-pub mapped_next : (f : LabelledArc → LabelledArc) (xs ys : List LabelledArc) (i : ℕ) (d y : LabelledArc) → i < length ys → take i ys ≡ map f (take i xs) → drop i ys ≡ drop i xs
+pub mapped_next : {A : Type 0} (f : A → A) (xs ys : List A) (i : ℕ) (d y : A) → i < length ys → take i ys ≡ map f (take i xs) → drop i ys ≡ drop i xs
     → y ≡ f (get_or ys i d) → (take (i + 1) (set ys i y) ≡ map f (take (i + 1) xs)) × (drop (i + 1) (set ys i y) ≡ drop (i + 1) xs)
 mapped_next f xs ys i d y p done left e =
     let short : i < length xs = omega (arith, ap length left, length-drop i ys, length-drop i xs) in

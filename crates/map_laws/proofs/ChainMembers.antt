@@ -143,7 +143,7 @@ module _ {A : Type 0} where
   -- ---- lists that their members determine
 
   -- the first of a sorted list is below the others
-  sorted_below : (f : A → ℕ) (x : A) (xs : List A) (y : A) → is_sorted_by (λ a b. nat_lt (f a) (f b)) (x ∷ xs) ≡ true → Among y xs → f x < f y
+  pub sorted_below : (f : A → ℕ) (x : A) (xs : List A) (y : A) → is_sorted_by (λ a b. nat_lt (f a) (f b)) (x ∷ xs) ≡ true → Among y xs → f x < f y
   sorted_below f x [] y h m = absurd m
   sorted_below f x (z ∷ zs) y h (inl e) = subst (λ w. f x < f w) e (ltb-true _ _ (and_parts _ _ h).0)
   sorted_below f x (z ∷ zs) y h (inr m) =

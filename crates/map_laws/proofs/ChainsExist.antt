@@ -136,11 +136,11 @@ module _ (h : MergedMap) (k : ℕ) (cs : List Chain) (a : AreJoined h k (λ q. d
 
 module _ (h : MergedMap) (k : ℕ) where
   -- each border arc as a chain of its own
-  abbrev single : ℕ → Chain
+  abbrev pub single : ℕ → Chain
   single i = record { arc = i; turned = false } ∷ []
 
   -- no node is a junction yet
-  single_joined : AreJoined h k (λ q. ⊥) (map single (border_numbers h k))
+  pub single_joined : AreJoined h k (λ q. ⊥) (map single (border_numbers h k))
   single_joined = record {
     covers = λ f.
         sum_by-map (arc_sum f) single (border_numbers h k)
@@ -156,7 +156,7 @@ module _ (h : MergedMap) (k : ℕ) where
       one f i = omega (arith, sum_by-cons (λ (d : Link). f d.arc) (record { arc = i; turned = false }) [])
 
   -- all joints are next
-  joints_next : AreNext h k (λ q. ⊥) (joints h k)
+  pub joints_next : AreNext h k (λ q. ⊥) (joints h k)
   joints_next = record {
     two = joints_two h k;
     all = λ q two. inr (joints_all h k q two);

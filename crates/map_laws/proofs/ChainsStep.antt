@@ -128,7 +128,7 @@ module _ (h : MergedMap) (k : ℕ) (numbered : AreNumbered (length h.base.classe
   -- ---- junctions
 
   -- the degree is two before the step and after it
-  abbrev Both : Point → Type 0
+  abbrev pub Both : Point → Type 0
   Both q = (degree h k q ≡ 2) × (degree h (k + 1) q ≡ 2)
 
   -- the junctions of a chain that is left are such nodes
@@ -155,7 +155,7 @@ module _ (h : MergedMap) (k : ℕ) (numbered : AreNumbered (length h.base.classe
   ]
 
   -- the chains that are left are joined at the nodes of degree two before the step
-  left_joined : AreJoined h (k + 1) Both (chains_left h k)
+  pub left_joined : AreJoined h (k + 1) Both (chains_left h k)
   left_joined = record {
     covers = left_covers;
     paths = left_path;
@@ -165,13 +165,13 @@ module _ (h : MergedMap) (k : ℕ) (numbered : AreNumbered (length h.base.classe
 
   -- ---- new joints
 
-  new_is : (p : Point) → Among p (new_joints h k) → (degree h (k + 1) p ≡ 2) × (degree h k p ≡ 2 → ⊥)
+  pub new_is : (p : Point) → Among p (new_joints h k) → (degree h (k + 1) p ≡ 2) × (degree h k p ≡ 2 → ⊥)
   new_is p m =
       let parts = and_parts (degree h (k + 1) p == 2) (not (degree h k p == 2))
       (filter_among (λ p. (degree h (k + 1) p == 2) && not (degree h k p == 2)) (arc_nodes h) p m) in
       (eqb-true (degree h (k + 1) p) 2 parts.0, eqb-false (degree h k p) 2 (not-true _ parts.1))
 
-  new_next : AreNext h (k + 1) Both (new_joints h k)
+  pub new_next : AreNext h (k + 1) Both (new_joints h k)
   new_next = record {
     two = λ p m. (new_is p m).0;
     all = λ q two. elim (cases_eq (degree h k q) 2) [

@@ -28,7 +28,7 @@ module _ (h : MergedMap) (k : ℕ) where
   itself p q e b = true≢false (sym (subst (λ r. joins_before h k p r ≡ true) (sym e) b) ∙ (joins_before_order h k).itself p tt)
 
   -- after the first is joined the others are next
-  rest_next : (J : Point → Type 0) (p : Point) (ps : List Point) → AreNext h k J (p ∷ ps) → AreNext h k (λ q. J q ⊎ (q ≡ p)) ps
+  pub rest_next : (J : Point → Type 0) (p : Point) (ps : List Point) → AreNext h k J (p ∷ ps) → AreNext h k (λ q. J q ⊎ (q ≡ p)) ps
   rest_next J p ps n = record {
     two = λ q m. n.two q (inr m);
     all = λ q deg. elim (n.all q deg) [ inl j ↦ inl (inl j) | inr m ↦ elim m [ inl e ↦ inl (inr (sym e)) | inr o ↦ inr o ] ];
@@ -42,7 +42,7 @@ module _ (h : MergedMap) (k : ℕ) where
   }
 
   -- a node that is neither a junction nor joined now comes later
-  comes_later : (J : Point → Type 0) (p : Point) (ps : List Point) → AreNext h k J (p ∷ ps)
+  pub comes_later : (J : Point → Type 0) (p : Point) (ps : List Point) → AreNext h k J (p ∷ ps)
       → (q j : Point) → degree h k q ≡ 2 → (J q → ⊥) → (q ≡ p → ⊥) → J j ⊎ (j ≡ p) → joins_before h k q j ≡ false
   comes_later J p ps n q j deg new ne t =
       elim (n.all q deg) [

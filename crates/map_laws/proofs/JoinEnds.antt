@@ -51,7 +51,7 @@ both_ends arcs p c h =
     (same_point-true _ _ parts.0, same_point-true _ _ parts.1)
 
 -- the ends of an arc are those of its link
-link_ends : (arcs : List BaseArc) (p : Point) (d : Link)
+pub link_ends : (arcs : List BaseArc) (p : Point) (d : Link)
     → ends_at p (arc_number arcs d.arc) ≡ cond (same_point (link_start arcs d) p) 1 0 + cond (same_point (link_end arcs d) p) 1 0
 link_ends arcs p d = by d.turned
   where

@@ -29,7 +29,7 @@ pub record AreJoined (h : MergedMap) (k : ℕ) (J : Point → Type 0) (cs : List
       → IsPath h.base.arcs (λ j. joins_before h k (chain_start h.base.arcs c) j ≡ false) c
 
 -- at a point that is no junction as many paths end as the degree says
-ends_degree : (h : MergedMap) (k : ℕ) (J : Point → Type 0) (cs : List Chain) → AreJoined h k J cs → (p : Point) → (J p → ⊥)
+pub ends_degree : (h : MergedMap) (k : ℕ) (J : Point → Type 0) (cs : List Chain) → AreJoined h k J cs → (p : Point) → (J p → ⊥)
     → sum_by (chain_ends h.base.arcs p) cs ≡ degree h k p
 ends_degree h k J cs a p fresh =
     sum_agree (chain_ends h.base.arcs p) (arc_sum (λ i. ends_at p (arc_number h.base.arcs i))) cs

@@ -19,7 +19,7 @@ use Rattle.map_laws.proofs.JoinOrder.{joins_before_order}
 -- ---- keys and directions
 
 -- the key is no more than the number of any arc, and is that of one
-key_low : (c : Chain) (e : Link) → Among e c → key c ≤ e.arc
+pub key_low : (c : Chain) (e : Link) → Among e c → key c ≤ e.arc
 key_low [] e m = absurd m
 key_low (d ∷ c) e m = key_least d c e m
 
@@ -28,7 +28,7 @@ key_of [] h = absurd cc
 key_of (d ∷ c) h = key_among d c
 
 -- the chain turned round has the same key
-turned_key : (c : Chain) → has_links c ≡ true → key (turned_round c) ≡ key c
+pub turned_key : (c : Chain) → has_links c ≡ true → key (turned_round c) ≡ key c
 turned_key c h =
     let low = key_of c h in
     let other = key_of (turned_round c) (turned_links c h) in

@@ -1,0 +1,187 @@
+-- What is known of a forest, from its growth.
+use Rattle.std.proofs.Common.{◌≡◌, ◌≢◌, inl, inr, ℕ, ◌+◌, ◌<◌, ◌≤◌, ◌^◌, ◌==◌, ◌&&◌, nat_le, nat_lt, Bool, true, false, cond, List, [], ◌∷◌, map, filter, length, get_or, refl, sym, ap, ap₂, ◌∙◌, subst, arith}
+use Rattle.std.specs.List.{All, range_with_len}
+use Rattle.std.proofs.lemmas.Bool.{cases_eq, and_parts, eqb-true, leb-true, lt-ltb, true≢false}
+use Rattle.std.proofs.lemmas.List.{length-map, get_or-map}
+use Rattle.std.proofs.lemmas.List.Elements.{All-filter}
+use Rattle.lemmas.specs.Sorting.{is_sorted_by}
+use Rattle.lemmas.proofs.Sorting.{All-sort_by, map-is_sorted, sorted_tail}
+use Rattle.tgap_model.specs.History.{history_of}
+use Rattle.tgap_model.specs.Merged.{merged, label_at}
+use Rattle.tgap_model.specs.Chains.{Chain, arc_number, key, has_links, chains_at}
+use Rattle.tgap_model.proofs.BaseFacts.{base_facts}
+use Rattle.face_merge.proofs.Steps.{length-history_of}
+use Rattle.map_laws.proofs.ChainMembers.{Among, filter_among, sorted_below}
+use Rattle.map_laws.proofs.Lists.{all_members, among_range, among_kept, among_sort}
+use Rattle.map_laws.proofs.ChainLinks.{chains_sorted}
+use Rattle.map_laws.proofs.ChainsExist.{chains_exist}
+use Rattle.edge_forest.specs.declared.edge.ForestEdge.{ForestEdge}
+use Rattle.edge_forest.specs.declared.growth.Growth.{Growth}
+use Rattle.edge_forest.specs.Edges.{edge_at, chains_of, chain_of, is_alive, alive_edges, IsPart}
+use Rattle.edge_forest.specs.Forest.{EdgeForest, never, last_step, AreChains, IsForest}
+use Rattle.edge_forest.specs.Growth.{ended, IsAtRest, IsFew}
+use Rattle.edge_forest.specs.Kept.{forest_of, IsKept, closed_edge}
+use Rattle.edge_forest.proofs.Chains.{same_parts}
+use Rattle.edge_forest.proofs.AliveSame.{longer_chains}
+use Rattle.edge_forest.proofs.Few.{few_small}
+use Rattle.edge_forest.proofs.Rested.{among_in_range}
+
+-- ---- at rest
+
+pub rest_forest : (made : ℕ) (g : Growth) → IsAtRest made g → IsForest (forest_of made false g)
+rest_forest made g w = record {
+  base = w.stored.base;
+  partition = w.stored.partition;
+  steps = w.stored.steps;
+  edges = w.stored.edges;
+  low = w.stored.low;
+  chains = λ k l. elim (cases_eq k made) [
+    | inl e ↦ subst (λ (n : ℕ). map (chain_of g.edges.items) (alive_edges g.edges.items n) ≡ chains_at (merged g.base) n) (sym e) w.alive
+    | inr ne ↦ w.stored.past k (omega (arith, l, ne))
+  ];
+}
+
+pub rest_is_kept : (made : ℕ) (g : Growth) → IsAtRest made g → IsFew g → IsKept made false g
+rest_is_kept made g w few = record {
+  forest = rest_forest made g w;
+  few = omega (arith, few_small made g w.stored few);
+  growing = λ e. (w, few);
+  done = λ e. absurd (true≢false (sym e));
+}
+
+-- there are few steps
+pub made_small : (f : EdgeForest) → IsForest f → f.made + 1 < never
+made_small f w = omega (arith, w.steps, length-history_of f.base, (base_facts f.base w.base).few_arcs)
+
+-- ---- the edges of a step
+
+module _ (f : EdgeForest) (w : IsForest f) (k : ℕ) (chains : AreChains f k) where
+  abbrev edges : List ForestEdge
+  edges = f.edges
+
+  abbrev listed : List ℕ
+  listed = filter (λ i. is_alive k (edge_at f.edges i)) (range_with_len 0 (length f.edges))
+
+  in_listed : All (λ i. i < length edges) listed
+  in_listed =
+      All-filter (λ i. is_alive k (edge_at edges i)) (λ i. i < length edges) (range_with_len 0 (length edges))
+      (all_members (λ i. i < length edges) (range_with_len 0 (length edges)) (λ i m. omega (arith, (among_range 0 (length edges) i m).1)))
+
+  pub alive_within : All (λ i. i < length f.edges) (alive_edges f.edges k)
+  alive_within = All-sort_by (λ i j. nat_lt (edge_at edges i).key (edge_at edges j).key) (λ i. i < length edges) listed in_listed
+
+  pub alive_low : All (λ i. (edge_at f.edges i).low ≤ k) (alive_edges f.edges k)
+  alive_low =
+      All-sort_by (λ i j. nat_lt (edge_at edges i).key (edge_at edges j).key) (λ i. (edge_at edges i).low ≤ k) listed
+      (all_members (λ i. (edge_at edges i).low ≤ k) listed (λ i m.
+      leb-true (edge_at edges i).low k (and_parts (nat_le (edge_at edges i).low k) (nat_lt k (edge_at edges i).high)
+      (filter_among (λ i. is_alive k (edge_at edges i)) (range_with_len 0 (length edges)) i m)).0))
+
+  -- they have different keys
+  ids_sorted : is_sorted_by (λ i j. nat_lt (edge_at edges i).key (edge_at edges j).key) (alive_edges edges k) ≡ true
+  ids_sorted =
+      sym (map-is_sorted (λ i. i < length edges) (λ i j. nat_lt (edge_at edges i).key (edge_at edges j).key) (λ c d. nat_lt (key c) (key d)) (chain_of edges)
+      (λ i j li lj. ap₂ nat_lt (sym (w.edges i li).key) (sym (w.edges j lj).key)) (alive_edges edges k) alive_within)
+      ∙ ap (is_sorted_by (λ c d. nat_lt (key c) (key d))) chains
+      ∙ chains_sorted (merged f.base) k (chains_at (merged f.base) k) (chains_exist (merged f.base) k)
+
+  pub keys_differ : (i j : ℕ) → i < length f.edges → j < length f.edges → i ≢ j → is_alive k (edge_at f.edges i) ≡ true → is_alive k (edge_at f.edges j) ≡ true
+      → (edge_at f.edges i).key ≢ (edge_at f.edges j).key
+  keys_differ i j li lj ne ai aj e = by (alive_edges edges k) ids_sorted (there i li ai) (there j lj aj)
+    where
+      there : (i : ℕ) → i < length edges → is_alive k (edge_at edges i) ≡ true → Among i (alive_edges edges k)
+      there i l a =
+          among_sort (λ i j. nat_lt (edge_at edges i).key (edge_at edges j).key) listed i
+          (among_kept (λ i. is_alive k (edge_at edges i)) (range_with_len 0 (length edges)) i (among_in_range 0 (length edges) i (omega arith) (omega (arith, l))) a)
+
+      by : (is : List ℕ) → is_sorted_by (λ i j. nat_lt (edge_at edges i).key (edge_at edges j).key) is ≡ true → Among i is → Among j is → ⊥
+      by [] s m n = absurd m
+      by (x ∷ is) s (inl a) (inl b) = ne (sym a ∙ b)
+      by (x ∷ is) s (inl a) (inr n) =
+          absurd (omega (arith, sorted_below (λ i. (edge_at edges i).key) x is j s n, e, ap (λ (n : ℕ). (edge_at edges n).key) a))
+      by (x ∷ is) s (inr m) (inl b) =
+          absurd (omega (arith, sorted_below (λ i. (edge_at edges i).key) x is i s m, e, ap (λ (n : ℕ). (edge_at edges n).key) b))
+      by (x ∷ is) s (inr m) (inr n) = by is (sorted_tail (λ i j. nat_lt (edge_at edges i).key (edge_at edges j).key) x is s) m n
+
+-- when the history is closed all its steps were made
+pub step_known : (made : ℕ) (closed : Bool) (g : Growth) → IsKept made closed g → (f : EdgeForest) → forest_of made closed g ≡ f → f.closed ≡ true → (k : ℕ) → k ≤ last_step f → k ≤ made
+step_known made closed g w f view done k l =
+    omega (arith, l, w.done (ap (λ (f : EdgeForest). f.closed) view ∙ done), ap last_step view)
+
+-- ---- at the end of the history
+
+module _ (made : ℕ) (g g' : Growth) (w : IsForest (forest_of made false g)) (few : length g.edges.items < 2 ^ 32) (all : made ≡ length (history_of g.base)) (less : made + 1 < never)
+    (base : g'.base ≡ g.base) (edges : g'.edges.items ≡ map (closed_edge (made + 1)) g.edges.items) where
+  abbrev old : List ForestEdge
+  old = g.edges.items
+
+  abbrev new : List ForestEdge
+  new = map (closed_edge (made + 1)) g.edges.items
+
+  new_is : (i : ℕ) → i < length old → edge_at new i ≡ closed_edge (made + 1) (edge_at old i)
+  new_is i l = get_or-map (closed_edge (made + 1)) old i _ _ l
+
+  keeps : {A : Type 0} (f : ForestEdge → A) → ((h : ℕ) (e : ForestEdge) → f (ended h e) ≡ f e) → (i : ℕ) → i < length old → f (edge_at new i) ≡ f (edge_at old i)
+  keeps f same i l = ap f (new_is i l) ∙ same (cond ((edge_at old i).high == never) (made + 1) (edge_at old i).high) (edge_at old i)
+
+  chains_same : chains_of new ≡ chains_of old
+  chains_same = same_parts new old (parts old)
+    where
+      parts : (es : List ForestEdge) → map (λ (e : ForestEdge). e.parts) (map (closed_edge (made + 1)) es) ≡ map (λ (e : ForestEdge). e.parts) es
+      parts [] = refl
+      parts (e ∷ es) = ap (λ ps. e.parts ∷ ps) (parts es)
+
+  count : length new ≡ length old
+  count = length-map old (closed_edge (made + 1))
+
+  alive_same : (k i : ℕ) → k ≤ made → i < length old → is_alive k (edge_at new i) ≡ is_alive k (edge_at old i)
+  alive_same k i l s =
+      ap₂ (λ (a b : ℕ). nat_le a k && nat_lt k b) (keeps (λ (e : ForestEdge). e.low) (λ h e. refl) i s) refl
+      ∙ ap (λ (b : Bool). nat_le (edge_at old i).low k && b) (ap (λ (e : ForestEdge). nat_lt k e.high) (new_is i s) ∙ by ((edge_at old i).high == never) refl)
+    where
+      by : (b : Bool) → ((edge_at old i).high == never) ≡ b → nat_lt k (cond b (made + 1) (edge_at old i).high) ≡ nat_lt k (edge_at old i).high
+      by true e =
+          lt-ltb k (made + 1) (omega (arith, l))
+          ∙ sym (lt-ltb k (edge_at old i).high (omega (arith, l, less, eqb-true (edge_at old i).high never e)))
+      by false e = refl
+
+  pub closed_forest : IsForest (forest_of made true g')
+  closed_forest = rw (base, edges) (record {
+    base = w.base;
+    partition = w.partition;
+    steps = w.steps;
+    edges = λ i l.
+        let s : i < length old = omega (arith, l, count) in
+        let e = w.edges i s in
+        let chain : chain_of new i ≡ chain_of old i = ap (λ (cs : List Chain). get_or cs i []) chains_same in
+        let same_low = keeps (λ (e : ForestEdge). e.low) (λ h e. refl) i s in
+        let same_key = keeps (λ (e : ForestEdge). e.key) (λ h e. refl) i s in
+        record {
+          parts = subst (All (IsPart (length g.base.arcs) i)) (sym (keeps (λ (e : ForestEdge). e.parts) (λ h e. refl) i s)) e.parts;
+          links = ap has_links chain ∙ e.links;
+          key = same_key ∙ e.key ∙ sym (ap key chain);
+          left = keeps (λ (e : ForestEdge). e.left) (λ h e. refl) i s ∙ e.left
+              ∙ sym (ap₂ (λ (n m : ℕ). label_at (merged g.base) n (arc_number g.base.arcs m).left) same_low same_key);
+          right = keeps (λ (e : ForestEdge). e.right) (λ h e. refl) i s ∙ e.right
+              ∙ sym (ap₂ (λ (n m : ℕ). label_at (merged g.base) n (arc_number g.base.arcs m).right) same_low same_key);
+        };
+    low = λ i l.
+        let s : i < length old = omega (arith, l, count) in
+        omega (arith, w.low i s, keeps (λ (e : ForestEdge). e.low) (λ h e. refl) i s);
+    chains = λ k l.
+        longer_chains k old new (record {
+          count = omega (arith, count);
+          key = λ i s. keeps (λ (e : ForestEdge). e.key) (λ h e. refl) i s;
+          chain = λ i s. ap (λ (cs : List Chain). get_or cs i []) chains_same;
+          alive = λ i s. alive_same k i l s;
+          later = λ i s z. absurd (omega (arith, s, z, count));
+        }) ∙ w.chains k l;
+  })
+
+  pub closed_is_kept : IsKept made true g'
+  closed_is_kept = record {
+    forest = closed_forest;
+    few = omega (arith, few, ap length edges, count);
+    growing = λ e. absurd (true≢false e);
+    done = λ e. all ∙ ap (λ m. length (history_of m)) (sym base);
+  }

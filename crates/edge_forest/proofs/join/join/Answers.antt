@@ -1,0 +1,32 @@
+use Rattle.std.proofs.Common.{refl, ◌∙◌}
+use Rattle.edge_forest.proofs.Limits.{rows_small, places_within}
+use Rattle.edge_forest.proofs.JoinStored.{one_there, other_there_once, join_stored, joined_at, rows_by, edges_by}
+use Rattle.edge_forest.proofs.join.join.Goals as goal
+
+pub meeting-requires-clause-places : goal.meeting-requires-clause-places
+meeting-requires-clause-places c = places_within c.args.low c.args.growth.now c.requires.stored c.args.node c.requires.node
+
+pub join-requires-clause-small : goal.join-requires-clause-small
+join-requires-clause-small c = rows_small c.args.low c.args.growth.now c.requires.stored
+
+pub end_edge-requires : goal.end_edge-requires
+end_edge-requires c = one_there c.args.low c.args.growth.now c.requires.stored _ c.in-Some.meeting c.in-Some.ensures c.requires.low
+
+pub end_edge-requires-2 : goal.end_edge-requires-2
+end_edge-requires-2 c =
+    other_there_once c.args.low c.args.growth.now c.requires.stored _ c.in-Some.meeting c.in-Some.ensures c.requires.low _ c.end_edge.ensures.edges
+
+pub returns-clause-stored : goal.returns-clause-stored
+returns-clause-stored c =
+    join_stored c.args.low c.args.growth.now c.requires.stored _ c.in-Some.meeting c.in-Some.ensures c.requires.low _ _ _ _
+    (rows_by c.args.low c.args.growth.now c.requires.stored _ c.in-Some.meeting c.in-Some.ensures c.requires.low _ _ (c.len-id.ensures ∙ c.args.growth.now.edges.ok.0) c.join.ensures.rows)
+    c.join.ensures.net
+    (edges_by c.args.low c.args.growth.now c.requires.stored _ c.in-Some.meeting c.in-Some.ensures c.requires.low _ _ _ _ c.end_edge.ensures.edges
+    c.end_edge-2.ensures.edges c.joined_parts.ensures c.push_reserved.ensures.items)
+
+pub returns-clause-joined : goal.returns-clause-joined
+returns-clause-joined c =
+    joined_at c.args.low c.args.growth.now c.requires.stored _ c.in-Some.meeting c.in-Some.ensures c.requires.low _ c.args.node refl refl refl
+    (rows_by c.args.low c.args.growth.now c.requires.stored _ c.in-Some.meeting c.in-Some.ensures c.requires.low _ _ (c.len-id.ensures ∙ c.args.growth.now.edges.ok.0) c.join.ensures.rows)
+    (edges_by c.args.low c.args.growth.now c.requires.stored _ c.in-Some.meeting c.in-Some.ensures c.requires.low _ _ _ _ c.end_edge.ensures.edges
+    c.end_edge-2.ensures.edges c.joined_parts.ensures c.push_reserved.ensures.items)

@@ -1,0 +1,38 @@
+-- The forest of edges of a base map, after some steps of its merge history.
+use Rattle.std.specs.Prelude.{◌≡◌, ◌<◌, ◌≤◌, ℕ, ◌-◌, ◌^◌, Bool, List, map, length, IsTrue}
+use Rattle.tgap_model.specs.Base.{BaseMap, is_base}
+use Rattle.tgap_model.specs.Partition.{IsPartition, base_segments}
+use Rattle.tgap_model.specs.History.{history_of}
+use Rattle.tgap_model.specs.Merged.{merged}
+use Rattle.tgap_model.specs.Chains.{chains_at}
+use Rattle.edge_forest.specs.declared.edge.ForestEdge.{ForestEdge}
+use Rattle.edge_forest.specs.Edges.{edge_at, chain_of, alive_edges, IsForestEdge}
+
+-- a base map, the number of steps made, whether the history is at its end, and the edges by number
+pub record EdgeForest : Type 0 where
+  pub base : BaseMap
+  pub made : ℕ
+  pub closed : Bool
+  pub edges : List ForestEdge
+
+-- the number of steps of the history
+abbrev pub last_step : EdgeForest → ℕ
+last_step f = length (history_of f.base)
+
+-- the high step of an edge that has not ended, before the history is at its end
+abbrev pub never : ℕ
+never = 2 ^ 32 - 1
+
+-- the edges whose range holds k are the chains after k steps
+abbrev pub AreChains : EdgeForest → ℕ → Type 0
+AreChains f k = map (chain_of f.edges) (alive_edges f.edges k) ≡ chains_at (merged f.base) k
+
+-- What is known of a forest: its base map is a planar partition, each edge is one, and after any number of steps that were made
+-- the edges whose range holds it are the chains.
+pub record IsForest (f : EdgeForest) : Type 0 where
+  pub base : IsTrue (is_base f.base)
+  pub partition : IsPartition (base_segments f.base)
+  pub steps : f.made ≤ last_step f
+  pub edges : (i : ℕ) → i < length f.edges → IsForestEdge (merged f.base) f.edges i
+  pub low : (i : ℕ) → i < length f.edges → (edge_at f.edges i).low ≤ f.made
+  pub chains : (k : ℕ) → k ≤ f.made → AreChains f k

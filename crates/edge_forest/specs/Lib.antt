@@ -1,0 +1,12 @@
+pub mod Edges
+pub mod Forest
+pub mod Nodes
+pub mod Net
+pub mod Family
+pub mod Rows
+pub mod Places
+pub mod Walks
+pub mod Growth
+pub mod Start
+pub mod Settle
+pub mod Kept

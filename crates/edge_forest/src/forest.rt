@@ -1,0 +1,171 @@
+//! The forest of edges.
+
+ghost use Rattle.std.specs.Prelude.{◌≡◌, ◌<◌, ◌≤◌, ◌+◌, ◌==◌, true, false, map, length, IfOk, OnOk, OnErr, if◌then◌else◌};
+ghost use Rattle.std.specs.List.{All};
+ghost use Rattle.std.specs.Vec.{vec_len};
+ghost use Rattle.tgap_model.specs.Merged.{merged, step_number};
+ghost use Rattle.tgap_model.specs.Chains.{chain_points, chains_at};
+ghost use Rattle.edge_forest.specs.Edges.{IsForestEdge, edge_at, chain_of, alive_edges};
+ghost use Rattle.edge_forest.specs.Forest.{IsForest, last_step, never};
+ghost use Rattle.edge_forest.specs.Kept.{closed_edge};
+
+use crate::alive::alive_at;
+use crate::edge::ForestEdge;
+use crate::growth::{Growth, NEVER};
+use crate::net::Net;
+use crate::nodes::Nodes;
+use crate::step::{grown, make_step};
+use crate::walk::points_of;
+use std::alloc::Global;
+use std::marker::Model;
+use tgap_model::{Base, Checked, List, Memory, MergeStep, Point};
+
+/// The edges of a base map: those of the map as it is, and those that the steps of its merge history make, one step after
+/// the other until the history is closed.
+#[derive(Debug, Drop)]
+pub struct Forest {
+    growth: Growth,
+    made: u32,
+    closed: bool,
+}
+
+impl Model for Forest {
+    ghost use Rattle.edge_forest.specs.Forest.{EdgeForest};
+    ghost use Rattle.edge_forest.specs.Kept.{IsKept};
+
+    ghost Value = { EdgeForest };
+
+    ghost view = { λ f. record { base = f.growth.base; made = f.made; closed = f.closed; edges = f.growth.edges.items } };
+
+    ghost invariant = { λ f. IsKept f.made f.closed f.growth };
+}
+
+/// The high step of an edge when the history is at its end.
+fn closed_high(high: u32, last: u32) -> u32
+    ensures { result ≡ (if high == never then last else high) }
+{
+    if high == NEVER { last } else { high }
+}
+
+/// Gives the edges that have not ended their high step.
+fn close_edges(edges: &mut Vec<ForestEdge>, high: u32)
+    ensures { edges.new.items ≡ map (closed_edge high) edges.old.items }
+{
+    for i in 0..edges.len() {
+        let edge = &mut edges[i];
+        edge.high = closed_high(edge.high, high);
+    }
+}
+
+/// Gives up what is kept while the history goes on.
+fn give_up(alloc: Global, growth: &mut Growth)
+    ensures base { growth.new.base ≡ growth.old.base }
+    ensures edges { growth.new.edges ≡ growth.old.edges }
+{
+    growth.nodes = Nodes {
+        node_of: Vec::new(alloc),
+        places: Vec::new(alloc),
+    };
+    growth.net = Net {
+        rows: Vec::new(alloc),
+        ends: Vec::new(alloc),
+        counts: Vec::new(alloc),
+    };
+    growth.faces = Vec::new(alloc);
+}
+
+impl Forest {
+    /// The edges of a map before its first step.
+    pub fn of_base(alloc: Global, checked: &Checked) -> Result<Forest, Memory>
+        ensures base { IfOk result (λ forest. forest.base ≡ checked.now) }
+        ensures made { IfOk result (λ forest. forest.made ≡ 0) }
+        ensures open { IfOk result (λ forest. forest.closed ≡ false) }
+    {
+        Ok(Forest {
+            growth: grown(alloc, checked)?,
+            made: 0,
+            closed: false,
+        })
+    }
+
+    /// The base map.
+    pub fn base(&self) -> &Base
+        ensures value { result.now ≡ self.now.base }
+        ensures forest { IsForest self.now }
+    {
+        &self.growth.base
+    }
+
+    /// The next step of the history: the edges between its loser and its winner end, and the others are joined at the
+    /// nodes whose degree became two. On want of memory nothing changes.
+    pub fn merge(&mut self, alloc: Global, step: &MergeStep) -> Result<(), Memory>
+        requires open { self.old.closed ≡ false }
+        requires more { self.old.made < last_step self.old }
+        requires next { step.now ≡ step_number (merged self.old.base) (self.old.made + 1) }
+        ensures base { OnOk result (self.new.base ≡ self.old.base) }
+        ensures made { OnOk result (self.new.made ≡ self.old.made + 1) }
+        ensures closed { OnOk result (self.new.closed ≡ false) }
+        ensures err { OnErr result (self.new ≡ self.old) }
+    {
+        let low = self.made + 1;
+        make_step(alloc, &mut self.growth, step, low)?;
+        self.made = low;
+        Ok(())
+    }
+
+    /// Ends the history, when all its steps were made: an edge that has not ended has the high step S + 1.
+    pub fn close(&mut self, alloc: Global) -> Result<(), Memory>
+        requires open { self.old.closed ≡ false }
+        requires all { self.old.made ≡ last_step self.old }
+        ensures base { OnOk result (self.new.base ≡ self.old.base) }
+        ensures made { OnOk result (self.new.made ≡ self.old.made) }
+        ensures closed { OnOk result (self.new.closed ≡ true) }
+        ensures err { OnErr result (self.new ≡ self.old) }
+    {
+        close_edges(&mut self.growth.edges, self.made + 1);
+        give_up(alloc, &mut self.growth);
+        self.closed = true;
+        Ok(())
+    }
+
+    /// An edge.
+    pub fn edge(&self, id: u32) -> &ForestEdge
+        requires { id < length self.now.edges }
+        ensures value { result.now ≡ edge_at self.now.edges id }
+        ensures edge { IsForestEdge (merged self.now.base) self.now.edges id }
+        ensures low { (edge_at self.now.edges id).low ≤ self.now.made }
+    {
+        &self.growth.edges[id as usize]
+    }
+
+    /// The points of an edge after k steps, each junction once.
+    pub fn points_at(&self, alloc: Global, id: u32, _k: u32) -> Result<List<Point>, Memory>
+        requires { id < length self.now.edges }
+        ensures { IfOk result (λ points. points ≡ chain_points self.now.base.arcs (chain_of self.now.edges id)) }
+    {
+        let arcs = self.growth.base.arcs().as_slice();
+        points_of(alloc, arcs, self.growth.edges.as_slice(), id)
+    }
+
+    /// The numbers of the edges that have not ended after the steps made so far, in the order of their keys.
+    pub fn present(&self, alloc: Global) -> Result<List<u32>, Memory>
+        requires { self.now.closed ≡ false }
+        ensures value { IfOk result (λ ids. ids ≡ alive_edges self.now.edges self.now.made) }
+        ensures within { IfOk result (λ ids. All (λ id. id < length self.now.edges) ids) }
+        ensures chains { IfOk result (λ ids. map (chain_of self.now.edges) ids ≡ chains_at (merged self.now.base) self.now.made) }
+    {
+        alive_at(alloc, self.growth.edges.as_slice(), self.made)
+    }
+
+    /// The numbers of the edges whose range holds k, in the order of their keys.
+    pub fn alive(&self, alloc: Global, k: u32) -> Result<List<u32>, Memory>
+        requires closed { self.now.closed ≡ true }
+        requires step { k ≤ last_step self.now }
+        ensures value { IfOk result (λ ids. ids ≡ alive_edges self.now.edges k) }
+        ensures within { IfOk result (λ ids. All (λ id. id < length self.now.edges) ids) }
+        ensures low { IfOk result (λ ids. All (λ id. (edge_at self.now.edges id).low ≤ k) ids) }
+        ensures chains { IfOk result (λ ids. map (chain_of self.now.edges) ids ≡ chains_at (merged self.now.base) k) }
+    {
+        alive_at(alloc, self.growth.edges.as_slice(), k)
+    }
+}

@@ -1,0 +1,4 @@
+pub mod Labels
+pub mod Sides
+pub mod Rows
+pub mod Slices

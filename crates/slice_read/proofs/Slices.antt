@@ -1,0 +1,57 @@
+-- What is read is the slice, and it has what the laws of slices say.
+use Rattle.std.proofs.Common.{◌≡◌, ◌<◌, ◌≤◌, ℕ, ◌+◌, ◌^◌, true, List, [], length, map, sym, ap, ap₂, ◌∙◌, subst, arith}
+use Rattle.tgap_model.specs.declared.slice.Edge.{Edge}
+use Rattle.tgap_model.specs.declared.slice.FaceRow.{FaceRow}
+use Rattle.tgap_model.specs.declared.slice.Removal.{Removal}
+use Rattle.tgap_model.specs.declared.slice.Slice.{Slice}
+use Rattle.tgap_model.specs.Base.{BaseMap, is_base}
+use Rattle.tgap_model.specs.Partition.{IsPartition, base_segments, edge_segments}
+use Rattle.tgap_model.specs.History.{history_of}
+use Rattle.tgap_model.specs.Merged.{merged, live_faces}
+use Rattle.tgap_model.specs.Chains.{chains_at}
+use Rattle.tgap_model.specs.Removals.{edges_of, removals_to}
+use Rattle.tgap_model.specs.Slice.{IsSlice, face_row, slice}
+use Rattle.tgap_model.proofs.BaseFacts.{base_facts}
+use Rattle.face_merge.proofs.Steps.{length-history_of}
+use Rattle.face_tree.specs.Tree.{FaceHistory, face_history}
+use Rattle.slice_laws.proofs.Unions.{nothing_removed, faces_are_unions}
+use Rattle.slice_laws.proofs.EvenSides.{slices_are_slices}
+use Rattle.slice_laws.proofs.Adjacency.{faces_are_adjacent}
+use Rattle.slice_laws.proofs.SlicesPlanar.{slices_are_partitions}
+use Rattle.slice_read.specs.Reading.{live_rows, HasAdjacentFaces, HasUnions}
+
+-- the last face has a number that is followed by another
+pub few_faces : (m : BaseMap) → is_base m ≡ true → (faces k : ℕ) → faces ≡ length m.classes → k ≤ length (history_of m) → faces + k + 1 < 2 ^ 32
+few_faces m base faces k e inside =
+    let facts = base_facts m base in
+    omega (arith, facts.few_faces, facts.few_arcs, length-history_of m, inside, e)
+
+-- the rows are those of the tree
+rows_are : (m : BaseMap) (t : FaceHistory) → t ≡ face_history (merged m) → (k last : ℕ) → last ≡ length m.classes + k
+    → live_rows t k last ≡ map (face_row (merged m)) (live_faces (merged m) k)
+rows_are m t history k last e = ap₂ (λ (u : FaceHistory) (n : ℕ). live_rows u k n) history e
+
+-- a slice of these rows and edges is the slice
+pub is_slice : (m : BaseMap) → m.rules.ratio ≡ 0 → (t : FaceHistory) → t ≡ face_history (merged m) → (k last : ℕ) → last ≡ length m.classes + k
+    → (faces : List FaceRow) (edges : List Edge) → faces ≡ live_rows t k last → edges ≡ edges_of (merged m) k [] (chains_at (merged m) k)
+    → record { step = k; faces = faces; edges = edges } ≡ slice m k
+unfolding slice
+is_slice m ratio t history k last e faces edges rows chains =
+    ap₂ (λ (rs : List FaceRow) (es : List Edge). record { step = k; faces = rs; edges = es }) (rows ∙ rows_are m t history k last e)
+    (chains ∙ ap (λ (removals : List Removal). edges_of (merged m) k removals (chains_at (merged m) k)) (sym (nothing_removed (merged m) k ratio)))
+
+module _ (m : BaseMap) (base : is_base m ≡ true) (planar : IsPartition (base_segments m)) (ratio : m.rules.ratio ≡ 0) (k : ℕ) (s : Slice)
+    (is : s ≡ slice m k) where
+  pub relation : IsSlice (merged m) k [] s
+  relation =
+      subst (λ (removals : List Removal). IsSlice (merged m) k removals s) (nothing_removed (merged m) k ratio)
+      (subst (IsSlice (merged m) k (removals_to (merged m) k)) (sym is) (slices_are_slices m base planar k))
+
+  pub partition : IsPartition (edge_segments s.edges)
+  partition = subst (λ (u : Slice). IsPartition (edge_segments u.edges)) (sym is) (slices_are_partitions m base planar ratio k)
+
+  pub adjacent : HasAdjacentFaces m k s
+  adjacent = subst (HasAdjacentFaces m k) (sym is) (faces_are_adjacent m base planar k)
+
+  pub unions : HasUnions m k s
+  unions = subst (HasUnions m k) (sym is) (faces_are_unions m base planar ratio k)

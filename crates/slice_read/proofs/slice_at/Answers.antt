@@ -1,0 +1,42 @@
+-- The numbers of faces fit, and what is read is the slice.
+use Rattle.std.proofs.Common.{◌∙◌, [], ap, arith, length}
+use Rattle.tgap_model.specs.Base.{BaseMap}
+use Rattle.tgap_model.specs.Merged.{merged}
+use Rattle.tgap_model.specs.Chains.{chains_at}
+use Rattle.tgap_model.specs.Removals.{edges_of}
+use Rattle.slice_read.proofs.Slices.{few_faces, is_slice, relation, partition, adjacent, unions}
+use Rattle.slice_read.proofs.slice_at.Goals as goal
+
+pub overflow_cast-last : goal.overflow_cast-last
+overflow_cast-last c =
+    let count = c.len.ensures ∙ (ap length c.classes.ensures.value ∙ ap (λ (m : BaseMap). length m.classes) c.base.ensures.value) in
+    omega (arith, few_faces c.args.built.now c.base.ensures.base _ c.args.k count (omega (arith, c.steps-steps.ensures, c.if-k-steps.false)))
+
+pub overflow_add-last : goal.overflow_add-last
+overflow_add-last c =
+    let count = c.len.ensures ∙ (ap length c.classes.ensures.value ∙ ap (λ (m : BaseMap). length m.classes) c.base.ensures.value) in
+    omega (arith, few_faces c.args.built.now c.base.ensures.base _ c.args.k count (omega (arith, c.steps-steps.ensures, c.if-k-steps.false)))
+
+pub faces_at-requires-clause-small : goal.faces_at-requires-clause-small
+faces_at-requires-clause-small c =
+    let count = c.len.ensures ∙ (ap length c.classes.ensures.value ∙ ap (λ (m : BaseMap). length m.classes) c.base.ensures.value) in
+    few_faces c.args.built.now c.base.ensures.base _ c.args.k count (omega (arith, c.steps-steps.ensures, c.if-k-steps.false))
+
+pub returns-clause-exact : goal.returns-clause-exact
+returns-clause-exact c =
+    let k = c.args.k in
+    let count = c.len.ensures ∙ (ap length c.classes.ensures.value ∙ ap (λ (m : BaseMap). length m.classes) c.base.ensures.value) in
+    let edges = c.in_ok-edges_at.ensures ∙ ap (λ (m : BaseMap). edges_of (merged m) k [] (chains_at (merged m) k)) c.forest.ensures.base in
+    is_slice c.args.built.now c.base.ensures.ratio c.tree-tree.result.now c.tree-tree.ensures k _ (omega (arith, count)) _ _ c.in_ok-faces_at.ensures edges
+
+pub returns-clause-slice : goal.returns-clause-slice
+returns-clause-slice c = relation c.args.built.now c.base.ensures.base c.base.ensures.partition c.base.ensures.ratio c.args.k _ (returns-clause-exact c)
+
+pub returns-clause-partition : goal.returns-clause-partition
+returns-clause-partition c = partition c.args.built.now c.base.ensures.base c.base.ensures.partition c.base.ensures.ratio c.args.k _ (returns-clause-exact c)
+
+pub returns-clause-adjacent : goal.returns-clause-adjacent
+returns-clause-adjacent c = adjacent c.args.built.now c.base.ensures.base c.base.ensures.partition c.base.ensures.ratio c.args.k _ (returns-clause-exact c)
+
+pub returns-clause-unions : goal.returns-clause-unions
+returns-clause-unions c = unions c.args.built.now c.base.ensures.base c.base.ensures.partition c.base.ensures.ratio c.args.k _ (returns-clause-exact c)

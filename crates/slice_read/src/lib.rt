@@ -1,0 +1,53 @@
+//! Slices of a built map: the map after any number of its merge steps. It stands on `tgap_build`, whose tree and forest
+//! have the faces and the edges of every slice, and on `tgap_model`, whose `Slice` says what a slice is.
+#![tactic(auto)]
+
+ghost use Rattle.std.specs.Prelude.{◌≡◌, ◌<◌, ◌↔◌, ℕ, [], length, IfOk, Err};
+ghost use Rattle.tgap_model.specs.Partition.{IsPartition, edge_segments};
+ghost use Rattle.tgap_model.specs.History.{history_of};
+ghost use Rattle.tgap_model.specs.Merged.{merged};
+ghost use Rattle.tgap_model.specs.Slice.{IsSlice, slice};
+ghost use Rattle.slice_read.specs.declared.fail.ReadFail.TheVariants.{StepTooHigh};
+ghost use Rattle.slice_read.specs.Reading.{HasAdjacentFaces, HasUnions};
+
+mod edges;
+mod faces;
+mod fail;
+
+use edges::edges_at;
+use faces::faces_at;
+pub use fail::ReadFail;
+use std::alloc::Global;
+use tgap_build::Built;
+use tgap_model::Slice;
+
+/// The slice of a built map after k steps of its merge history: the faces that are live then, by number, and the edges
+/// between them, by key. There is none after more steps than the history has.
+pub fn slice_at(alloc: Global, built: &Built, k: u32) -> Result<Slice, ReadFail>
+    // It is the slice by the definition.
+    ensures exact { IfOk result (λ s. s ≡ slice built.now k) }
+    // Its faces are the live ones, and its edges are the chains after k steps, with the faces at the sides of each arc.
+    ensures slice { IfOk result (IsSlice (merged built.now) k []) }
+    // It is a planar partition.
+    ensures partition { IfOk result (λ s. IsPartition (edge_segments s.edges)) }
+    // Two faces are adjacent exactly where base faces of theirs are, and each face is the union of its base faces.
+    ensures adjacent { IfOk result (HasAdjacentFaces built.now k) }
+    ensures unions { IfOk result (HasUnions built.now k) }
+    // It is refused exactly where k is above the number of the last step, which the refusal tells.
+    ensures high { (steps : ℕ) → (result ≡ Err (StepTooHigh steps)) ↔ ((length (history_of built.now) < k) × (steps ≡ length (history_of built.now))) }
+{
+    let steps = built.steps();
+    if k > steps {
+        return Err(ReadFail::StepTooHigh { steps });
+    }
+    let tree = built.tree();
+    let last = built.base().classes().len() as u32 + k;
+    Ok(Slice {
+        step: k,
+        faces: faces_at(alloc, tree, last, k)?,
+        edges: edges_at(alloc, tree, built.forest(), k)?,
+    })
+}
+
+#[cfg(test)]
+mod tests;

@@ -1,0 +1,76 @@
+//! What is built of a map.
+
+ghost use Rattle.std.specs.Prelude.{◌≡◌, true, length, IsTrue};
+ghost use Rattle.tgap_model.specs.Base.{is_base};
+ghost use Rattle.tgap_model.specs.Partition.{IsPartition, base_segments};
+ghost use Rattle.tgap_model.specs.History.{history_of};
+ghost use Rattle.tgap_model.specs.Merged.{merged};
+ghost use Rattle.face_tree.specs.Tree.{face_history};
+ghost use Rattle.edge_forest.specs.Forest.{last_step};
+ghost use Rattle.tgap_build.specs.Built.{IsBuilt};
+
+use edge_forest::Forest;
+use face_tree::FaceTree;
+use std::marker::Model;
+use tgap_model::Base;
+
+/// A checked map, its tree of faces and its forest of edges.
+#[derive(Debug, Drop)]
+pub struct Built {
+    tree: FaceTree,
+    forest: Forest,
+}
+
+impl Model for Built {
+    ghost use Rattle.tgap_model.specs.Base.{BaseMap};
+    ghost use Rattle.tgap_build.specs.Built.{IsBuilt};
+
+    ghost Value = { BaseMap };
+
+    ghost view = { λ b. b.forest.base };
+
+    ghost invariant = { λ b. IsBuilt b.tree b.forest };
+}
+
+impl Built {
+    /// The tree and the forest of one map, together.
+    pub(crate) fn of(tree: FaceTree, forest: Forest) -> Built
+        requires { IsBuilt tree forest }
+        ensures { result ≡ forest.base }
+    {
+        Built { tree, forest }
+    }
+
+    /// The base map: a planar partition.
+    pub fn base(&self) -> &Base
+        ensures value { result.now ≡ self.now }
+        ensures base { IsTrue (is_base self.now) }
+        ensures partition { IsPartition (base_segments self.now) }
+        ensures ratio { self.now.rules.ratio ≡ 0 }
+    {
+        self.forest.base()
+    }
+
+    /// The tree of its faces, by its merge history.
+    pub fn tree(&self) -> &FaceTree
+        ensures { result.now ≡ face_history (merged self.now) }
+    {
+        &self.tree
+    }
+
+    /// The forest of its edges, when all steps of its history were made.
+    pub fn forest(&self) -> &Forest
+        ensures base { result.now.base ≡ self.now }
+        ensures closed { result.now.closed ≡ true }
+        ensures made { result.now.made ≡ last_step result.now }
+    {
+        &self.forest
+    }
+
+    /// The number of steps of its merge history.
+    pub fn steps(&self) -> u32
+        ensures { result ≡ length (history_of self.now) }
+    {
+        self.tree.steps()
+    }
+}

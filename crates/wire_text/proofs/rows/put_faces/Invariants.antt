@@ -1,0 +1,8 @@
+use Rattle.std.proofs.Common.{◌≡◌, ◌++◌, map, take}
+use Rattle.tgap_model.specs.Texts.{lines}
+use Rattle.tgap_model.specs.SliceTexts.{face_words}
+use Rattle.wire_text.proofs.rows.put_faces.Given as goal
+
+-- the lines of the faces so far
+abbrev pub invariant-loop-face : goal.invariant-loop-face
+invariant-loop-face l = l.out ≡ l.fn.out ++ lines (map face_words (take l.face-index l.faces))

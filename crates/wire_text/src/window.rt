@@ -1,0 +1,43 @@
+//! The text of a window.
+
+ghost use Rattle.std.specs.Prelude.{◌≡◌, ◌++◌, ◌∷◌, [], OnOk, IfOk};
+ghost use Rattle.std.specs.Fmt.{signed_decimal};
+ghost use Rattle.tgap_model.specs.Texts.{line};
+ghost use Rattle.tgap_model.specs.SliceTexts.{window_words, window_text};
+ghost use Rattle.plain_io.specs.Fields.{fields};
+
+use crate::rows::{put_coordinate, put_slice_rows};
+use plain_io::put_count;
+use std::alloc::Global;
+use tgap_model::{Memory, Slice, Text, Window};
+
+/// A part of a slice in lines: the step and the window of the plane, and then the faces and edges as in a slice.
+pub fn window_text(alloc: Global, slice: &Slice, area: Window) -> Result<Text, Memory>
+    ensures { IfOk result (λ text. text ≡ window_text area slice.now) }
+{
+    let mut text = Text::new(alloc);
+    put_window(alloc, &mut text, slice.step, area)?;
+    put_slice_rows(alloc, &mut text, slice)?;
+    Ok(text)
+}
+
+/// Appends the line of a step and a window.
+fn put_window(alloc: Global, out: &mut Text, step: u32, area: Window) -> Result<(), Memory>
+    ensures { OnOk result (out.new ≡ out.old ++ line (window_words step area)) }
+{
+    out.push_slice(b"window")?;
+    put_count(alloc, out, step)?;
+    put_area(alloc, out, area)?;
+    out.push_slice(b"\n")
+}
+
+/// Appends the corners of a window, each coordinate with a space before it.
+fn put_area(alloc: Global, out: &mut Text, area: Window) -> Result<(), Memory>
+    ensures { OnOk result (out.new ≡ out.old
+        ++ fields (signed_decimal area.x0 ∷ signed_decimal area.y0 ∷ signed_decimal area.x1 ∷ signed_decimal area.y1 ∷ [])) }
+{
+    put_coordinate(alloc, out, area.x0)?;
+    put_coordinate(alloc, out, area.y0)?;
+    put_coordinate(alloc, out, area.x1)?;
+    put_coordinate(alloc, out, area.y1)
+}
