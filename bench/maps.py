@@ -80,10 +80,10 @@ SHAPES = {
 
 
 def write(path, shape, size):
-    """Writes the listing of a map to a file."""
+    """Writes the listing of a map to a file. No vertex of it is removed."""
     faces, arc_count, _, arcs = shape(size)
     with open(path, "w", encoding="ascii") as file:
-        file.write(f"tgap 1\ntransform 1 1 0 0\nratio 16\nclasses 1\nclass 0 1 1\nfaces {faces}\n")
+        file.write(f"tgap 1\ntransform 1 1 0 0\nratio 0\nclasses 1\nclass 0 1 1\nfaces {faces}\n")
         file.writelines(f"face {face} 0\n" for face in range(1, faces + 1))
         file.write(f"arcs {arc_count}\n")
         for left, right, count, points in arcs:

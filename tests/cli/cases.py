@@ -16,6 +16,11 @@ def borders(step, *rows):
     return text_of(f"borders {step}", *(f"border {row}" for row in rows))
 
 
+def slice_at(step, faces, *edges):
+    """The slice text, from faces of class 0 and edges such as '0 1 0 2 10 0 10 10'."""
+    return text_of(f"slice {step}", f"faces {len(faces)}", *(f"face {face} 0" for face in faces), f"edges {len(edges)}", *(f"edge {edge}" for edge in edges))
+
+
 BORDERS = [
     ("borders no_faces 0", 0, borders(0)),
     ("borders one_square 0", 0, borders(0, "0 1 0")),
@@ -69,7 +74,28 @@ CHECK = [
     ("check inside_out", 4, "refused 17 stack 0 0 0 1\n"),
 ]
 
-# Lines in place of a line of the two squares, and the fault that is told then. Both commands tell it.
+SLICE = [
+    ("slice no_faces 0", 0, slice_at(0, [])),
+    ("slice two_squares_ratio_0 0", 0, slice_at(0, [1, 2], "0 1 0 4 10 10 0 10 0 0 10 0", "1 2 0 4 10 0 20 0 20 10 10 10", "2 1 2 2 10 0 10 10")),
+    ("slice two_squares_ratio_0 1", 0, slice_at(1, [3], "0 3 0 7 10 10 0 10 0 0 10 0 20 0 20 10 10 10")),
+    ("slice hole_with_face 0", 0, slice_at(0, [1, 2], "0 1 0 5 0 0 30 0 30 30 0 30 0 0", "1 2 1 5 10 10 20 10 20 20 10 20 10 10")),
+    ("slice hole_with_face 1", 0, slice_at(1, [3], "0 3 0 5 0 0 30 0 30 30 0 30 0 0")),
+    ("slice four_squares 2", 0, slice_at(2, [5, 6], "0 5 0 5 0 10 0 0 10 0 20 0 20 10", "2 6 0 5 20 10 20 20 10 20 0 20 0 10",
+                                         "5 5 6 3 20 10 10 10 0 10")),
+    ("slice four_squares 3", 0, slice_at(3, [7], "0 7 0 9 20 10 20 20 10 20 0 20 0 10 0 0 10 0 20 0 20 10")),
+    ("slice no_faces 1", 5, "step too high 0\n"),
+    ("slice two_squares_ratio_0 2", 5, "step too high 1\n"),
+    ("slice two_squares_ratio_0 4294967295", 5, "step too high 1\n"),
+    ("slice four_squares 4", 5, "step too high 3\n"),
+    # The ratio is told before a step that is too high, and after a fault of the map.
+    ("slice two_squares 0", 4, "refused 21 ratio 16\n"),
+    ("slice two_squares 2", 4, "refused 21 ratio 16\n"),
+    ("slice crossing 0", 4, "refused 15 meets 0 1 125 125 50\n"),
+    ("slice exchanged_sides 0", 4, "refused 16 node 10 0 0 1 2 1\n"),
+    ("slice nested 9", 4, "refused 17 stack 10 1 1 0\n"),
+]
+
+# Lines in place of a line of the two squares, and the fault that is told then. Each command tells it.
 BAD_LINES = [
     (1, b"tgap 2", "18 bad-line 1"),
     (1, b"tgap 1\r", "18 bad-line 1"),
@@ -114,15 +140,16 @@ FILES = [
 for number, (place, line, fault) in enumerate(BAD_LINES):
     MAPS[f"bad_{number}"] = two_squares_with(place, line)
     FILES.append((f"bad_{number}", 4, f"refused {fault}\n"))
-ANY_FILE = [case for name, status, text in FILES for case in ((["check", name], status, text), (["borders", name, "0"], status, text))]
+ANY_FILE = [case for name, status, text in FILES for case in ((["check", name], status, text), (["borders", name, "0"], status, text), (["slice", name, "0"], status, text))]
 
 NO_COMMAND = [(words, 2, USAGE) for words in [
     "", "borders", "check", "borders two_squares", "borders two_squares 1 2", "borders 1 two_squares", "check two_squares 1",
-    "Borders two_squares 1", "Check two_squares", "borders two_squares 01", "borders two_squares -1", "borders two_squares +1",
+    "slice", "slice two_squares_ratio_0", "slice two_squares_ratio_0 0 0", "slice two_squares_ratio_0 00", "slice 0 two_squares_ratio_0",
+    "Borders two_squares 1", "Check two_squares", "Slice two_squares_ratio_0 0", "borders two_squares 01", "borders two_squares -1", "borders two_squares +1",
     "borders two_squares 1.0", "borders two_squares 4294967296", "borders two_squares 99999999999999999999", "two_squares", "help", "--help",
     [""], ["check", "two_squares", ""], ["borders", "two_squares", ""], ["borders", "two_squares", " 1"], ["borders", "two_squares", "1\n"],
     [" check", "two_squares"], [b"check", b"\xff"], [b"\xff", b"two_squares"], [b"borders", b"two_squares", b"\xff"],
     [b"check", b"two_squares\xc3"], ["check", *["two_squares"] * 1000],
 ]]
 
-CASES = [*BORDERS, *CHECK, *ANY_FILE, *NO_COMMAND]
+CASES = [*BORDERS, *CHECK, *SLICE, *ANY_FILE, *NO_COMMAND]

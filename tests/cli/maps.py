@@ -31,14 +31,15 @@ THREE_SQUARES = ["1 0 4 10 10 0 10 0 0 10 0", "2 0 2 10 0 20 0", "3 0 4 20 0 30 
 
 MAPS = {
     # sound maps
-    "no_faces": listing(0, []),
+    "no_faces": listing(0, [], ratio=0),
     "one_square": listing(1, [f"1 0 5 {SQUARE}"]),
     "two_apart": listing(2, [f"1 0 5 {SQUARE}", "2 0 5 20 0 30 0 30 10 20 10 20 0"]),
     "two_squares": listing(2, TWO_SQUARES),
+    "two_squares_ratio_0": listing(2, TWO_SQUARES, ratio=0),
     "three_squares": listing(3, THREE_SQUARES, classes=("3 1 1", "1 1 5"), class_of={2: 1, 3: 1}),
     "four_squares": listing(4, FOUR_SQUARES, ratio=0),
     "corner": listing(2, ["1 0 5 10 10 0 10 0 0 10 0 10 10", f"2 0 5 {INNER_SQUARE}"]),
-    "hole_with_face": listing(2, [f"1 0 5 {LARGE_SQUARE}", f"2 1 5 {INNER_SQUARE}"]),
+    "hole_with_face": listing(2, [f"1 0 5 {LARGE_SQUARE}", f"2 1 5 {INNER_SQUARE}"], ratio=0),
     "hole": listing(1, [f"1 0 5 {LARGE_SQUARE}", f"0 1 5 {INNER_SQUARE}"]),
     "spike": listing(3, SPIKE),
     "widest": listing(1, [f"1 0 4 -{MOST} -{MOST} {MOST} -{MOST} 0 {MOST} -{MOST} -{MOST}"]),

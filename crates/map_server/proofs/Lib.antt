@@ -1,4 +1,4 @@
-pub mod Labels
+pub mod Sides
 pub mod Statuses
 pub mod Loads
 pub mod Says

@@ -3,7 +3,7 @@ use Rattle.std.specs.Prelude.{Option, option_map}
 use Rattle.map_server.specs.declared.command.Source.{Source}
 use Rattle.map_server.specs.declared.command.Source.TheVariants.{Listing}
 use Rattle.map_server.specs.declared.command.Command.{Command}
-use Rattle.map_server.specs.declared.command.Command.TheVariants.{Borders, Check}
+use Rattle.map_server.specs.declared.command.Command.TheVariants.{Borders, Check, Slice}
 use Rattle.map_server.specs.Command as spec
 
 abbrev pub source_of : Source → spec.Source
@@ -12,6 +12,7 @@ source_of (Listing name) = spec.Listing name.now
 abbrev pub command_of : Command → spec.Command
 command_of (Borders source step) = spec.Borders (source_of source) step
 command_of (Check source) = spec.Check (source_of source)
+command_of (Slice source step) = spec.Slice (source_of source) step
 
 abbrev pub asked : Option Command → Option spec.Command
 asked command = option_map command_of command

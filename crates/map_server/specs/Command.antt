@@ -6,10 +6,11 @@ use Rattle.tgap_model.specs.Texts.{number_of}
 pub data Source : Type 0 where
   Listing : List ℕ → Source
 
--- the borders of a map after a step of its history, or whether a map is a planar partition
+-- the borders of a map after a step of its history, whether a map is a planar partition, or its slice after a step
 pub data Command : Type 0 where
   Borders : Source → ℕ → Command
   Check : Source → Command
+  Slice : Source → ℕ → Command
 
 -- the step that a word names: a canonical decimal from 0 to 4,294,967,295
 abbrev pub step_of : List ℕ → Option ℕ

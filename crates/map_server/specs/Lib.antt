@@ -5,5 +5,6 @@ pub mod Asked
 pub mod MapFile
 pub mod Borders
 pub mod Check
+pub mod Slice
 pub mod Commands
 pub mod Answers

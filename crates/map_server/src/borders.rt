@@ -54,12 +54,11 @@ fn borders_of(alloc: Global, base: &Base, step: u32) -> Result<Text, Outcome>
     ensures { IsEither (SaysBorders step base.now) (borders_outcome step base.now) (outcome_from result) }
 {
     let steps = history(alloc, base)?;
-    let steps = steps.as_slice();
     if step as usize > steps.len() {
         return Err(Outcome::StepTooHigh {
             steps: steps.len() as u32,
         });
     }
-    let rows = border_rows(alloc, base, &steps[..step as usize])?;
+    let rows = border_rows(alloc, base, &steps, step)?;
     Ok(borders_text(alloc, step, &rows)?)
 }

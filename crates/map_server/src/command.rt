@@ -4,7 +4,7 @@ ghost use Rattle.std.specs.Prelude.{◌≡◌, string_bytes, map};
 ghost use Rattle.map_server.specs.Commands.{command};
 ghost use Rattle.map_server.specs.Asked.{asked};
 
-use crate::{borders, check};
+use crate::{borders, check, slice};
 
 /// Where a map is read from.
 #[derive(Clone, Copy, Drop)]
@@ -20,6 +20,8 @@ pub enum Command<'a> {
     Borders { map: Source<'a>, step: u32 },
     /// Whether a map is a planar partition.
     Check { map: Source<'a> },
+    /// The slice of a map after this step of its history.
+    Slice { map: Source<'a>, step: u32 },
 }
 
 /// The command that the words are, or None where they are none.
@@ -35,6 +37,8 @@ pub fn parse_command(words: &[String]) -> Option<Command<'_>>
         borders::parse(words)
     } else if name == "check" {
         check::parse(words)
+    } else if name == "slice" {
+        slice::parse(words)
     } else {
         None
     }

@@ -9,6 +9,7 @@ mod command;
 mod load;
 mod outcome;
 mod run;
+mod slice;
 #[cfg(test)]
 mod tests;
 

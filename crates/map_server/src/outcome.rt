@@ -3,10 +3,11 @@
 ghost use Rattle.std.specs.Prelude.{◌≡◌, ◌⊎◌, [], ◌∷◌, ◌++◌, decimal, IfOk, OnErr};
 ghost use Rattle.map_server.specs.declared.outcome.Outcome.TheVariants as outcome;
 ghost use Rattle.map_server.specs.declared.outcome.Misfit.TheVariants as misfit;
-ghost use Rattle.map_server.specs.Outcomes.{TakesMemory, status_of, text_of, load_fault_text, not_coarser_text, misfit_text, bytes_of};
+ghost use Rattle.map_server.specs.Outcomes.{TakesMemory, status_of, text_of, load_fault_text, ratio_text, not_coarser_text, misfit_text, bytes_of};
 ghost use Rattle.map_server.specs.Delivery.{Delivers, DeliversText};
 
 use plain_io::{Sink, Which, put_count};
+use slice_read::ReadFail;
 use std::alloc::Global;
 use tgap_model::{MapFault, Memory, Or, Text};
 use wire_text::{fault_text, step_too_high_text};
@@ -36,6 +37,8 @@ pub enum Outcome {
     LoadFault(Which),
     /// The map is refused for this fault.
     Refused(MapFault),
+    /// Vertices of the map should be removed, by this ratio, and no command does that yet.
+    RatioRefused { ratio: u32 },
     /// The step is above the last one, which is this.
     StepTooHigh { steps: u32 },
     /// The step to go to is above the step to go from.
@@ -73,6 +76,20 @@ impl From<Or<MapFault>> for Outcome {
     }
 }
 
+impl From<ReadFail> for Outcome {
+    ghost use Rattle.std.specs.Prelude.{◌≡◌};
+    ghost use Rattle.map_server.specs.Outcomes.{read_refusal};
+
+    ghost from_gives = { λ e o. o ≡ read_refusal e };
+
+    fn from(refused: ReadFail) -> Outcome {
+        match refused {
+            ReadFail::StepTooHigh { steps } => Outcome::StepTooHigh { steps },
+            ReadFail::Memory => Outcome::OutOfMemory,
+        }
+    }
+}
+
 /// A text that is always there, or one that was made.
 #[derive(Drop)]
 enum Line {
@@ -101,7 +118,7 @@ impl Outcome {
             Outcome::Done(_) => 0,
             Outcome::Usage => 2,
             Outcome::LoadFault(_) => 3,
-            Outcome::Refused(_) => 4,
+            Outcome::Refused(_) | Outcome::RatioRefused { .. } => 4,
             Outcome::StepTooHigh { .. } | Outcome::NotCoarser { .. } => 5,
             Outcome::OutOfMemory => 7,
             Outcome::PortFault => 8,
@@ -119,6 +136,7 @@ impl Outcome {
             Outcome::Usage => Line::Fixed(USAGE),
             Outcome::LoadFault(which) => Line::Fixed(load_fault_text(which)),
             Outcome::Refused(fault) => Line::Made(fault_text(alloc, &fault)?),
+            Outcome::RatioRefused { ratio } => Line::Made(ratio_text(alloc, ratio)?),
             Outcome::StepTooHigh { steps } => Line::Made(step_too_high_text(alloc, steps)?),
             Outcome::NotCoarser { from, to } => Line::Made(not_coarser_text(alloc, from, to)?),
             Outcome::OutOfMemory => Line::Fixed(b"memory\n"),
@@ -164,19 +182,26 @@ fn load_fault_text(which: Which) -> &'static [u8]
     }
 }
 
+/// The line that tells that vertices should be removed, by this ratio.
+fn ratio_text(alloc: Global, ratio: u32) -> Result<Text, Memory>
+    ensures { IfOk result (λ text. text ≡ ratio_text ratio) }
+{
+    numbered_text(alloc, b"refused 21 ratio", ratio)
+}
+
 /// The line that tells why a record is not replayed.
 fn misfit_text(alloc: Global, misfit: Misfit) -> Result<Text, Memory>
     ensures { IfOk result (λ text. text ≡ misfit_text misfit) }
 {
     match misfit {
-        Misfit::SliceLine { line } => line_fault_text(alloc, b"unfit slice line", line),
-        Misfit::PacketLine { line } => line_fault_text(alloc, b"unfit packet line", line),
+        Misfit::SliceLine { line } => numbered_text(alloc, b"unfit slice line", line),
+        Misfit::PacketLine { line } => numbered_text(alloc, b"unfit packet line", line),
         Misfit::Rule { step, rule } => broken_rule_text(alloc, step, rule),
     }
 }
 
-/// These words and the number of a line.
-fn line_fault_text(alloc: Global, words: &[u8], number: u32) -> Result<Text, Memory>
+/// A line of these words and a number.
+fn numbered_text(alloc: Global, words: &[u8], number: u32) -> Result<Text, Memory>
     ensures { IfOk result (λ text. text ≡ words.now ++ 32 ∷ decimal number ++ 10 ∷ []) }
 {
     let mut text = Text::from_slice(alloc, words)?;

@@ -15,7 +15,7 @@ ghost use Rattle.map_server.specs.Answers.{Answers, Failed, KeepCounts, LeavesKi
 
 use crate::command::{Command, parse_command};
 use crate::outcome::Outcome;
-use crate::{borders, check};
+use crate::{borders, check, slice};
 use plain_io::{Files, Sink};
 use std::alloc::Global;
 use std::thread::Threads;
@@ -26,10 +26,11 @@ use tgap_model::Text;
 ///
 /// | Status | Comes where | Text |
 /// |---|---|---|
-/// | 0 | the command was done | the borders text of the step, or `ok` with the numbers of faces, arcs and points |
+/// | 0 | the command was done | the borders text or the slice text of the step, or `ok` with the numbers of faces, arcs and points |
 /// | 2 | the words are no command | the usage line |
 /// | 3 | a file that the command reads could not be loaded; the count of faults of its kind rose | `load fault` and the kind |
-/// | 4 | the map file is too long, or the listing of no base map, or the map that is checked is no planar partition | the first fault |
+/// | 4 | the map file is too long, or the listing of no base map, or the map that is checked or sliced is no planar partition | the first fault |
+/// | 4 | vertices of the map that is sliced should be removed: its ratio is above 0 | `refused 21 ratio` with the ratio |
 /// | 5 | the step is above the last one | `step too high` with that step |
 /// | 6 | the text could not be put; the count of faults of the sink rose | a front of the text |
 /// | 7 | memory is wanting | `memory` |
@@ -49,6 +50,9 @@ pub fn run<R: Threads + Sync, F: Files, K: Sink>(
         → result ≢ 3 → result ≢ 6 → result ≢ 7
         → (contents : Contents) × MayHold (F.told files.old) (files_of c) contents
         × PutsWhole (outcome_of c contents) (K.told out.old) (K.told out.new) result }
+    // For a slice this says: the map is a planar partition, and what is put is the text of its slice by the definition, whose
+    // edges are chains of its arcs. The slice is a planar partition too; each face of it is the union of the base faces
+    // that the history made it of, and two are adjacent exactly where base faces of theirs are.
     ensures done { result ≡ 0
         → PutsAnswer (map string_bytes words.now) (F.told files.old) (K.told out.old) (K.told out.new) outcome.Done }
     ensures usage { result ≡ 2 → command (map string_bytes words.now) ≡ None }
@@ -63,7 +67,8 @@ pub fn run<R: Threads + Sync, F: Files, K: Sink>(
     ensures kinds_kept { (kind : Kind) → LeavesKind (files_for (command (map string_bytes words.now))) kind
         → F.faults files.new kind ≡ F.faults files.old kind }
     ensures refused { result ≡ 4
-        → PutsAnswer (map string_bytes words.now) (F.told files.old) (K.told out.old) (K.told out.new) outcome.Refused }
+        → PutsAnswer (map string_bytes words.now) (F.told files.old) (K.told out.old) (K.told out.new) outcome.Refused
+        ⊎ PutsAnswer (map string_bytes words.now) (F.told files.old) (K.told out.old) (K.told out.new) outcome.RatioRefused }
     ensures too_high { result ≡ 5
         → PutsAnswer (map string_bytes words.now) (F.told files.old) (K.told out.old) (K.told out.new) outcome.StepTooHigh
         ⊎ PutsAnswer (map string_bytes words.now) (F.told files.old) (K.told out.old) (K.told out.new) not_coarser }
@@ -106,5 +111,6 @@ fn answer<R: Threads + Sync, F: Files>(
         None => Err(Outcome::Usage),
         Some(Command::Borders { map, step }) => borders::answer(alloc, map, step, files),
         Some(Command::Check { map }) => check::answer(rt, alloc, map, files),
+        Some(Command::Slice { map, step }) => slice::answer(rt, alloc, map, step, files),
     }
 }

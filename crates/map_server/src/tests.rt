@@ -13,6 +13,10 @@ use tgap_model::{List, Memory, Text};
 const TWO_SQUARES: &str =
     "tgap 1\ntransform 1 1 0 0\nratio 16\nclasses 1\nclass 0 1 1\nfaces 2\nface 1 0\nface 2 0\narcs 3\narc 1 0 4 10 10 0 10 0 0 10 0\narc 2 0 4 10 0 20 0 20 10 10 10\narc 1 2 2 10 0 10 10\nend\n";
 
+/// The two squares, of which no vertex is removed.
+const TWO_SQUARES_RATIO_0: &str =
+    "tgap 1\ntransform 1 1 0 0\nratio 0\nclasses 1\nclass 0 1 1\nfaces 2\nface 1 0\nface 2 0\narcs 3\narc 1 0 4 10 10 0 10 0 0 10 0\narc 2 0 4 10 0 20 0 20 10 10 10\narc 1 2 2 10 0 10 10\nend\n";
+
 const FOUR_SQUARES: &str =
     "tgap 1\ntransform 1 1 0 0\nratio 0\nclasses 1\nclass 0 1 1\nfaces 4\nface 1 0\nface 2 0\nface 3 0\nface 4 0\narcs 8\narc 1 0 3 0 10 0 0 10 0\narc 2 0 3 10 0 20 0 20 10\narc 4 0 3 20 10 20 20 10 20\narc 3 0 3 10 20 0 20 0 10\narc 1 2 2 10 0 10 10\narc 2 4 2 20 10 10 10\narc 4 3 2 10 20 10 10\narc 3 1 2 0 10 10 10\nend\n";
 
@@ -22,6 +26,23 @@ const THREE_SQUARES: &str =
 
 const HOLE_WITH_FACE: &str =
     "tgap 1\ntransform 1 1 0 0\nratio 0\nclasses 1\nclass 0 1 1\nfaces 2\nface 1 0\nface 2 0\narcs 2\narc 1 0 5 0 0 30 0 30 30 0 30 0 0\narc 2 1 5 10 10 20 10 20 20 10 20 10 10\nend\n";
+
+const NO_FACES: &str =
+    "tgap 1\ntransform 1 1 0 0\nratio 0\nclasses 1\nclass 0 1 1\nfaces 0\narcs 0\nend\n";
+
+const ONE_SQUARE: &str =
+    "tgap 1\ntransform 1 1 0 0\nratio 0\nclasses 1\nclass 0 1 1\nfaces 1\nface 1 0\narcs 1\narc 1 0 5 0 0 10 0 10 10 0 10 0 0\nend\n";
+
+const TWO_APART: &str =
+    "tgap 1\ntransform 1 1 0 0\nratio 0\nclasses 1\nclass 0 1 1\nfaces 2\nface 1 0\nface 2 0\narcs 2\narc 1 0 5 0 0 10 0 10 10 0 10 0 0\narc 2 0 5 20 0 30 0 30 10 20 10 20 0\nend\n";
+
+/// Two squares that have one corner in common.
+const CORNER: &str =
+    "tgap 1\ntransform 1 1 0 0\nratio 0\nclasses 1\nclass 0 1 1\nfaces 2\nface 1 0\nface 2 0\narcs 2\narc 1 0 5 10 10 0 10 0 0 10 0 10 10\narc 2 0 5 10 10 20 10 20 20 10 20 10 10\nend\n";
+
+/// Two arcs that cross.
+const CROSSING: &str =
+    "tgap 1\ntransform 1 1 0 0\nratio 16\nclasses 1\nclass 0 1 1\nfaces 2\nface 1 0\nface 2 0\narcs 2\narc 1 0 2 0 0 5 5\narc 2 0 2 0 5 5 0\nend\n";
 
 /// A face that has no border.
 const LONELY_FACE: &str =
@@ -146,6 +167,114 @@ fn worked_maps(rt: HostRuntime) -> Result<(), Fail> {
         (TWO_SQUARES, "check", 2, USAGE),
         (TWO_SQUARES, "check map 1", 2, USAGE),
         (TWO_SQUARES, "Check map", 2, USAGE),
+    ] {
+        let mut files = one_file(alloc, "map", map.as_bytes(), List::new(alloc))?;
+        let mut out = MemorySink::new(alloc, 1000, List::new(alloc))?;
+        let words_asked = words_of(alloc, words)?;
+        assert_eq!(rt;
+            run(&rt, alloc, words_asked.as_slice(), &mut files, &mut out),
+            status,
+            "{words}"
+        );
+        assert_eq!(rt; out.bytes(), text.as_bytes(), "{words}");
+    }
+    Ok(())
+}
+
+#[test]
+fn slices_of_worked_maps(rt: HostRuntime) -> Result<(), Fail> {
+    let alloc = rt.alloc();
+    for (map, words, status, text) in [
+        (
+            TWO_SQUARES_RATIO_0,
+            "slice map 0",
+            0,
+            "slice 0\nfaces 2\nface 1 0\nface 2 0\nedges 3\nedge 0 1 0 4 10 10 0 10 0 0 10 0\nedge 1 2 0 4 10 0 20 0 20 10 10 10\nedge 2 1 2 2 10 0 10 10\nend\n",
+        ),
+        (
+            TWO_SQUARES_RATIO_0,
+            "slice map 1",
+            0,
+            "slice 1\nfaces 1\nface 3 0\nedges 1\nedge 0 3 0 7 10 10 0 10 0 0 10 0 20 0 20 10 10 10\nend\n",
+        ),
+        (TWO_SQUARES_RATIO_0, "slice map 2", 5, "step too high 1\n"),
+        (
+            TWO_SQUARES_RATIO_0,
+            "slice map 4294967295",
+            5,
+            "step too high 1\n",
+        ),
+        (TWO_SQUARES, "slice map 0", 4, "refused 21 ratio 16\n"),
+        (TWO_SQUARES, "slice map 2", 4, "refused 21 ratio 16\n"),
+        (
+            ONE_SQUARE,
+            "slice map 0",
+            0,
+            "slice 0\nfaces 1\nface 1 0\nedges 1\nedge 0 1 0 5 0 0 10 0 10 10 0 10 0 0\nend\n",
+        ),
+        (
+            NO_FACES,
+            "slice map 0",
+            0,
+            "slice 0\nfaces 0\nedges 0\nend\n",
+        ),
+        (NO_FACES, "slice map 1", 5, "step too high 0\n"),
+        (TWO_APART, "slice map 1", 5, "step too high 0\n"),
+        (CORNER, "slice map 1", 5, "step too high 0\n"),
+        (
+            CORNER,
+            "slice map 0",
+            0,
+            "slice 0\nfaces 2\nface 1 0\nface 2 0\nedges 2\nedge 0 1 0 5 10 10 0 10 0 0 10 0 10 10\nedge 1 2 0 5 10 10 20 10 20 20 10 20 10 10\nend\n",
+        ),
+        (
+            HOLE_WITH_FACE,
+            "slice map 0",
+            0,
+            "slice 0\nfaces 2\nface 1 0\nface 2 0\nedges 2\nedge 0 1 0 5 0 0 30 0 30 30 0 30 0 0\nedge 1 2 1 5 10 10 20 10 20 20 10 20 10 10\nend\n",
+        ),
+        (
+            HOLE_WITH_FACE,
+            "slice map 1",
+            0,
+            "slice 1\nfaces 1\nface 3 0\nedges 1\nedge 0 3 0 5 0 0 30 0 30 30 0 30 0 0\nend\n",
+        ),
+        (
+            FOUR_SQUARES,
+            "slice map 0",
+            0,
+            "slice 0\nfaces 4\nface 1 0\nface 2 0\nface 3 0\nface 4 0\nedges 8\nedge 0 1 0 3 0 10 0 0 10 0\nedge 1 2 0 3 10 0 20 0 20 10\nedge 2 4 0 3 20 10 20 20 10 20\nedge 3 3 0 3 10 20 0 20 0 10\nedge 4 1 2 2 10 0 10 10\nedge 5 2 4 2 20 10 10 10\nedge 6 4 3 2 10 20 10 10\nedge 7 3 1 2 0 10 10 10\nend\n",
+        ),
+        (
+            FOUR_SQUARES,
+            "slice map 1",
+            0,
+            "slice 1\nfaces 3\nface 3 0\nface 4 0\nface 5 0\nedges 6\nedge 0 5 0 5 0 10 0 0 10 0 20 0 20 10\nedge 2 4 0 3 20 10 20 20 10 20\nedge 3 3 0 3 10 20 0 20 0 10\nedge 5 5 4 2 20 10 10 10\nedge 6 4 3 2 10 20 10 10\nedge 7 3 5 2 0 10 10 10\nend\n",
+        ),
+        (
+            FOUR_SQUARES,
+            "slice map 2",
+            0,
+            "slice 2\nfaces 2\nface 5 0\nface 6 0\nedges 3\nedge 0 5 0 5 0 10 0 0 10 0 20 0 20 10\nedge 2 6 0 5 20 10 20 20 10 20 0 20 0 10\nedge 5 5 6 3 20 10 10 10 0 10\nend\n",
+        ),
+        (
+            FOUR_SQUARES,
+            "slice map 3",
+            0,
+            "slice 3\nfaces 1\nface 7 0\nedges 1\nedge 0 7 0 9 20 10 20 20 10 20 0 20 0 10 0 0 10 0 20 0 20 10\nend\n",
+        ),
+        (FOUR_SQUARES, "slice map 4", 5, "step too high 3\n"),
+        (
+            CROSSING,
+            "slice map 9",
+            4,
+            "refused 15 meets 0 1 125 125 50\n",
+        ),
+        (TWO_SQUARES_RATIO_0, "slice none 0", 3, "load fault map\n"),
+        (TWO_SQUARES_RATIO_0, "slice map", 2, USAGE),
+        (TWO_SQUARES_RATIO_0, "slice map 0 0", 2, USAGE),
+        (TWO_SQUARES_RATIO_0, "slice map 00", 2, USAGE),
+        (TWO_SQUARES_RATIO_0, "Slice map 0", 2, USAGE),
     ] {
         let mut files = one_file(alloc, "map", map.as_bytes(), List::new(alloc))?;
         let mut out = MemorySink::new(alloc, 1000, List::new(alloc))?;

@@ -2,11 +2,14 @@
 
 use crate::{ReadFail, slice_at};
 use base_check::check;
+use edge_forest::Forest;
 use std::alloc::Global;
 use std::test::Fail;
 use std::thread::Threads;
 use tgap_build::{Built, build};
-use tgap_model::{Base, BaseArc, Edge, FaceRow, List, Memory, Or, Point, Rules, Transform};
+use tgap_model::{
+    Base, BaseArc, Checked, Edge, FaceRow, List, Memory, Or, Point, Rules, Transform,
+};
 
 const LEFT: [(i64, i64); 4] = [(10, 10), (0, 10), (0, 0), (10, 0)];
 
@@ -57,15 +60,22 @@ fn two_squares(alloc: Global) -> Result<Option<Base>, Memory> {
     Ok(Base::new(transform, rules, classes, arcs_of_squares(alloc)?))
 }
 
-/// What is built of them.
-fn built_squares<R: Threads + Sync>(rt: &R, alloc: Global) -> Result<Option<Built>, Memory> {
+/// The squares, checked.
+fn checked_squares<R: Threads + Sync>(rt: &R, alloc: Global) -> Result<Option<Checked>, Memory> {
     let Some(base) = two_squares(alloc)? else {
         return Ok(None);
     };
-    let checked = match check(rt, alloc, base) {
-        Ok(checked) => checked,
-        Err(Or::Fault(_)) => return Ok(None),
-        Err(Or::Memory) => return Err(Memory),
+    match check(rt, alloc, base) {
+        Ok(checked) => Ok(Some(checked)),
+        Err(Or::Fault(_)) => Ok(None),
+        Err(Or::Memory) => Err(Memory),
+    }
+}
+
+/// What is built of them.
+fn built_squares<R: Threads + Sync>(rt: &R, alloc: Global) -> Result<Option<Built>, Memory> {
+    let Some(checked) = checked_squares(rt, alloc)? else {
+        return Ok(None);
     };
     if checked.base().rules().ratio != 0 {
         return Ok(None);
@@ -82,6 +92,17 @@ fn is_edge(edge: &Edge, key: u32, left: u32, right: u32, coordinates: &[(i64, i6
             .iter()
             .zip(coordinates)
             .all(|(point, (x, y))| point.x == *x && point.y == *y)
+}
+
+#[test]
+fn edges_that_have_not_ended(rt: HostRuntime) -> Result<(), Fail> {
+    let checked = checked_squares(&rt, rt.alloc())?.ok_or("no map")?;
+    let forest = Forest::of_base(rt.alloc(), &checked)?;
+    assert_eq!(rt;
+        forest.present(rt.alloc())?.as_slice(),
+        [0, 1, 2].as_slice()
+    );
+    Ok(())
 }
 
 #[test]
