@@ -1,6 +1,7 @@
 //! The edges that have not ended, by their keys, and where they end.
 
 ghost use Rattle.std.specs.Prelude.{◌≡◌, ◌≢◌, ◌<◌, ◌≤◌, ◌+◌, ◌-◌, ◌^◌, length, get_or, set, None, Some, ℕ, IfSome, MatchOption};
+ghost use Rattle.edge_forest.specs.declared.nodes.Nodes as NodeTable;
 ghost use Rattle.edge_forest.specs.Net.{IsNet, IsAlone, IsMeeting, IsBesides, NoneBesides};
 ghost use Rattle.edge_forest.specs.Nodes.{places_at};
 ghost use Rattle.edge_forest.specs.Rows.{joined_row};
@@ -143,12 +144,12 @@ impl Net {
         requires places { All (λ x. x < length self.now.ends.items) (places_at nodes.now node) }
         ensures { MatchOption result (IsAlone self.now (places_at nodes.now node)) (IsMeeting self.now (places_at nodes.now node)) }
     {
-        self.meeting_at(nodes, nodes.places[node as usize].as_slice())
+        self.meeting_at(nodes.places[node as usize].as_slice())
     }
 
     /// The same at some places.
-    fn meeting_at(&self, _nodes: &Nodes, places: &[u32]) -> Option<Meeting>
-        requires net { IsNet _nodes.now self.now }
+    fn meeting_at(&self, places: &[u32]) -> Option<Meeting>
+        requires net { (nodes : NodeTable.Nodes) × IsNet nodes self.now }
         requires places { All (λ x. x < length self.now.ends.items) places.now }
         ensures { MatchOption result (IsAlone self.now places.now) (IsMeeting self.now places.now) }
     {

@@ -59,10 +59,10 @@ fn numbered(alloc: Global, rows: &[PlacedPoint]) -> Result<(Vec<u32>, u32), Memo
 }
 
 /// So many empty lists.
-fn empty_lists(alloc: Global, count: u32) -> Result<Vec<List<u32>>, Memory>
+pub fn empty_lists(alloc: Global, count: usize) -> Result<Vec<List<u32>>, Memory>
     ensures { IfOk result (λ lists. lists.items ≡ replicate count []) }
 {
-    let mut lists = Vec::with_capacity(alloc, count as usize)?;
+    let mut lists = Vec::with_capacity(alloc, count)?;
     for _ in 0..count {
         lists.push(List::new(alloc))?;
     }
@@ -76,7 +76,7 @@ fn places_by_node(alloc: Global, node_of: &[u32], count: u32) -> Result<Vec<List
     ensures count { IfOk result (λ places. length places.items ≡ count) }
     ensures places { IfOk result (λ places. AreListed node_of.now (length node_of.now) places.items) }
 {
-    let mut places = empty_lists(alloc, count)?;
+    let mut places = empty_lists(alloc, count as usize)?;
     for place in 0..node_of.len() {
         places[node_of[place] as usize].push(place as u32)?;
     }

@@ -13,7 +13,7 @@ use crate::copy::copy_base;
 use crate::edge::{ForestEdge, Part};
 use crate::growth::{Growth, NEVER};
 use crate::net::{Current, Net};
-use crate::nodes::Nodes;
+use crate::nodes::{Nodes, empty_lists};
 use std::alloc::Global;
 use tgap_model::{BaseArc, Checked, List, Memory, Point};
 
@@ -97,17 +97,6 @@ fn node_counts(alloc: Global, node_of: &[u32], count: usize) -> Result<Vec<u32>,
         counts[*node as usize] += 1;
     }
     Ok(counts)
-}
-
-/// So many empty lists.
-fn empty_lists(alloc: Global, count: usize) -> Result<Vec<List<u32>>, Memory>
-    ensures { IfOk result (λ lists. lists.items ≡ replicate count []) }
-{
-    let mut lists = Vec::with_capacity(alloc, count)?;
-    for _ in 0..count {
-        lists.push(List::new(alloc))?;
-    }
-    Ok(lists)
 }
 
 /// Puts a key at the end of the list of a face.
