@@ -42,6 +42,9 @@ MAPS = {
     "hole_with_face": listing(2, [f"1 0 5 {LARGE_SQUARE}", f"2 1 5 {INNER_SQUARE}"], ratio=0),
     "hole": listing(1, [f"1 0 5 {LARGE_SQUARE}", f"0 1 5 {INNER_SQUARE}"]),
     "spike": listing(3, SPIKE),
+    "spike_with_island": listing(3, SPIKE, ratio=10),
+    "spike_without_island": listing(2, SPIKE[:3], ratio=10),
+    "triangles": listing(2, ["1 0 3 0 0 12 0 6 6", "2 0 3 6 6 0 12 0 0", "2 1 2 0 0 6 6"], ratio=1),
     "widest": listing(1, [f"1 0 4 -{MOST} -{MOST} {MOST} -{MOST} 0 {MOST} -{MOST} -{MOST}"]),
     # maps that are no planar partition
     "crossing": listing(2, ["1 0 2 0 0 5 5", "2 0 2 0 5 5 0"]),

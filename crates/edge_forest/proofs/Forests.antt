@@ -1,11 +1,13 @@
 -- What is known of a forest, from its growth.
-use Rattle.std.proofs.Common.{◌≡◌, ◌≢◌, inl, inr, ℕ, ◌+◌, ◌<◌, ◌≤◌, ◌^◌, ◌==◌, ◌&&◌, nat_le, nat_lt, Bool, true, false, cond, List, [], ◌∷◌, map, filter, length, get_or, refl, sym, ap, ap₂, ◌∙◌, subst, arith}
+use Rattle.std.proofs.Common.{◌≡◌, ◌≢◌, inl, inr, ℕ, ◌+◌, ◌<◌, ◌≤◌, ◌^◌, ◌==◌, ◌&&◌, nat_le, nat_lt, Bool, true, false, cond, List, [], ◌∷◌, map, filter, length, get_or, Contains, refl, sym, ap, ap₂, ◌∙◌, subst, arith}
 use Rattle.std.specs.List.{All, range_with_len}
 use Rattle.std.proofs.lemmas.Bool.{cases_eq, and_parts, eqb-true, leb-true, lt-ltb, true≢false}
 use Rattle.std.proofs.lemmas.List.{length-map, get_or-map}
 use Rattle.std.proofs.lemmas.List.Elements.{All-filter}
 use Rattle.lemmas.specs.Sorting.{is_sorted_by}
 use Rattle.lemmas.proofs.Sorting.{All-sort_by, map-is_sorted, sorted_tail}
+use Rattle.tgap_model.specs.declared.geometry.Point.{Point}
+use Rattle.tgap_model.specs.Base.{BaseMap}
 use Rattle.tgap_model.specs.History.{history_of}
 use Rattle.tgap_model.specs.Merged.{merged, label_at}
 use Rattle.tgap_model.specs.Chains.{Chain, arc_number, key, has_links, chains_at}
@@ -21,6 +23,7 @@ use Rattle.edge_forest.specs.Edges.{edge_at, chains_of, chain_of, is_alive, aliv
 use Rattle.edge_forest.specs.Forest.{EdgeForest, never, last_step, AreChains, IsForest}
 use Rattle.edge_forest.specs.Growth.{ended, IsAtRest, IsFew}
 use Rattle.edge_forest.specs.Kept.{forest_of, IsKept, closed_edge}
+use Rattle.edge_forest.specs.Removed.{PointSteps, arc_points, step_of}
 use Rattle.edge_forest.proofs.Chains.{same_parts}
 use Rattle.edge_forest.proofs.AliveSame.{longer_chains}
 use Rattle.edge_forest.proofs.Few.{few_small}
@@ -28,8 +31,8 @@ use Rattle.edge_forest.proofs.Rested.{among_in_range}
 
 -- ---- at rest
 
-pub rest_forest : (made : ℕ) (g : Growth) → IsAtRest made g → IsForest (forest_of made false g)
-rest_forest made g w = record {
+pub rest_forest : (made : ℕ) (g : Growth) (t : PointSteps) → IsAtRest made g → IsForest (forest_of made false g t)
+rest_forest made g t w = record {
   base = w.stored.base;
   partition = w.stored.partition;
   steps = w.stored.steps;
@@ -41,12 +44,32 @@ rest_forest made g w = record {
   ];
 }
 
-pub rest_is_kept : (made : ℕ) (g : Growth) → IsAtRest made g → IsFew g → IsKept made false g
-rest_is_kept made g w few = record {
-  forest = rest_forest made g w;
+pub rest_is_kept : (made : ℕ) (g : Growth) (t : PointSteps) → IsAtRest made g → IsFew g
+    → ((p : Point) → Contains (arc_points g.base.arcs) p → Contains t.points p) → ((p : Point) → step_of t p ≤ made) → IsKept made false g t
+rest_is_kept made g t w few listed within = record {
+  forest = rest_forest made g t w;
   few = omega (arith, few_small made g w.stored few);
   growing = λ e. (w, few);
   done = λ e. absurd (true≢false (sym e));
+  listed = listed;
+  within = within;
+}
+
+-- ---- points are removed
+
+-- it is a forest with any points
+same_forest : (made : ℕ) (closed : Bool) (g : Growth) (t t' : PointSteps) → IsForest (forest_of made closed g t) → IsForest (forest_of made closed g t')
+same_forest made closed g t t' w = record { base = w.base; partition = w.partition; steps = w.steps; edges = w.edges; low = w.low; chains = w.chains }
+
+pub removed_is_kept : (made : ℕ) (closed : Bool) (g : Growth) (t t' : PointSteps) → IsKept made closed g t → t'.points ≡ t.points
+    → ((p : Point) → step_of t' p ≤ made) → IsKept made closed g t'
+removed_is_kept made closed g t t' w same within = record {
+  forest = same_forest made closed g t t' w.forest;
+  few = w.few;
+  growing = w.growing;
+  done = w.done;
+  listed = λ p c. subst (λ (ps : List Point). Contains ps p) (sym same) (w.listed p c);
+  within = within;
 }
 
 -- there are few steps
@@ -104,13 +127,14 @@ module _ (f : EdgeForest) (w : IsForest f) (k : ℕ) (chains : AreChains f k) wh
       by (x ∷ is) s (inr m) (inr n) = by is (sorted_tail (λ i j. nat_lt (edge_at edges i).key (edge_at edges j).key) x is s) m n
 
 -- when the history is closed all its steps were made
-pub step_known : (made : ℕ) (closed : Bool) (g : Growth) → IsKept made closed g → (f : EdgeForest) → forest_of made closed g ≡ f → f.closed ≡ true → (k : ℕ) → k ≤ last_step f → k ≤ made
-step_known made closed g w f view done k l =
+pub step_known : (made : ℕ) (closed : Bool) (g : Growth) (t : PointSteps) → IsKept made closed g t → (f : EdgeForest) → forest_of made closed g t ≡ f
+    → f.closed ≡ true → (k : ℕ) → k ≤ last_step f → k ≤ made
+step_known made closed g t w f view done k l =
     omega (arith, l, w.done (ap (λ (f : EdgeForest). f.closed) view ∙ done), ap last_step view)
 
 -- ---- at the end of the history
 
-module _ (made : ℕ) (g g' : Growth) (w : IsForest (forest_of made false g)) (few : length g.edges.items < 2 ^ 32) (all : made ≡ length (history_of g.base)) (less : made + 1 < never)
+module _ (made : ℕ) (g g' : Growth) (t : PointSteps) (w : IsForest (forest_of made false g t)) (few : length g.edges.items < 2 ^ 32) (all : made ≡ length (history_of g.base)) (less : made + 1 < never)
     (base : g'.base ≡ g.base) (edges : g'.edges.items ≡ map (closed_edge (made + 1)) g.edges.items) where
   abbrev old : List ForestEdge
   old = g.edges.items
@@ -145,7 +169,7 @@ module _ (made : ℕ) (g g' : Growth) (w : IsForest (forest_of made false g)) (f
           ∙ sym (lt-ltb k (edge_at old i).high (omega (arith, l, less, eqb-true (edge_at old i).high never e)))
       by false e = refl
 
-  pub closed_forest : IsForest (forest_of made true g')
+  pub closed_forest : IsForest (forest_of made true g' t)
   closed_forest = rw (base, edges) (record {
     base = w.base;
     partition = w.partition;
@@ -178,10 +202,12 @@ module _ (made : ℕ) (g g' : Growth) (w : IsForest (forest_of made false g)) (f
         }) ∙ w.chains k l;
   })
 
-  pub closed_is_kept : IsKept made true g'
-  closed_is_kept = record {
+  pub closed_is_kept : ((p : Point) → Contains (arc_points g.base.arcs) p → Contains t.points p) → ((p : Point) → step_of t p ≤ made) → IsKept made true g' t
+  closed_is_kept listed within = record {
     forest = closed_forest;
     few = omega (arith, few, ap length edges, count);
     growing = λ e. absurd (true≢false e);
     done = λ e. all ∙ ap (λ m. length (history_of m)) (sym base);
+    listed = λ p c. listed p (subst (λ (m : BaseMap). Contains (arc_points m.arcs) p) base c);
+    within = within;
   }

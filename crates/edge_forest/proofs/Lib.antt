@@ -31,3 +31,4 @@ mod StartJoints
 mod Steps
 mod Few
 mod Forests
+mod RemovedPoints

@@ -1,5 +1,6 @@
 -- The forest of edges of a base map, after some steps of its merge history.
 use Rattle.std.specs.Prelude.{◌≡◌, ◌<◌, ◌≤◌, ℕ, ◌-◌, ◌^◌, Bool, List, map, length, IsTrue}
+use Rattle.tgap_model.specs.declared.geometry.Point.{Point}
 use Rattle.tgap_model.specs.Base.{BaseMap, is_base}
 use Rattle.tgap_model.specs.Partition.{IsPartition, base_segments}
 use Rattle.tgap_model.specs.History.{history_of}
@@ -7,17 +8,24 @@ use Rattle.tgap_model.specs.Merged.{merged}
 use Rattle.tgap_model.specs.Chains.{chains_at}
 use Rattle.edge_forest.specs.declared.edge.ForestEdge.{ForestEdge}
 use Rattle.edge_forest.specs.Edges.{edge_at, chain_of, alive_edges, IsForestEdge}
+use Rattle.edge_forest.specs.Removed.{PointSteps, is_gone_by}
 
--- a base map, the number of steps made, whether the history is at its end, and the edges by number
+-- a base map, the number of steps made, whether the history is at its end, the edges by number, and the points with the steps at
+-- which they were removed
 pub record EdgeForest : Type 0 where
   pub base : BaseMap
   pub made : ℕ
   pub closed : Bool
   pub edges : List ForestEdge
+  pub removed : PointSteps
 
 -- the number of steps of the history
 abbrev pub last_step : EdgeForest → ℕ
 last_step f = length (history_of f.base)
+
+-- the point was removed at step k or before
+abbrev pub is_gone : EdgeForest → ℕ → Point → Bool
+is_gone f k p = is_gone_by f.removed k p
 
 -- the high step of an edge that has not ended, before the history is at its end
 abbrev pub never : ℕ

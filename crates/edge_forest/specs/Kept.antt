@@ -1,21 +1,26 @@
 -- What a forest keeps of its growth.
-use Rattle.std.specs.Prelude.{◌≡◌, ◌<◌, ◌^◌, ℕ, Bool, true, false, ◌==◌, length, if◌then◌else◌}
+use Rattle.std.specs.Prelude.{◌≡◌, ◌<◌, ◌≤◌, ◌^◌, ℕ, Bool, true, false, ◌==◌, length, Contains, if◌then◌else◌}
+use Rattle.tgap_model.specs.declared.geometry.Point.{Point}
 use Rattle.tgap_model.specs.History.{history_of}
 use Rattle.edge_forest.specs.declared.edge.ForestEdge.{ForestEdge}
 use Rattle.edge_forest.specs.declared.growth.Growth.{Growth}
 use Rattle.edge_forest.specs.Forest.{EdgeForest, never, IsForest}
 use Rattle.edge_forest.specs.Growth.{ended, IsAtRest, IsFew}
+use Rattle.edge_forest.specs.Removed.{PointSteps, arc_points, step_of}
 
--- the forest with its edges and its base map
-abbrev pub forest_of : ℕ → Bool → Growth → EdgeForest
-forest_of made closed g = record { base = g.base; made = made; closed = closed; edges = g.edges.items }
+-- the forest with its edges, its base map and the removed points
+abbrev pub forest_of : ℕ → Bool → Growth → PointSteps → EdgeForest
+forest_of made closed g t = record { base = g.base; made = made; closed = closed; edges = g.edges.items; removed = t }
 
--- Before the history is closed the growth is at rest; then all steps were made.
-pub record IsKept (made : ℕ) (closed : Bool) (g : Growth) : Type 0 where
-  pub forest : IsForest (forest_of made closed g)
+-- Before the history is closed the growth is at rest; then all steps were made. Each point of the base map is listed, and
+-- none has a later step than the last one.
+pub record IsKept (made : ℕ) (closed : Bool) (g : Growth) (t : PointSteps) : Type 0 where
+  pub forest : IsForest (forest_of made closed g t)
   pub few : length g.edges.items < 2 ^ 32
   pub growing : closed ≡ false → IsAtRest made g × IsFew g
   pub done : closed ≡ true → made ≡ length (history_of g.base)
+  pub listed : (p : Point) → Contains (arc_points g.base.arcs) p → Contains t.points p
+  pub within : (p : Point) → step_of t p ≤ made
 
 -- the edge with its high step, when the history is at its end
 abbrev pub closed_edge : ℕ → ForestEdge → ForestEdge

@@ -1,4 +1,5 @@
 pub mod Edges
+pub mod Removed
 pub mod Forest
 pub mod Nodes
 pub mod Net

@@ -1,30 +1,34 @@
 //! The forest of edges.
 
-ghost use Rattle.std.specs.Prelude.{◌≡◌, ◌<◌, ◌≤◌, ◌+◌, ◌==◌, true, false, map, length, IfOk, OnOk, OnErr, if◌then◌else◌};
-ghost use Rattle.std.specs.List.{All};
+ghost use Rattle.std.specs.Prelude.{◌≡◌, ◌≢◌, ◌<◌, ◌≤◌, ◌+◌, ◌==◌, ◌&&◌, ◌||◌, ℕ, true, false, not, nat_le, map, filter, length, Contains, AllPairs, IfOk, OnOk, OnErr, if◌then◌else◌};
+ghost use Rattle.std.specs.List.{All, list_any};
 ghost use Rattle.std.specs.Vec.{vec_len};
+ghost use Rattle.tgap_model.specs.Base.{same_point};
 ghost use Rattle.tgap_model.specs.Merged.{merged, step_number};
 ghost use Rattle.tgap_model.specs.Chains.{chain_points, chains_at};
 ghost use Rattle.edge_forest.specs.Edges.{IsForestEdge, edge_at, chain_of, alive_edges};
-ghost use Rattle.edge_forest.specs.Forest.{IsForest, last_step, never};
+ghost use Rattle.edge_forest.specs.Forest.{IsForest, last_step, never, is_gone};
 ghost use Rattle.edge_forest.specs.Kept.{closed_edge};
+ghost use Rattle.edge_forest.specs.Removed.{arc_points};
 
 use crate::alive::alive_at;
 use crate::edge::ForestEdge;
 use crate::growth::{Growth, NEVER};
 use crate::net::Net;
 use crate::nodes::Nodes;
+use crate::removed::Removed;
 use crate::step::{grown, make_step};
 use crate::walk::points_of;
 use std::alloc::Global;
 use std::marker::Model;
-use tgap_model::{Base, Checked, List, Memory, MergeStep, Point};
+use tgap_model::{Base, Checked, List, Memory, MergeStep, Point, Removal};
 
 /// The edges of a base map: those of the map as it is, and those that the steps of its merge history make, one step after
-/// the other until the history is closed.
+/// the other until the history is closed. Beside them it has the vertices that were removed, with their steps.
 #[derive(Debug, Drop)]
 pub struct Forest {
     growth: Growth,
+    removed: Removed,
     made: u32,
     closed: bool,
 }
@@ -35,9 +39,9 @@ impl Model for Forest {
 
     ghost Value = { EdgeForest };
 
-    ghost view = { λ f. record { base = f.growth.base; made = f.made; closed = f.closed; edges = f.growth.edges.items } };
+    ghost view = { λ f. record { base = f.growth.base; made = f.made; closed = f.closed; edges = f.growth.edges.items; removed = f.removed } };
 
-    ghost invariant = { λ f. IsKept f.made f.closed f.growth };
+    ghost invariant = { λ f. IsKept f.made f.closed f.growth f.removed };
 }
 
 /// The high step of an edge when the history is at its end.
@@ -80,9 +84,13 @@ impl Forest {
         ensures base { IfOk result (λ forest. forest.base ≡ checked.now) }
         ensures made { IfOk result (λ forest. forest.made ≡ 0) }
         ensures open { IfOk result (λ forest. forest.closed ≡ false) }
+        ensures nothing { IfOk result (λ forest. (k : ℕ) (p : Point) → is_gone forest k p ≡ false) }
     {
+        let growth = grown(alloc, checked)?;
+        let removed = Removed::of(alloc, growth.base.arcs().as_slice())?;
         Ok(Forest {
-            growth: grown(alloc, checked)?,
+            growth,
+            removed,
             made: 0,
             closed: false,
         })
@@ -105,12 +113,32 @@ impl Forest {
         ensures base { OnOk result (self.new.base ≡ self.old.base) }
         ensures made { OnOk result (self.new.made ≡ self.old.made + 1) }
         ensures closed { OnOk result (self.new.closed ≡ false) }
+        ensures gone { OnOk result ((k : ℕ) (p : Point) → is_gone self.new k p ≡ is_gone self.old k p) }
         ensures err { OnErr result (self.new ≡ self.old) }
     {
         let low = self.made + 1;
         make_step(alloc, &mut self.growth, step, low)?;
         self.made = low;
         Ok(())
+    }
+
+    /// Notes these vertices, which are there, as removed at the step that was made last. It takes no memory, and a search
+    /// among the points of the map for each vertex.
+    pub fn remove(&mut self, list: &List<Removal>)
+        requires open { self.old.closed ≡ false }
+        requires made { 0 < self.old.made }
+        requires steps { All (λ r. r.step ≡ self.old.made) list.now }
+        requires apart { AllPairs (λ r s. r.point ≢ s.point) list.now }
+        requires there { All (λ r. Contains (arc_points self.old.base.arcs) r.point) list.now }
+        requires left { All (λ r. is_gone self.old self.old.made r.point ≡ false) list.now }
+        ensures base { self.new.base ≡ self.old.base }
+        ensures made { self.new.made ≡ self.old.made }
+        ensures closed { self.new.closed ≡ self.old.closed }
+        ensures edges { self.new.edges ≡ self.old.edges }
+        ensures gone { (k : ℕ) (p : Point) → is_gone self.new k p
+            ≡ (is_gone self.old k p || (nat_le self.old.made k && list_any (λ r. same_point r.point p) list.now)) }
+    {
+        self.removed.note_all(list.as_slice());
     }
 
     /// Ends the history, when all its steps were made: an edge that has not ended has the high step S + 1.
@@ -120,6 +148,7 @@ impl Forest {
         ensures base { OnOk result (self.new.base ≡ self.old.base) }
         ensures made { OnOk result (self.new.made ≡ self.old.made) }
         ensures closed { OnOk result (self.new.closed ≡ true) }
+        ensures gone { OnOk result ((k : ℕ) (p : Point) → is_gone self.new k p ≡ is_gone self.old k p) }
         ensures err { OnErr result (self.new ≡ self.old) }
     {
         close_edges(&mut self.growth.edges, self.made + 1);
@@ -138,13 +167,16 @@ impl Forest {
         &self.growth.edges[id as usize]
     }
 
-    /// The points of an edge after k steps, each junction once.
-    pub fn points_at(&self, alloc: Global, id: u32, _k: u32) -> Result<List<Point>, Memory>
+    /// The points of an edge after k steps, each junction once, less those removed at step k or before. It takes
+    /// a search among the points of the map for each of them.
+    pub fn points_at(&self, alloc: Global, id: u32, k: u32) -> Result<List<Point>, Memory>
         requires { id < length self.now.edges }
-        ensures { IfOk result (λ points. points ≡ chain_points self.now.base.arcs (chain_of self.now.edges id)) }
+        ensures { IfOk result (λ points. points
+            ≡ filter (λ p. not (is_gone self.now k p)) (chain_points self.now.base.arcs (chain_of self.now.edges id))) }
     {
         let arcs = self.growth.base.arcs().as_slice();
-        points_of(alloc, arcs, self.growth.edges.as_slice(), id)
+        let points = points_of(alloc, arcs, self.growth.edges.as_slice(), id)?;
+        Ok(self.removed.left_of(points, k))
     }
 
     /// The numbers of the edges that have not ended after the steps made so far, in the order of their keys.

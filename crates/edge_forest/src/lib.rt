@@ -11,6 +11,7 @@ mod join;
 mod joints;
 mod net;
 mod nodes;
+mod removed;
 mod settle;
 mod start;
 mod step;

@@ -10,3 +10,5 @@ pub mod Scan
 pub mod Next
 pub mod Start
 pub mod Loop
+pub mod Relabelled
+pub mod Reached

@@ -119,3 +119,11 @@ area_is z size = omega (arith, ints)
 -- its negative
 pub minus_is : (z : ℤ) → unsigned_abs z ≤ max_arc_area → to_z w128 (of_z w128 (pos 0 -ℤ to_z w128 (of_z w128 z))) ≡ neg_ℤ z
 minus_is z size = omega (arith, ints)
+
+-- the areas of two faces together
+pub joined_is : (x y z : ℤ) → unsigned_abs x ≤ max_area → unsigned_abs y ≤ max_area → z ≡ x +ℤ y → to_z w128 (of_z w128 z) ≡ x +ℤ y
+joined_is x y z p q e = omega (arith, ints)
+
+-- the area of a face
+pub face_area_is : (x z : ℤ) → unsigned_abs x ≤ max_area → z ≡ x → to_z w128 (of_z w128 z) ≡ x
+face_area_is x z p e = omega (arith, ints)

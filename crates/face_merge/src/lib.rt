@@ -1,14 +1,17 @@
 //! The merge history of a base map: the least important face is merged into its most compatible neighbour, again and
-//! again. It stands on `tgap_model`, whose `History` says what a step is.
+//! again. Beside it, the area of the face that each step takes. It stands on `tgap_model`, whose `History` says what a
+//! step is.
 #![tactic(auto)]
 
 ghost use Rattle.std.specs.Prelude.{◌≡◌, ◌≤◌, List, length, IfOk};
 ghost use Rattle.tgap_model.specs.declared.merge.MergeStep.{MergeStep};
 ghost use Rattle.tgap_model.specs.History.{IsHistory, AreNumbered, history_of};
 
+mod areas;
 mod measure;
 mod merging;
 
+pub use areas::lost_areas;
 use merging::Merging;
 use std::alloc::Global;
 use tgap_model::{Base, List, Memory, MergeStep};

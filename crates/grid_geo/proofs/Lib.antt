@@ -9,3 +9,4 @@ pub mod Heights
 pub mod Disjoint
 pub mod PointOrder
 pub mod Turns
+pub mod Triangles

@@ -39,12 +39,12 @@ border_gone false c e = absurd cc
 module _ (h : MergedMap) (k : ℕ) (numbered : AreNumbered (length h.base.classes) h.steps) (small : k < length h.steps)
     (faces : All (λ a. has_base_faces h a ≡ true) h.base.arcs) (even : HasEvenSides h k) where
   -- the chain is between loser and winner of the step
-  abbrev goes : Chain → Bool
+  abbrev pub goes : Chain → Bool
   goes c = is_edge_between (step_number h (k + 1)).loser (step_number h (k + 1)).winner (edge_of h k [] c)
 
   -- ---- the arcs of a chain are borders after the step where the chain is left
 
-  link_vanishes : (c : Chain) → Among c (chains_at h k) → (d : Link) → Among d c
+  pub link_vanishes : (c : Chain) → Among c (chains_at h k) → (d : Link) → Among d c
       → (is_border h k (arc_number h.base.arcs d.arc) && not (is_border h (k + 1) (arc_number h.base.arcs d.arc))) ≡ goes c
   link_vanishes c m d n =
       subst (λ (j : ℕ). (is_border h j (arc_number h.base.arcs d.arc) && not (is_border h (k + 1) (arc_number h.base.arcs d.arc))) ≡ goes c) (sym back)

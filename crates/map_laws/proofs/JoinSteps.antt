@@ -49,7 +49,7 @@ record IsToward (arcs : List BaseArc) (J : Point → Type 0) (p : Point) (c t : 
   same : (f : ℕ → ℕ) → arc_sum f t ≡ arc_sum f c
 
 -- one end alone
-one_end : (s t : Bool) → cond {A = ℕ} s 1 0 + cond {A = ℕ} t 1 0 ≡ 1 → s ≡ true → t ≡ true → ⊥
+pub one_end : (s t : Bool) → cond {A = ℕ} s 1 0 + cond {A = ℕ} t 1 0 ≡ 1 → s ≡ true → t ≡ true → ⊥
 one_end true true h e f = absurd (omega arith)
 one_end true false h e f = absurd cc
 one_end false t h e f = absurd cc
@@ -84,7 +84,7 @@ toward_is arcs J p c path t one = by (same_point (chain_end arcs c) p) refl
 -- ---- the step
 
 -- the list after a join, from the chains that touch the node
-abbrev joined_with : List BaseArc → List Chain → Point → List Chain → List Chain
+abbrev pub joined_with : List BaseArc → List Chain → Point → List Chain → List Chain
 joined_with arcs chains p touching =
     elim touching [
       | [] ↦ chains

@@ -16,7 +16,7 @@ use Rattle.map_laws.proofs.ChainLinks.{chains_whole}
 use Rattle.map_laws.proofs.ChainsUnique.{chains_unique}
 
 -- an edge is its key, its faces and its points
-edge_same : (e f : Edge) → e.key ≡ f.key → e.left ≡ f.left → e.right ≡ f.right → e.points ≡ f.points → e ≡ f
+pub edge_same : (e f : Edge) → e.key ≡ f.key → e.left ≡ f.left → e.right ≡ f.right → e.points ≡ f.points → e ≡ f
 edge_same e f a b c d =
     let make : ℕ → ℕ → ℕ → List Point → Edge = λ (i l r : ℕ) (ps : List Point). record { key = i; left = l; right = r; points = ps } in
     let s : make e.key e.left e.right e.points ≡ make f.key f.left f.right f.points = cc in

@@ -19,7 +19,7 @@ use Rattle.face_merge.proofs.Steps.{history_is}
 use Rattle.slice_read.specs.declared.fail.ReadFail.{ReadFail}
 use Rattle.slice_read.specs.declared.fail.ReadFail.TheVariants as fail
 use Rattle.map_server.specs.declared.outcome.Outcome.{Outcome}
-use Rattle.map_server.specs.declared.outcome.Outcome.TheVariants.{Done, Usage, LoadFault, Refused, RatioRefused, StepTooHigh, NotCoarser, OutOfMemory, PortFault, Unfit}
+use Rattle.map_server.specs.declared.outcome.Outcome.TheVariants.{Done, Usage, LoadFault, Refused, StepTooHigh, NotCoarser, OutOfMemory, PortFault, Unfit}
 use Rattle.map_server.specs.Outcomes.{IsOfFiles, refusal, read_refusal}
 use Rattle.map_server.specs.Answers.{IsEither, outcome_from}
 use Rattle.map_server.specs.Borders.{SaysBorders, borders_outcome}
@@ -82,7 +82,6 @@ slice_passed m k o is none (inr h) = inr (says o h.0, rw (none, slice_outcome) h
   where
     says : (o : Outcome) → SaysSliceOf k m o → SaysSlice k m o
     says (Done text) s = (is, s)
-    says (RatioRefused ratio) s = (is, s)
     says (StepTooHigh last) s = (is, s)
     says Usage s = absurd s
     says (LoadFault which) s = absurd s
@@ -99,18 +98,11 @@ by_less a b x y less = rw (lt-ltb a b less) refl
 by_not_less : {A : Type 0} (a b : ℕ) (x y : A) → b ≤ a → (if nat_lt a b then x else y) ≡ y
 by_not_less a b x y not_less = rw (le-ltb a b not_less) refl
 
--- the ratio of the map is above 0
-pub ratio_above : (m : BaseMap) (k ratio : ℕ) → ratio ≡ m.rules.ratio → 0 < ratio → IsEither (SaysSliceOf k m) (slice_of_outcome k m) (RatioRefused ratio)
-unfolding slice_of_outcome
-ratio_above m k ratio same above =
-    let wide : 0 < m.rules.ratio = omega (arith, same) in
-    inr ((same, above), ap RatioRefused same ∙ sym (by_less 0 m.rules.ratio _ _ wide), tt)
-
--- what comes of a step of a map whose ratio is 0
-by_step : (m : BaseMap) (k : ℕ) → m.rules.ratio ≡ 0
+-- what comes of a step
+by_step : (m : BaseMap) (k : ℕ)
     → slice_of_outcome k m ≡ (if nat_lt (length (history_of m)) k then StepTooHigh (length (history_of m)) else Done (slice_text (slice m k)))
 unfolding slice_of_outcome
-by_step m k none = by_not_less 0 m.rules.ratio _ _ (omega (arith, none))
+by_step m k = refl
 
 -- a step of which there is a slice is not above the last one
 step_within : (m : BaseMap) (k : ℕ) (s : Slice)
@@ -125,25 +117,25 @@ step_within m k s high = elim (cases_lt (length (history_of m)) k) [
 ]
 
 -- the slice of what was built of a map
-pub slice_done : (m built : BaseMap) (k : ℕ) (s : Slice) (text : List ℕ) → m.rules.ratio ≡ 0 → built ≡ m → IsSliceOf built k s
+pub slice_done : (m built : BaseMap) (k : ℕ) (s : Slice) (text : List ℕ) → built ≡ m → IsSliceOf built k s
     → (let told : Result Slice ReadFail → Result Slice ReadFail = λ r. r in
     (steps : ℕ) → told (Ok s) ≡ told (Err (fail.StepTooHigh steps)) ↔ ((length (history_of built) < k) × (steps ≡ length (history_of built))))
     → text ≡ slice_text s → IsEither (SaysSliceOf k m) (slice_of_outcome k m) (Done text)
-slice_done m built k s text none same is high e =
+slice_done m built k s text same is high e =
     let within : k ≤ length (history_of m) = subst (λ (b : BaseMap). k ≤ length (history_of b)) same (step_within built k s high) in
     let here : IsSliceOf m k s = subst (λ (b : BaseMap). IsSliceOf b k s) same is in
-    let done : Done text ≡ slice_of_outcome k m = ap Done (e ∙ ap slice_text here.exact) ∙ sym (by_step m k none ∙ by_not_less (length (history_of m)) k _ _ within) in
-    inr ((none, history_is m, within, (s, here, e)), done, tt)
+    let done : Done text ≡ slice_of_outcome k m = ap Done (e ∙ ap slice_text here.exact) ∙ sym (by_step m k ∙ by_not_less (length (history_of m)) k _ _ within) in
+    inr ((history_is m, within, (s, here, e)), done, tt)
 
 -- the step is above the last one, or memory is wanting
-pub slice_failed_of : (m : BaseMap) (k : ℕ) (e : ReadFail) (r : Result (List ℕ) Outcome) → m.rules.ratio ≡ 0 → IsErrAnd r (λ o. o ≡ read_refusal e)
+pub slice_failed_of : (m : BaseMap) (k : ℕ) (e : ReadFail) (r : Result (List ℕ) Outcome) → IsErrAnd r (λ o. o ≡ read_refusal e)
     → (let told : ReadFail → Result Slice ReadFail = λ x. Err x in
     (steps : ℕ) → told e ≡ told (fail.StepTooHigh steps) ↔ ((length (history_of m) < k) × (steps ≡ length (history_of m))))
     → IsEither (SaysSliceOf k m) (slice_of_outcome k m) (outcome_from r)
-slice_failed_of m k e (Ok text) none same high = absurd same
-slice_failed_of m k fail.Memory (Err o) none same high = inl same
-slice_failed_of m k (fail.StepTooHigh steps) (Err o) none same high =
+slice_failed_of m k e (Ok text) same high = absurd same
+slice_failed_of m k fail.Memory (Err o) same high = inl same
+slice_failed_of m k (fail.StepTooHigh steps) (Err o) same high =
     let last = length (history_of m) in
     let above = (high steps).0 refl in
-    let computed : o ≡ slice_of_outcome k m = same ∙ (ap StepTooHigh above.1 ∙ sym (by_step m k none ∙ by_less last k _ _ above.0)) in
-    inr (rw same (none, (history_of m, history_is m, above.1, above.0)), computed, rw same tt)
+    let computed : o ≡ slice_of_outcome k m = same ∙ (ap StepTooHigh above.1 ∙ sym (by_step m k ∙ by_less last k _ _ above.0)) in
+    inr (rw same (history_of m, history_is m, above.1, above.0), computed, rw same tt)

@@ -6,7 +6,7 @@ use Rattle.plain_io.specs.Puts.{Appends}
 use Rattle.plain_io.specs.Faults.{Rises}
 use Rattle.tgap_model.specs.declared.fault.MapFault.{MapFault}
 use Rattle.map_server.specs.declared.outcome.Outcome.{Outcome}
-use Rattle.map_server.specs.declared.outcome.Outcome.TheVariants.{Done, Usage, LoadFault, Refused, RatioRefused, StepTooHigh, NotCoarser, OutOfMemory, PortFault, Unfit}
+use Rattle.map_server.specs.declared.outcome.Outcome.TheVariants.{Done, Usage, LoadFault, Refused, StepTooHigh, NotCoarser, OutOfMemory, PortFault, Unfit}
 use Rattle.map_server.specs.Outcomes.{status_of, text_of, load_fault_text, not_coarser, TakesMemory, IsOfFiles}
 use Rattle.map_server.specs.Delivery.{Delivers}
 use Rattle.map_server.specs.Command.{Command}
@@ -21,19 +21,17 @@ done_status (Done text) e = (text, refl)
 done_status Usage e = absurd (omega arith)
 done_status (LoadFault which) e = absurd (omega arith)
 done_status (Refused fault) e = absurd (omega arith)
-done_status (RatioRefused ratio) e = absurd (omega arith)
 done_status (StepTooHigh steps) e = absurd (omega arith)
 done_status (NotCoarser from to) e = absurd (omega arith)
 done_status OutOfMemory e = absurd (omega arith)
 done_status PortFault e = absurd (omega arith)
 done_status (Unfit misfit) e = absurd (omega arith)
 
-refused_status : (o : Outcome) → status_of o ≡ 4 → ((fault : MapFault) × (o ≡ Refused fault)) ⊎ ((ratio : ℕ) × (o ≡ RatioRefused ratio))
+refused_status : (o : Outcome) → status_of o ≡ 4 → (fault : MapFault) × (o ≡ Refused fault)
 refused_status (Done text) e = absurd (omega arith)
 refused_status Usage e = absurd (omega arith)
 refused_status (LoadFault which) e = absurd (omega arith)
-refused_status (Refused fault) e = inl (fault, refl)
-refused_status (RatioRefused ratio) e = inr (ratio, refl)
+refused_status (Refused fault) e = (fault, refl)
 refused_status (StepTooHigh steps) e = absurd (omega arith)
 refused_status (NotCoarser from to) e = absurd (omega arith)
 refused_status OutOfMemory e = absurd (omega arith)
@@ -45,7 +43,6 @@ above_status (Done text) e = absurd (omega arith)
 above_status Usage e = absurd (omega arith)
 above_status (LoadFault which) e = absurd (omega arith)
 above_status (Refused fault) e = absurd (omega arith)
-above_status (RatioRefused ratio) e = absurd (omega arith)
 above_status (StepTooHigh steps) e = inl (steps, refl)
 above_status (NotCoarser from to) e = inr ((from, to), refl)
 above_status OutOfMemory e = absurd (omega arith)
@@ -57,7 +54,6 @@ usage_apart (Done text) e h = omega arith
 usage_apart Usage e h = h
 usage_apart (LoadFault which) e h = h
 usage_apart (Refused fault) e h = omega arith
-usage_apart (RatioRefused ratio) e h = omega arith
 usage_apart (StepTooHigh steps) e h = omega arith
 usage_apart (NotCoarser from to) e h = omega arith
 usage_apart OutOfMemory e h = h
@@ -69,7 +65,6 @@ six_apart (Done text) e = omega arith
 six_apart Usage e = omega arith
 six_apart (LoadFault which) e = omega arith
 six_apart (Refused fault) e = omega arith
-six_apart (RatioRefused ratio) e = omega arith
 six_apart (StepTooHigh steps) e = omega arith
 six_apart (NotCoarser from to) e = omega arith
 six_apart OutOfMemory e = omega arith
@@ -82,7 +77,6 @@ files_status (Done text) h = (λ e. omega (arith, e), λ e. omega (arith, e))
 files_status Usage h = absurd h
 files_status (LoadFault which) h = absurd h
 files_status (Refused fault) h = (λ e. omega (arith, e), λ e. omega (arith, e))
-files_status (RatioRefused ratio) h = (λ e. omega (arith, e), λ e. omega (arith, e))
 files_status (StepTooHigh steps) h = (λ e. omega (arith, e), λ e. omega (arith, e))
 files_status (NotCoarser from to) h = (λ e. omega (arith, e), λ e. omega (arith, e))
 files_status OutOfMemory h = absurd h
@@ -188,11 +182,10 @@ module _ {words : List (List ℕ)} {told : Which → List ℕ → Told} {rose : 
         | inr (c, asked, inr (inr held)) ↦ absurd (usage_apart p.outcome is held.4)
       ]
 
-  pub four_says : status ≡ 4 → PutsAnswer words told old new Refused ⊎ PutsAnswer words told old new RatioRefused
-  four_says e = elim (refused_status p.outcome (status_is 4 (omega arith) e)) [
-    | inl d ↦ inl (puts Refused 4 d.0 d.1 e (omega arith) (λ t. omega (arith, t)) (λ t. omega (arith, t)))
-    | inr d ↦ inr (puts RatioRefused 4 d.0 d.1 e (omega arith) (λ t. omega (arith, t)) (λ t. omega (arith, t)))
-  ]
+  pub four_says : status ≡ 4 → PutsAnswer words told old new Refused
+  four_says e =
+      let d = refused_status p.outcome (status_is 4 (omega arith) e) in
+      puts Refused 4 d.0 d.1 e (omega arith) (λ t. omega (arith, t)) (λ t. omega (arith, t))
 
   pub five_says : status ≡ 5 → PutsAnswer words told old new StepTooHigh ⊎ PutsAnswer words told old new not_coarser
   five_says e = elim (above_status p.outcome (status_is 5 (omega arith) e)) [

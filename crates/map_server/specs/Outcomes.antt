@@ -13,7 +13,7 @@ use Rattle.map_server.specs.declared.outcome.Misfit.TheVariants.{SliceLine, Pack
 use Rattle.map_server.specs.declared.outcome.Line.{Line}
 use Rattle.map_server.specs.declared.outcome.Line.TheVariants.{Fixed, Made}
 use Rattle.map_server.specs.declared.outcome.Outcome.{Outcome}
-use Rattle.map_server.specs.declared.outcome.Outcome.TheVariants.{Done, Usage, LoadFault, Refused, RatioRefused, StepTooHigh, NotCoarser, OutOfMemory, PortFault, Unfit}
+use Rattle.map_server.specs.declared.outcome.Outcome.TheVariants.{Done, Usage, LoadFault, Refused, StepTooHigh, NotCoarser, OutOfMemory, PortFault, Unfit}
 
 abbrev pub usage_text : List ℕ
 usage_text = codes "usage: borders MAP STEP | check MAP [OBJECT RULES] | slice MAP STEP [OBJECT RULES] | packet MAP FROM TO [OBJECT RULES] | replay SLICE PACKET | grid N | serve MAP PORT WORKERS VERSIONS [OBJECT RULES]" ++ 10 ∷ []
@@ -28,10 +28,6 @@ file_word Packet = codes "packet"
 -- a file of this kind could not be loaded
 abbrev pub load_fault_text : Which → List ℕ
 load_fault_text which = line (codes "load" ∷ codes "fault" ∷ file_word which ∷ [])
-
--- vertices of the map should be removed, by this ratio
-abbrev pub ratio_text : ℕ → List ℕ
-ratio_text ratio = line (refused_words (codes "21") (codes "ratio") (decimal ratio ∷ []))
 
 -- the step to go to is above the step to go from
 abbrev pub not_coarser_text : ℕ → ℕ → List ℕ
@@ -48,7 +44,6 @@ status_of (Done text) = 0
 status_of Usage = 2
 status_of (LoadFault which) = 3
 status_of (Refused fault) = 4
-status_of (RatioRefused ratio) = 4
 status_of (StepTooHigh steps) = 5
 status_of (NotCoarser from to) = 5
 status_of OutOfMemory = 7
@@ -60,7 +55,6 @@ text_of (Done text) = text
 text_of Usage = usage_text
 text_of (LoadFault which) = load_fault_text which
 text_of (Refused fault) = fault_text fault
-text_of (RatioRefused ratio) = ratio_text ratio
 text_of (StepTooHigh steps) = step_too_high_text steps
 text_of (NotCoarser from to) = not_coarser_text from to
 text_of OutOfMemory = line (codes "memory" ∷ [])
@@ -77,7 +71,6 @@ TakesMemory (Done text) = ⊤
 TakesMemory Usage = ⊥
 TakesMemory (LoadFault which) = ⊥
 TakesMemory (Refused fault) = ⊤
-TakesMemory (RatioRefused ratio) = ⊤
 TakesMemory (StepTooHigh steps) = ⊤
 TakesMemory (NotCoarser from to) = ⊤
 TakesMemory OutOfMemory = ⊥
@@ -90,7 +83,6 @@ IsOfFiles (Done text) = ⊤
 IsOfFiles Usage = ⊥
 IsOfFiles (LoadFault which) = ⊥
 IsOfFiles (Refused fault) = ⊤
-IsOfFiles (RatioRefused ratio) = ⊤
 IsOfFiles (StepTooHigh steps) = ⊤
 IsOfFiles (NotCoarser from to) = ⊤
 IsOfFiles OutOfMemory = ⊥

@@ -6,11 +6,13 @@ use Rattle.tgap_model.specs.Base.{BaseMap}
 use Rattle.tgap_model.specs.Partition.{IsPartition, base_segments, edge_segments, map_fault}
 use Rattle.tgap_model.specs.History.{IsHistory, history_of}
 use Rattle.tgap_model.specs.Merged.{merged}
+use Rattle.tgap_model.specs.Removals.{removals_to}
 use Rattle.tgap_model.specs.Slice.{IsSlice, slice}
 use Rattle.tgap_model.specs.SliceTexts.{slice_text}
+use Rattle.step_laws.specs.StepLaws.{ArePlanar}
 use Rattle.slice_read.specs.Reading.{HasAdjacentFaces, HasUnions}
 use Rattle.map_server.specs.declared.outcome.Outcome.{Outcome}
-use Rattle.map_server.specs.declared.outcome.Outcome.TheVariants.{Done, Refused, RatioRefused, StepTooHigh}
+use Rattle.map_server.specs.declared.outcome.Outcome.TheVariants.{Done, Refused, StepTooHigh}
 use Rattle.map_server.specs.Command as spec
 use Rattle.map_server.specs.Check.{IsFirstFault}
 
@@ -19,25 +21,24 @@ abbrev pub slice_command : List (List ℕ) → Option spec.Command
 slice_command (map ∷ step ∷ []) = option_map (spec.Slice (spec.Listing map)) (spec.step_of step)
 slice_command words = None
 
--- The map after k steps of its merge history, with all its vertices. It is the slice by the definition: its faces are the live
--- ones, and its edges are chains of arcs, with the faces at the sides of each arc. It is a planar partition. Each face is the union
--- of the base faces that it was made of, and two faces are adjacent exactly where base faces of theirs are.
+-- The map after k steps of its merge history. It is the slice by the definition: its faces are the live ones, and its edges are
+-- chains of arcs, less the vertices that were removed by then, with the faces at the sides of each arc. Segments have no point in
+-- common but permitted ones, no two points in a row of an edge are one, the faces of an edge differ, and the faces agree down each
+-- line; where the ratio is 0 it is a planar partition. Outside the triangles of removed vertices each face is the union of the base
+-- faces that it was made of, and two faces are adjacent exactly where base faces of theirs are.
 pub record IsSliceOf (m : BaseMap) (k : ℕ) (s : Slice) : Type 0 where
   pub exact : s ≡ slice m k
-  pub chains : IsSlice (merged m) k [] s
-  pub partition : IsPartition (edge_segments s.edges)
+  pub chains : IsSlice (merged m) k (removals_to (merged m) k) s
+  pub planar : ArePlanar s.edges
+  pub partition : m.rules.ratio ≡ 0 → IsPartition (edge_segments s.edges)
   pub unions : HasUnions m k s
   pub adjacent : HasAdjacentFaces m k s
 
--- What comes of it for a planar partition and the step k: its slice after k steps of the merge history; or vertices should be
--- removed, which no command does yet; or k is above the number of its steps.
+-- What comes of it for a planar partition and the step k: its slice after k steps of the merge history; or k is above the number of
+-- its steps.
 abbrev pub SaysSliceOf : ℕ → BaseMap → Outcome → Type 0
-SaysSliceOf k m (Done text) =
-    (m.rules.ratio ≡ 0) × IsHistory m (history_of m) × (k ≤ length (history_of m))
-    × ((s : Slice) × IsSliceOf m k s × (text ≡ slice_text s))
-SaysSliceOf k m (RatioRefused ratio) = (ratio ≡ m.rules.ratio) × (0 < ratio)
-SaysSliceOf k m (StepTooHigh last) =
-    (m.rules.ratio ≡ 0) × ((steps : List MergeStep) × IsHistory m steps × (last ≡ length steps) × (length steps < k))
+SaysSliceOf k m (Done text) = IsHistory m (history_of m) × (k ≤ length (history_of m)) × ((s : Slice) × IsSliceOf m k s × (text ≡ slice_text s))
+SaysSliceOf k m (StepTooHigh last) = (steps : List MergeStep) × IsHistory m steps × (last ≡ length steps) × (length steps < k)
 SaysSliceOf k m other = ⊥
 
 -- What comes of it for a base map: it is no planar partition, and its first fault is told; or it is one, of which that comes.
@@ -47,10 +48,7 @@ SaysSlice k m outcome = IsPartition (base_segments m) × SaysSliceOf k m outcome
 
 -- the same as functions
 unfoldable pub slice_of_outcome : ℕ → BaseMap → Outcome
-slice_of_outcome k m =
-    if nat_lt 0 m.rules.ratio then RatioRefused m.rules.ratio
-    else if nat_lt (length (history_of m)) k then StepTooHigh (length (history_of m))
-    else Done (slice_text (slice m k))
+slice_of_outcome k m = if nat_lt (length (history_of m)) k then StepTooHigh (length (history_of m)) else Done (slice_text (slice m k))
 
 unfoldable pub slice_outcome : ℕ → BaseMap → Outcome
 slice_outcome k m = elim (map_fault m) [ Some fault ↦ Refused fault | None ↦ slice_of_outcome k m ]

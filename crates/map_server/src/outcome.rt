@@ -3,7 +3,7 @@
 ghost use Rattle.std.specs.Prelude.{◌≡◌, ◌⊎◌, [], ◌∷◌, ◌++◌, decimal, IfOk, OnErr};
 ghost use Rattle.map_server.specs.declared.outcome.Outcome.TheVariants as outcome;
 ghost use Rattle.map_server.specs.declared.outcome.Misfit.TheVariants as misfit;
-ghost use Rattle.map_server.specs.Outcomes.{TakesMemory, status_of, text_of, load_fault_text, ratio_text, not_coarser_text, misfit_text, bytes_of};
+ghost use Rattle.map_server.specs.Outcomes.{TakesMemory, status_of, text_of, load_fault_text, not_coarser_text, misfit_text, bytes_of};
 ghost use Rattle.map_server.specs.Delivery.{Delivers, DeliversText};
 
 use plain_io::{Sink, Which, put_count};
@@ -37,8 +37,6 @@ pub enum Outcome {
     LoadFault(Which),
     /// The map is refused for this fault.
     Refused(MapFault),
-    /// Vertices of the map should be removed, by this ratio, and no command does that yet.
-    RatioRefused { ratio: u32 },
     /// The step is above the last one, which is this.
     StepTooHigh { steps: u32 },
     /// The step to go to is above the step to go from.
@@ -118,7 +116,7 @@ impl Outcome {
             Outcome::Done(_) => 0,
             Outcome::Usage => 2,
             Outcome::LoadFault(_) => 3,
-            Outcome::Refused(_) | Outcome::RatioRefused { .. } => 4,
+            Outcome::Refused(_) => 4,
             Outcome::StepTooHigh { .. } | Outcome::NotCoarser { .. } => 5,
             Outcome::OutOfMemory => 7,
             Outcome::PortFault => 8,
@@ -136,7 +134,6 @@ impl Outcome {
             Outcome::Usage => Line::Fixed(USAGE),
             Outcome::LoadFault(which) => Line::Fixed(load_fault_text(which)),
             Outcome::Refused(fault) => Line::Made(fault_text(alloc, &fault)?),
-            Outcome::RatioRefused { ratio } => Line::Made(ratio_text(alloc, ratio)?),
             Outcome::StepTooHigh { steps } => Line::Made(step_too_high_text(alloc, steps)?),
             Outcome::NotCoarser { from, to } => Line::Made(not_coarser_text(alloc, from, to)?),
             Outcome::OutOfMemory => Line::Fixed(b"memory\n"),
@@ -180,13 +177,6 @@ fn load_fault_text(which: Which) -> &'static [u8]
         Which::Slice => b"load fault slice\n",
         Which::Packet => b"load fault packet\n",
     }
-}
-
-/// The line that tells that vertices should be removed, by this ratio.
-fn ratio_text(alloc: Global, ratio: u32) -> Result<Text, Memory>
-    ensures { IfOk result (λ text. text ≡ ratio_text ratio) }
-{
-    numbered_text(alloc, b"refused 21 ratio", ratio)
 }
 
 /// The line that tells why a record is not replayed.

@@ -30,7 +30,6 @@ use tgap_model::Text;
 /// | 2 | the words are no command | the usage line |
 /// | 3 | a file that the command reads could not be loaded; the count of faults of its kind rose | `load fault` and the kind |
 /// | 4 | the map file is too long, or the listing of no base map, or the map that is checked or sliced is no planar partition | the first fault |
-/// | 4 | vertices of the map that is sliced should be removed: its ratio is above 0 | `refused 21 ratio` with the ratio |
 /// | 5 | the step is above the last one | `step too high` with that step |
 /// | 6 | the text could not be put; the count of faults of the sink rose | a front of the text |
 /// | 7 | memory is wanting | `memory` |
@@ -51,8 +50,9 @@ pub fn run<R: Threads + Sync, F: Files, K: Sink>(
         → (contents : Contents) × MayHold (F.told files.old) (files_of c) contents
         × PutsWhole (outcome_of c contents) (K.told out.old) (K.told out.new) result }
     // For a slice this says: the map is a planar partition, and what is put is the text of its slice by the definition, whose
-    // edges are chains of its arcs. The slice is a planar partition too; each face of it is the union of the base faces
-    // that the history made it of, and two are adjacent exactly where base faces of theirs are.
+    // edges are chains of its arcs less the listed vertices. The edges of the slice have no point in common but permitted
+    // ones, and the faces agree down each line; outside the triangles of the listed vertices each face is the union of the
+    // base faces that the history made it of, and two are adjacent exactly where base faces of theirs are.
     ensures done { result ≡ 0
         → PutsAnswer (map string_bytes words.now) (F.told files.old) (K.told out.old) (K.told out.new) outcome.Done }
     ensures usage { result ≡ 2 → command (map string_bytes words.now) ≡ None }
@@ -67,8 +67,7 @@ pub fn run<R: Threads + Sync, F: Files, K: Sink>(
     ensures kinds_kept { (kind : Kind) → LeavesKind (files_for (command (map string_bytes words.now))) kind
         → F.faults files.new kind ≡ F.faults files.old kind }
     ensures refused { result ≡ 4
-        → PutsAnswer (map string_bytes words.now) (F.told files.old) (K.told out.old) (K.told out.new) outcome.Refused
-        ⊎ PutsAnswer (map string_bytes words.now) (F.told files.old) (K.told out.old) (K.told out.new) outcome.RatioRefused }
+        → PutsAnswer (map string_bytes words.now) (F.told files.old) (K.told out.old) (K.told out.new) outcome.Refused }
     ensures too_high { result ≡ 5
         → PutsAnswer (map string_bytes words.now) (F.told files.old) (K.told out.old) (K.told out.new) outcome.StepTooHigh
         ⊎ PutsAnswer (map string_bytes words.now) (F.told files.old) (K.told out.old) (K.told out.new) not_coarser }

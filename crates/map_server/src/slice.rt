@@ -64,15 +64,10 @@ fn slice_of_base<R: Threads + Sync>(
     slice_of(alloc, checked, step)
 }
 
-/// The slice text of a planar partition after this step; or vertices of it should be removed, or the step is above the
-/// last one.
+/// The slice text of a planar partition after this step; or the step is above the last one.
 fn slice_of(alloc: Global, checked: Checked, step: u32) -> Result<Text, Outcome>
     ensures { IsEither (SaysSliceOf step checked) (slice_of_outcome step checked) (outcome_from result) }
 {
-    let ratio = checked.base().rules().ratio;
-    if ratio > 0 {
-        return Err(Outcome::RatioRefused { ratio });
-    }
     let built = build(alloc, checked)?;
     let slice = slice_at(alloc, &built, step)?;
     Ok(slice_text(alloc, &slice)?)

@@ -13,6 +13,18 @@ use tgap_model::{List, Memory, Text};
 const TWO_SQUARES: &str =
     "tgap 1\ntransform 1 1 0 0\nratio 16\nclasses 1\nclass 0 1 1\nfaces 2\nface 1 0\nface 2 0\narcs 3\narc 1 0 4 10 10 0 10 0 0 10 0\narc 2 0 4 10 0 20 0 20 10 10 10\narc 1 2 2 10 0 10 10\nend\n";
 
+/// A square with a notch in its left side, a rectangle at its right, and a small face in the notch.
+const SPIKE_WITH_ISLAND: &str =
+    "tgap 1\ntransform 1 1 0 0\nratio 10\nclasses 1\nclass 0 1 1\nfaces 3\nface 1 0\nface 2 0\nface 3 0\narcs 4\narc 1 0 5 40 40 0 40 4 20 0 0 40 0\narc 2 0 4 40 0 60 0 60 40 40 40\narc 1 2 2 40 0 40 40\narc 3 0 4 1 20 2 20 1 21 1 20\nend\n";
+
+/// The same without the small face.
+const SPIKE: &str =
+    "tgap 1\ntransform 1 1 0 0\nratio 10\nclasses 1\nclass 0 1 1\nfaces 2\nface 1 0\nface 2 0\narcs 3\narc 1 0 5 40 40 0 40 4 20 0 0 40 0\narc 2 0 4 40 0 60 0 60 40 40 40\narc 1 2 2 40 0 40 40\nend\n";
+
+/// Two triangles, whose border without the side between them is a ring of three points.
+const TRIANGLES: &str =
+    "tgap 1\ntransform 1 1 0 0\nratio 1\nclasses 1\nclass 0 1 1\nfaces 2\nface 1 0\nface 2 0\narcs 3\narc 1 0 3 0 0 12 0 6 6\narc 2 0 3 6 6 0 12 0 0\narc 2 1 2 0 0 6 6\nend\n";
+
 /// The two squares, of which no vertex is removed.
 const TWO_SQUARES_RATIO_0: &str =
     "tgap 1\ntransform 1 1 0 0\nratio 0\nclasses 1\nclass 0 1 1\nfaces 2\nface 1 0\nface 2 0\narcs 3\narc 1 0 4 10 10 0 10 0 0 10 0\narc 2 0 4 10 0 20 0 20 10 10 10\narc 1 2 2 10 0 10 10\nend\n";
@@ -204,8 +216,31 @@ fn slices_of_worked_maps(rt: HostRuntime) -> Result<(), Fail> {
             5,
             "step too high 1\n",
         ),
-        (TWO_SQUARES, "slice map 0", 4, "refused 21 ratio 16\n"),
-        (TWO_SQUARES, "slice map 2", 4, "refused 21 ratio 16\n"),
+        (
+            TWO_SQUARES,
+            "slice map 1",
+            0,
+            "slice 1\nfaces 1\nface 3 0\nedges 1\nedge 0 3 0 6 10 10 0 10 0 0 20 0 20 10 10 10\nend\n",
+        ),
+        (TWO_SQUARES, "slice map 2", 5, "step too high 1\n"),
+        (
+            SPIKE_WITH_ISLAND,
+            "slice map 1",
+            0,
+            "slice 1\nfaces 2\nface 3 0\nface 4 0\nedges 2\nedge 0 4 0 7 40 40 0 40 4 20 0 0 60 0 60 40 40 40\nedge 3 3 0 4 1 20 2 20 1 21 1 20\nend\n",
+        ),
+        (
+            SPIKE,
+            "slice map 1",
+            0,
+            "slice 1\nfaces 1\nface 3 0\nedges 1\nedge 0 3 0 6 40 40 0 40 0 0 60 0 60 40 40 40\nend\n",
+        ),
+        (
+            TRIANGLES,
+            "slice map 1",
+            0,
+            "slice 1\nfaces 1\nface 3 0\nedges 1\nedge 0 3 0 4 6 6 0 0 12 0 6 6\nend\n",
+        ),
         (
             ONE_SQUARE,
             "slice map 0",

@@ -27,7 +27,7 @@ has_point (p ∷ points) e = tt
 -- ---- joined rows
 
 -- the segments of two rows of which the second begins where the first ends
-path_joined : (ps qs : List Point) → HasPoint ps → HasPoint qs → last_point ps ≡ first_point qs → path (ps ++ drop 1 qs) ≡ path ps ++ path qs
+pub path_joined : (ps qs : List Point) → HasPoint ps → HasPoint qs → last_point ps ≡ first_point qs → path (ps ++ drop 1 qs) ≡ path ps ++ path qs
 path_joined [] qs h g e = absurd h
 path_joined (p ∷ ps) [] h g e = absurd g
 path_joined (p ∷ []) (q ∷ qs) h g e = ap (λ x. path (x ∷ qs)) e
@@ -47,7 +47,7 @@ joined_has_point (p ∷ ps) qs h = tt
 pub reverse_cons : {A : Type 0} (x : A) (xs : List A) → reverse (x ∷ xs) ≡ reverse xs ++ x ∷ []
 reverse_cons x xs = reverse-append (x ∷ []) xs
 
-last_after : (ps : List Point) (p : Point) → last_point (ps ++ p ∷ []) ≡ p
+pub last_after : (ps : List Point) (p : Point) → last_point (ps ++ p ∷ []) ≡ p
 last_after [] p = refl
 last_after (q ∷ []) p = refl
 last_after (q ∷ r ∷ ps) p = last_after (r ∷ ps) p

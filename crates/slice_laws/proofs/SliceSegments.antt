@@ -20,7 +20,7 @@ use Rattle.slice_laws.proofs.SlicesApart.{IsSegmentAt, segments_apart}
 
 -- ---- places in lists put together
 
-at_append : {A : Type 0} (xs ys : List A) (n : ℕ) (z : A) → At (xs ++ ys) n z → At xs n z ⊎ ((o : ℕ) × (n ≡ length xs + o) × At ys o z)
+pub at_append : {A : Type 0} (xs ys : List A) (n : ℕ) (z : A) → At (xs ++ ys) n z → At xs n z ⊎ ((o : ℕ) × (n ≡ length xs + o) × At ys o z)
 at_append [] ys n z a = inr (n, omega arith, a)
 at_append (x ∷ xs) ys zero z a = inl a
 at_append (x ∷ xs) ys (suc n) z a = elim (at_append xs ys n z a) [

@@ -49,28 +49,28 @@ strand s = record { segment = rightward s.segment; upper = (sides s).upper; lowe
 abbrev pub is_over : Line → Strand → Strand → Bool
 is_over l x y = int_lt (height l y.segment *ℤ run x.segment) (height l x.segment *ℤ run y.segment)
 
-higher_strands : (l : Line) (s t : LabelledSegment) → is_over l (strand s) (strand t) ≡ higher l s t
+pub higher_strands : (l : Line) (s t : LabelledSegment) → is_over l (strand s) (strand t) ≡ higher l s t
 unfolding is_higher
 higher_strands l s t = refl
 
-over_order : (l : Line) → IsStrictOrderOn (λ (x : Strand). pos 0 <ℤ run x.segment) (is_over l)
+pub over_order : (l : Line) → IsStrictOrderOn (λ (x : Strand). pos 0 <ℤ run x.segment) (is_over l)
 over_order l = order_reversed (fraction_order (λ (x : Strand). height l x.segment) (λ x. run x.segment))
 
 -- the strand of a segment with these faces, where it goes to the right or not
-abbrev facing : Bool → Seg → ℕ → ℕ → Strand
+abbrev pub facing : Bool → Seg → ℕ → ℕ → Strand
 facing b g l r =
     let s : Sides = cond b (record { upper = l; lower = r }) (record { upper = r; lower = l }) in
     record { segment = cond b g (flip g); upper = s.upper; lower = s.lower }
 
 -- turned round, with its faces exchanged, it has the same strand
-strand_flip : (l : Line) (g : Seg) (p q : ℕ) → crosses l g ≡ true → facing (goes_right (flip g)) (flip g) q p ≡ facing (goes_right g) g p q
+pub strand_flip : (l : Line) (g : Seg) (p q : ℕ) → crosses l g ≡ true → facing (goes_right (flip g)) (flip g) q p ≡ facing (goes_right g) g p q
 strand_flip l g p q h = ap (λ (b : Bool). facing b (flip g) q p) (one_direction l g h) ∙ by (goes_right g)
   where
     by : (b : Bool) → facing (not b) (flip g) q p ≡ facing b g p q
     by true = refl
     by false = refl
 
-mirror_strand : (l : Line) (g : ℕ → ℕ) (b s : LabelledSegment) → crosses l b.segment ≡ true → IsMirror g b s → strand s ≡ strand (with_labels g b)
+pub mirror_strand : (l : Line) (g : ℕ → ℕ) (b s : LabelledSegment) → crosses l b.segment ≡ true → IsMirror g b s → strand s ≡ strand (with_labels g b)
 mirror_strand l g b s h (inl (e, f, k)) =
     ap (λ (x : Seg). facing (goes_right x) x s.left s.right) e ∙ ap₂ (λ (u v : ℕ). facing (goes_right b.segment) b.segment u v) f k
 mirror_strand l g b s h (inr (e, f, k)) =
@@ -78,7 +78,7 @@ mirror_strand l g b s h (inr (e, f, k)) =
     ∙ strand_flip l b.segment (g b.left) (g b.right) h
 
 -- and is crossed by the same lines
-mirror_crossed : (l : Line) (g : ℕ → ℕ) (b s : LabelledSegment) → IsMirror g b s → crosses l s.segment ≡ crosses l b.segment
+pub mirror_crossed : (l : Line) (g : ℕ → ℕ) (b s : LabelledSegment) → IsMirror g b s → crosses l s.segment ≡ crosses l b.segment
 mirror_crossed l g b s (inl (e, f, k)) = ap (crosses l) e
 mirror_crossed l g b s (inr (e, f, k)) = ap (crosses l) e ∙ crosses_flip l b.segment
 
@@ -106,7 +106,7 @@ parts_differ g s h = by (goes_right s.segment) (eqb-false _ _ (not-true _ h))
 
 -- ---- the sides down a line
 
-strand_sides : (ss : List LabelledSegment) → map (λ (x : Strand). record { upper = x.upper; lower = x.lower }) (map strand ss) ≡ map sides ss
+pub strand_sides : (ss : List LabelledSegment) → map (λ (x : Strand). record { upper = x.upper; lower = x.lower }) (map strand ss) ≡ map sides ss
 strand_sides [] = refl
 strand_sides (s ∷ ss) = ap (λ xs. sides s ∷ xs) (strand_sides ss)
 

@@ -66,7 +66,7 @@ segment_faces n i (a ∷ arcs) facts =
 -- ---- the law
 
 -- the base face below the nearest segment above a point, or the outside
-abbrev face_below : BaseMap → Fraction → ℕ
+abbrev pub face_below : BaseMap → Fraction → ℕ
 face_below m p = reached (λ s. is_above s.segment p) 0 (stack (line_through p) (base_segments m))
 
 module _ (m : BaseMap) (base : is_base m ≡ true) (planar : IsPartition (base_segments m)) (k : ℕ) (p : Fraction)
@@ -81,7 +81,7 @@ module _ (m : BaseMap) (base : is_base m ≡ true) (planar : IsPartition (base_s
       ∙ ap (λ (b : Bool). either_alone b (face_below m p == f)) (ne_eqb 0 f (λ e. n (sym e)))
 
   -- and after k steps inside its ancestor
-  inside_labels : (f : ℕ) → f ≢ 0 → is_inside (map (with_labels (label_at (merged m) k)) (base_segments m)) f p
+  pub inside_labels : (f : ℕ) → f ≢ 0 → is_inside (map (with_labels (label_at (merged m) k)) (base_segments m)) f p
       ≡ (label_at (merged m) k (face_below m p) == f)
   inside_labels f n =
       let g : ℕ → ℕ = label_at (merged m) k in
@@ -99,7 +99,7 @@ module _ (m : BaseMap) (base : is_base m ≡ true) (planar : IsPartition (base_s
       ∙ ap (λ (x : ℕ). x == f) (reached_with_labels g t (λ s. refl) 0 (stack l (base_segments m)))
 
   -- a point is inside a face of the slice where it is inside that of the base map with the labels
-  inside_slice : (f : ℕ) (cs : List Chain) → are_chains (merged m) k cs ≡ true
+  pub inside_slice : (f : ℕ) (cs : List Chain) → are_chains (merged m) k cs ≡ true
       → is_inside (all_segments m k cs) f p ≡ is_inside (map (with_labels (label_at (merged m) k)) (base_segments m)) f p
   unfolding is_inside
   inside_slice f cs t =
@@ -123,7 +123,7 @@ module _ (m : BaseMap) (base : is_base m ≡ true) (planar : IsPartition (base_s
       (All-filter (λ s. crosses (line_through p) s.segment) P (base_segments m) (segment_faces n 0 m.arcs (base_arc m base))))
 
   -- the point is inside f exactly where the ancestor of the face that was found is f
-  there : (f : ℕ) → f ≢ 0 → (label_at (merged m) k (face_below m p) == f) ≡ true → IsInsideBaseFace m k f p
+  pub there : (f : ℕ) → f ≢ 0 → (label_at (merged m) k (face_below m p) == f) ≡ true → IsInsideBaseFace m k f p
   there f n h =
       let face : ℕ = face_below m p in
       let label : label_at (merged m) k face ≡ f = eqb-true _ _ h in
@@ -136,7 +136,7 @@ module _ (m : BaseMap) (base : is_base m ≡ true) (planar : IsPartition (base_s
         inside = inside_base face other ∙ eq-eqb face face refl;
       }
 
-  back : (f : ℕ) → f ≢ 0 → IsInsideBaseFace m k f p → (label_at (merged m) k (face_below m p) == f) ≡ true
+  pub back : (f : ℕ) → f ≢ 0 → IsInsideBaseFace m k f p → (label_at (merged m) k (face_below m p) == f) ≡ true
   back f n i =
       let other : i.face ≢ 0 = λ e. omega (arith, i.least, e) in
       let same : face_below m p ≡ i.face = eqb-true _ _ (sym (inside_base i.face other) ∙ i.inside) in

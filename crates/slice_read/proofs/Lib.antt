@@ -1,4 +1,2 @@
-pub mod Labels
-pub mod Sides
 pub mod Rows
 pub mod Slices

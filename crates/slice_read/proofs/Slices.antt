@@ -1,5 +1,5 @@
 -- What is read is the slice, and it has what the laws of slices say.
-use Rattle.std.proofs.Common.{◌≡◌, ◌<◌, ◌≤◌, ℕ, ◌+◌, ◌^◌, true, List, [], length, map, sym, ap, ap₂, ◌∙◌, subst, arith}
+use Rattle.std.proofs.Common.{◌≡◌, ◌<◌, ◌≤◌, ℕ, ◌+◌, ◌^◌, true, List, length, map, sym, ap, ap₂, ◌∙◌, subst, arith}
 use Rattle.tgap_model.specs.declared.slice.Edge.{Edge}
 use Rattle.tgap_model.specs.declared.slice.FaceRow.{FaceRow}
 use Rattle.tgap_model.specs.declared.slice.Removal.{Removal}
@@ -14,10 +14,14 @@ use Rattle.tgap_model.specs.Slice.{IsSlice, face_row, slice}
 use Rattle.tgap_model.proofs.BaseFacts.{base_facts}
 use Rattle.face_merge.proofs.Steps.{length-history_of}
 use Rattle.face_tree.specs.Tree.{FaceHistory, face_history}
-use Rattle.slice_laws.proofs.Unions.{nothing_removed, faces_are_unions}
 use Rattle.slice_laws.proofs.EvenSides.{slices_are_slices}
 use Rattle.slice_laws.proofs.Adjacency.{faces_are_adjacent}
 use Rattle.slice_laws.proofs.SlicesPlanar.{slices_are_partitions}
+use Rattle.step_laws.specs.StepLaws.{ArePlanar}
+use Rattle.step_laws.proofs.EachSlice.{slices_stay_planar, faces_stay_unions}
+use Rattle.edge_forest.specs.Edges.{chain_of}
+use Rattle.edge_forest.specs.Forest.{EdgeForest, last_step}
+use Rattle.tgap_build.specs.Built.{AreGone, HasRemoved}
 use Rattle.slice_read.specs.Reading.{live_rows, HasAdjacentFaces, HasUnions}
 
 -- the last face has a number that is followed by another
@@ -31,27 +35,39 @@ rows_are : (m : BaseMap) (t : FaceHistory) → t ≡ face_history (merged m) →
     → live_rows t k last ≡ map (face_row (merged m)) (live_faces (merged m) k)
 rows_are m t history k last e = ap₂ (λ (u : FaceHistory) (n : ℕ). live_rows u k n) history e
 
+-- the edges that are read of a forest with all that is removed are those of the slice
+pub edges_are : (f : EdgeForest) (m : BaseMap) (k : ℕ) (ids : List ℕ) (edges : List Edge) → f.base ≡ m → k ≤ length (history_of m)
+    → HasRemoved f (last_step f)
+    → ((removals : List Removal) → AreGone f k removals → edges ≡ edges_of (merged f.base) k removals (map (chain_of f.edges) ids))
+    → map (chain_of f.edges) ids ≡ chains_at (merged f.base) k
+    → edges ≡ edges_of (merged m) k (removals_to (merged m) k) (chains_at (merged m) k)
+edges_are f m k ids edges same within removed read chains =
+    let last : k ≤ last_step f = subst (λ (b : BaseMap). k ≤ length (history_of b)) (sym same) within in
+    read (removals_to (merged f.base) k) (removed.by_then k last)
+    ∙ ap (edges_of (merged f.base) k (removals_to (merged f.base) k)) chains
+    ∙ ap (λ (b : BaseMap). edges_of (merged b) k (removals_to (merged b) k) (chains_at (merged b) k)) same
+
 -- a slice of these rows and edges is the slice
-pub is_slice : (m : BaseMap) → m.rules.ratio ≡ 0 → (t : FaceHistory) → t ≡ face_history (merged m) → (k last : ℕ) → last ≡ length m.classes + k
-    → (faces : List FaceRow) (edges : List Edge) → faces ≡ live_rows t k last → edges ≡ edges_of (merged m) k [] (chains_at (merged m) k)
+pub is_slice : (m : BaseMap) → (t : FaceHistory) → t ≡ face_history (merged m) → (k last : ℕ) → last ≡ length m.classes + k
+    → (faces : List FaceRow) (edges : List Edge) → faces ≡ live_rows t k last → edges ≡ edges_of (merged m) k (removals_to (merged m) k) (chains_at (merged m) k)
     → record { step = k; faces = faces; edges = edges } ≡ slice m k
 unfolding slice
-is_slice m ratio t history k last e faces edges rows chains =
-    ap₂ (λ (rs : List FaceRow) (es : List Edge). record { step = k; faces = rs; edges = es }) (rows ∙ rows_are m t history k last e)
-    (chains ∙ ap (λ (removals : List Removal). edges_of (merged m) k removals (chains_at (merged m) k)) (sym (nothing_removed (merged m) k ratio)))
+is_slice m t history k last e faces edges rows chains =
+    ap₂ (λ (rs : List FaceRow) (es : List Edge). record { step = k; faces = rs; edges = es }) (rows ∙ rows_are m t history k last e) chains
 
-module _ (m : BaseMap) (base : is_base m ≡ true) (planar : IsPartition (base_segments m)) (ratio : m.rules.ratio ≡ 0) (k : ℕ) (s : Slice)
+module _ (m : BaseMap) (base : is_base m ≡ true) (planar : IsPartition (base_segments m)) (k : ℕ) (within : k ≤ length (history_of m)) (s : Slice)
     (is : s ≡ slice m k) where
-  pub relation : IsSlice (merged m) k [] s
-  relation =
-      subst (λ (removals : List Removal). IsSlice (merged m) k removals s) (nothing_removed (merged m) k ratio)
-      (subst (IsSlice (merged m) k (removals_to (merged m) k)) (sym is) (slices_are_slices m base planar k))
+  pub relation : IsSlice (merged m) k (removals_to (merged m) k) s
+  relation = subst (IsSlice (merged m) k (removals_to (merged m) k)) (sym is) (slices_are_slices m base planar k)
 
-  pub partition : IsPartition (edge_segments s.edges)
-  partition = subst (λ (u : Slice). IsPartition (edge_segments u.edges)) (sym is) (slices_are_partitions m base planar ratio k)
+  pub planar_edges : ArePlanar s.edges
+  planar_edges = subst (λ (u : Slice). ArePlanar u.edges) (sym is) (slices_stay_planar m base planar k within)
+
+  pub partition : m.rules.ratio ≡ 0 → IsPartition (edge_segments s.edges)
+  partition ratio = subst (λ (u : Slice). IsPartition (edge_segments u.edges)) (sym is) (slices_are_partitions m base planar ratio k)
 
   pub adjacent : HasAdjacentFaces m k s
   adjacent = subst (HasAdjacentFaces m k) (sym is) (faces_are_adjacent m base planar k)
 
   pub unions : HasUnions m k s
-  unions = subst (HasUnions m k) (sym is) (faces_are_unions m base planar ratio k)
+  unions = subst (HasUnions m k) (sym is) (faces_stay_unions m base planar k within)

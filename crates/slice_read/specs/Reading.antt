@@ -11,6 +11,8 @@ use Rattle.tgap_model.specs.Inside.{is_inside}
 use Rattle.tgap_model.specs.History.{is_between, class_of}
 use Rattle.tgap_model.specs.Merged.{merged, labelled_at}
 use Rattle.tgap_model.specs.Records.{is_edge_between}
+use Rattle.removal_laws.specs.Trace.{trace_to}
+use Rattle.removal_laws.specs.InsideLaws.{IsOutside}
 use Rattle.slice_laws.specs.SliceLaws.{IsInsideBaseFace}
 use Rattle.face_tree.specs.Tree.{FaceHistory, is_live}
 
@@ -24,9 +26,9 @@ HasAdjacentFaces m k s =
     (f g : ℕ) → f ≢ g
     → IsTrue (list_any (is_edge_between f g) s.edges) ↔ IsTrue (list_any (λ a. is_between f g (labelled_at (merged m) k a)) m.arcs)
 
--- A point between whole abscissas is inside a face of the slice exactly where it is inside one of the base faces that the face
--- was made of.
+-- Outside the triangles of the vertices that were removed by then, a point between whole abscissas is inside a face of the slice
+-- exactly where it is inside one of the base faces that the face was made of.
 abbrev pub HasUnions : BaseMap → ℕ → Slice → Type 0
 HasUnions m k s =
-    (f : ℕ) → f ≢ 0 → (p : Fraction) → IsBetweenColumns (line_through p)
+    (f : ℕ) → f ≢ 0 → (p : Fraction) → IsBetweenColumns (line_through p) → IsOutside p (trace_to (merged m) k)
     → IsTrue (is_inside (edge_segments s.edges) f p) ↔ IsInsideBaseFace m k f p

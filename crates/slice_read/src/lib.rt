@@ -2,23 +2,23 @@
 //! have the faces and the edges of every slice, and on `tgap_model`, whose `Slice` says what a slice is.
 #![tactic(auto)]
 
-ghost use Rattle.std.specs.Prelude.{◌≡◌, ◌<◌, ◌↔◌, ℕ, [], length, IfOk, Err};
+ghost use Rattle.std.specs.Prelude.{◌≡◌, ◌<◌, ◌↔◌, ℕ, length, IfOk, Err};
 ghost use Rattle.tgap_model.specs.Partition.{IsPartition, edge_segments};
 ghost use Rattle.tgap_model.specs.History.{history_of};
 ghost use Rattle.tgap_model.specs.Merged.{merged};
+ghost use Rattle.tgap_model.specs.Removals.{removals_to};
 ghost use Rattle.tgap_model.specs.Slice.{IsSlice, slice};
+ghost use Rattle.step_laws.specs.StepLaws.{ArePlanar};
 ghost use Rattle.slice_read.specs.declared.fail.ReadFail.TheVariants.{StepTooHigh};
 ghost use Rattle.slice_read.specs.Reading.{HasAdjacentFaces, HasUnions};
 
-mod edges;
 mod faces;
 mod fail;
 
-use edges::edges_at;
 use faces::faces_at;
 pub use fail::ReadFail;
 use std::alloc::Global;
-use tgap_build::Built;
+use tgap_build::{Built, edges_of};
 use tgap_model::Slice;
 
 /// The slice of a built map after k steps of its merge history: the faces that are live then, by number, and the edges
@@ -26,11 +26,16 @@ use tgap_model::Slice;
 pub fn slice_at(alloc: Global, built: &Built, k: u32) -> Result<Slice, ReadFail>
     // It is the slice by the definition.
     ensures exact { IfOk result (λ s. s ≡ slice built.now k) }
-    // Its faces are the live ones, and its edges are the chains after k steps, with the faces at the sides of each arc.
-    ensures slice { IfOk result (IsSlice (merged built.now) k []) }
-    // It is a planar partition.
-    ensures partition { IfOk result (λ s. IsPartition (edge_segments s.edges)) }
-    // Two faces are adjacent exactly where base faces of theirs are, and each face is the union of its base faces.
+    // Its faces are the live ones, and its edges are the chains after k steps, less the vertices that were removed by then, with
+    // the faces at the sides of each arc.
+    ensures slice { IfOk result (IsSlice (merged built.now) k (removals_to (merged built.now) k)) }
+    // Its segments have no point in common but permitted ones, no two points in a row of an edge are one, the two faces of an edge
+    // differ, and the faces agree down each line.
+    ensures planar { IfOk result (λ s. ArePlanar s.edges) }
+    // Where no vertex is removed, it is a planar partition: the faces agree round each node too.
+    ensures partition { built.now.rules.ratio ≡ 0 → IfOk result (λ s. IsPartition (edge_segments s.edges)) }
+    // Two faces are adjacent exactly where base faces of theirs are, and outside the triangles of removed vertices each face is the
+    // union of its base faces.
     ensures adjacent { IfOk result (HasAdjacentFaces built.now k) }
     ensures unions { IfOk result (HasUnions built.now k) }
     // It is refused exactly where k is above the number of the last step, which the refusal tells.
@@ -41,11 +46,13 @@ pub fn slice_at(alloc: Global, built: &Built, k: u32) -> Result<Slice, ReadFail>
         return Err(ReadFail::StepTooHigh { steps });
     }
     let tree = built.tree();
+    let forest = built.forest();
     let last = built.base().classes().len() as u32 + k;
+    let ids = forest.alive(alloc, k)?;
     Ok(Slice {
         step: k,
         faces: faces_at(alloc, tree, last, k)?,
-        edges: edges_at(alloc, tree, built.forest(), k)?,
+        edges: edges_of(alloc, tree, forest, ids.as_slice(), k)?,
     })
 }
 

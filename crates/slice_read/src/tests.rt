@@ -77,9 +77,6 @@ fn built_squares<R: Threads + Sync>(rt: &R, alloc: Global) -> Result<Option<Buil
     let Some(checked) = checked_squares(rt, alloc)? else {
         return Ok(None);
     };
-    if checked.base().rules().ratio != 0 {
-        return Ok(None);
-    }
     Ok(Some(build(alloc, checked)?))
 }
 

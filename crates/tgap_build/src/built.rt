@@ -7,7 +7,7 @@ ghost use Rattle.tgap_model.specs.History.{history_of};
 ghost use Rattle.tgap_model.specs.Merged.{merged};
 ghost use Rattle.face_tree.specs.Tree.{face_history};
 ghost use Rattle.edge_forest.specs.Forest.{last_step};
-ghost use Rattle.tgap_build.specs.Built.{IsBuilt};
+ghost use Rattle.tgap_build.specs.Built.{HasRemoved, IsBuilt};
 
 use edge_forest::Forest;
 use face_tree::FaceTree;
@@ -46,7 +46,6 @@ impl Built {
         ensures value { result.now ≡ self.now }
         ensures base { IsTrue (is_base self.now) }
         ensures partition { IsPartition (base_segments self.now) }
-        ensures ratio { self.now.rules.ratio ≡ 0 }
     {
         self.forest.base()
     }
@@ -58,11 +57,12 @@ impl Built {
         &self.tree
     }
 
-    /// The forest of its edges, when all steps of its history were made.
+    /// The forest of its edges, when all steps of its history were made and have removed their vertices.
     pub fn forest(&self) -> &Forest
         ensures base { result.now.base ≡ self.now }
         ensures closed { result.now.closed ≡ true }
         ensures made { result.now.made ≡ last_step result.now }
+        ensures removed { HasRemoved result.now (last_step result.now) }
     {
         &self.forest
     }

@@ -1,10 +1,8 @@
 -- The numbers of faces fit, and what is read is the slice.
-use Rattle.std.proofs.Common.{◌∙◌, [], ap, arith, length}
+use Rattle.std.proofs.Common.{◌∙◌, ap, map, arith, length}
 use Rattle.tgap_model.specs.Base.{BaseMap}
-use Rattle.tgap_model.specs.Merged.{merged}
-use Rattle.tgap_model.specs.Chains.{chains_at}
-use Rattle.tgap_model.specs.Removals.{edges_of}
-use Rattle.slice_read.proofs.Slices.{few_faces, is_slice, relation, partition, adjacent, unions}
+use Rattle.edge_forest.specs.Edges.{chain_of}
+use Rattle.slice_read.proofs.Slices.{few_faces, edges_are, is_slice, relation, planar_edges, partition, adjacent, unions}
 use Rattle.slice_read.proofs.slice_at.Goals as goal
 
 pub overflow_cast-last : goal.overflow_cast-last
@@ -24,19 +22,26 @@ faces_at-requires-clause-small c =
 
 pub returns-clause-exact : goal.returns-clause-exact
 returns-clause-exact c =
+    let m = c.args.built.now in
     let k = c.args.k in
-    let count = c.len.ensures ∙ (ap length c.classes.ensures.value ∙ ap (λ (m : BaseMap). length m.classes) c.base.ensures.value) in
-    let edges = c.in_ok-edges_at.ensures ∙ ap (λ (m : BaseMap). edges_of (merged m) k [] (chains_at (merged m) k)) c.forest.ensures.base in
-    is_slice c.args.built.now c.base.ensures.ratio c.tree-tree.result.now c.tree-tree.ensures k _ (omega (arith, count)) _ _ c.in_ok-faces_at.ensures edges
+    let forest = c.forest-forest.result.now in
+    let count = c.len.ensures ∙ (ap length c.classes.ensures.value ∙ ap (λ (b : BaseMap). length b.classes) c.base.ensures.value) in
+    is_slice m c.tree-tree.result.now c.tree-tree.ensures k _ (omega (arith, count)) _ _ c.in_ok-faces_at.ensures
+    (edges_are forest m k c.as_slice.result.now c.in_ok-edges_of.field-0 c.forest-forest.ensures.base
+    (omega (arith, c.steps-steps.ensures, c.if-k-steps.false)) c.forest-forest.ensures.removed c.in_ok-edges_of.ensures
+    (ap (map (chain_of forest.edges)) c.as_slice.ensures ∙ c.in_ok-ids.ensures.chains))
 
 pub returns-clause-slice : goal.returns-clause-slice
-returns-clause-slice c = relation c.args.built.now c.base.ensures.base c.base.ensures.partition c.base.ensures.ratio c.args.k _ (returns-clause-exact c)
+returns-clause-slice c = relation c.args.built.now c.base.ensures.base c.base.ensures.partition c.args.k (omega (arith, c.steps-steps.ensures, c.if-k-steps.false)) _ (returns-clause-exact c)
+
+pub returns-clause-planar : goal.returns-clause-planar
+returns-clause-planar c = planar_edges c.args.built.now c.base.ensures.base c.base.ensures.partition c.args.k (omega (arith, c.steps-steps.ensures, c.if-k-steps.false)) _ (returns-clause-exact c)
 
 pub returns-clause-partition : goal.returns-clause-partition
-returns-clause-partition c = partition c.args.built.now c.base.ensures.base c.base.ensures.partition c.base.ensures.ratio c.args.k _ (returns-clause-exact c)
+returns-clause-partition c = partition c.args.built.now c.base.ensures.base c.base.ensures.partition c.args.k (omega (arith, c.steps-steps.ensures, c.if-k-steps.false)) _ (returns-clause-exact c)
 
 pub returns-clause-adjacent : goal.returns-clause-adjacent
-returns-clause-adjacent c = adjacent c.args.built.now c.base.ensures.base c.base.ensures.partition c.base.ensures.ratio c.args.k _ (returns-clause-exact c)
+returns-clause-adjacent c = adjacent c.args.built.now c.base.ensures.base c.base.ensures.partition c.args.k (omega (arith, c.steps-steps.ensures, c.if-k-steps.false)) _ (returns-clause-exact c)
 
 pub returns-clause-unions : goal.returns-clause-unions
-returns-clause-unions c = unions c.args.built.now c.base.ensures.base c.base.ensures.partition c.base.ensures.ratio c.args.k _ (returns-clause-exact c)
+returns-clause-unions c = unions c.args.built.now c.base.ensures.base c.base.ensures.partition c.args.k (omega (arith, c.steps-steps.ensures, c.if-k-steps.false)) _ (returns-clause-exact c)

@@ -1,0 +1,17 @@
+pub mod StepEdges
+pub mod RowMeetings
+pub mod SoundRows
+pub mod SoundEdges
+pub mod SameEdges
+pub mod SameFaces
+pub mod MergedFaces
+pub mod Reordered
+pub mod Become
+pub mod ChainPoints
+pub mod EdgesAlong
+pub mod StepLabels
+pub mod JoinEdges
+pub mod JoinedChains
+pub mod FirstSlice
+pub mod EachSlice
+pub mod StepRemovals

@@ -1,0 +1,38 @@
+use Rattle.std.proofs.Common.{◌≤◌, ℤ, unsigned_abs, sym, subst}
+use Rattle.tgap_model.specs.Bounds.{max_cross}
+use Rattle.tgap_model.specs.Point.{area2}
+use Rattle.vertex_drop.proofs.Small.{area_small, wide_area, area_of_zero, not_zero}
+use Rattle.vertex_drop.proofs.Removed.{removed_flat, kept_large, removed_clear}
+use Rattle.vertex_drop.proofs.removable.is_removable.Goals as goal
+
+pub returns-then-area-eq0 : goal.returns-then-area-eq0
+returns-then-area-eq0 c =
+    let t = c.args.corner in
+    let r = c.requires in
+    let small = area_small t.a t.b t.c r.a r.b r.c in
+    removed_flat c.args.rule.ratio c.args.rule.area _ t.a t.b t.c
+    (area_of_zero c.area2-area.result (area2 t.a t.b t.c) c.area2-area.ensures small c.if-area-eq0.true)
+
+pub is_small-requires : goal.is_small-requires
+is_small-requires c =
+    let t = c.args.corner in
+    let r = c.requires in
+    let small = area_small t.a t.b t.c r.a r.b r.c in
+    subst (λ (z : ℤ). unsigned_abs z ≤ max_cross) (sym (wide_area c.area2-area.result (area2 t.a t.b t.c) c.area2-area.ensures small)) small
+
+pub returns-then-is_small : goal.returns-then-is_small
+returns-then-is_small c =
+    let t = c.args.corner in
+    let r = c.requires in
+    let small = area_small t.a t.b t.c r.a r.b r.c in
+    removed_clear c.args.rule.ratio c.args.rule.area _ t.a t.b t.c (not_zero c.area2-area.result (area2 t.a t.b t.c) c.area2-area.ensures c.if-area-eq0.false)
+    (c.is_small.ensures (area2 t.a t.b t.c) (wide_area c.area2-area.result (area2 t.a t.b t.c) c.area2-area.ensures small)) c.if-is_small.true
+    (rw (sym c.triangle_of.ensures.a, sym c.triangle_of.ensures.b, sym c.triangle_of.ensures.c) c.is_clear_of_all.ensures)
+
+pub returns-else-is_small : goal.returns-else-is_small
+returns-else-is_small c =
+    let t = c.args.corner in
+    let r = c.requires in
+    let small = area_small t.a t.b t.c r.a r.b r.c in
+    kept_large c.args.rule.ratio c.args.rule.area _ t.a t.b t.c (not_zero c.area2-area.result (area2 t.a t.b t.c) c.area2-area.ensures c.if-area-eq0.false)
+    (c.is_small.ensures (area2 t.a t.b t.c) (wide_area c.area2-area.result (area2 t.a t.b t.c) c.area2-area.ensures small)) c.if-is_small.false

@@ -1,0 +1,28 @@
+use Rattle.std.proofs.Common.{◌≡◌, ℤ, List, [], map, to_z, of_z, IfOk, sym, ap, ◌∙◌, subst}
+use Rattle.tgap_model.specs.declared.geometry.Point.{Point}
+use Rattle.std.specs.Int.{w128}
+use Rattle.std.proofs.lemmas.Int.{to_z-of_z}
+use Rattle.tgap_model.specs.declared.slice.Edge.{Edge}
+use Rattle.tgap_model.specs.Removals.{sweep_edges}
+use Rattle.tgap_model.specs.declared.slice.Removal.{Removal}
+use Rattle.vertex_drop.proofs.RowSteps.{sweep_none, sweep_all}
+use Rattle.vertex_drop.proofs.steps.sweep.Goals as goal
+
+pub returns-then-ratio-eq0 : goal.returns-then-ratio-eq0
+returns-then-ratio-eq0 c =
+    c.new.ensures
+    ∙ ap (λ (l : List Point). map (λ (p : Point). record { point = p; step = c.args.step }) l)
+    (sym (sweep_none c.args.ratio c.args.loser_area c.args.made c.args.live.now c.if-ratio-eq0.true))
+
+pub returns : goal.returns
+returns c =
+    let area = to_z-of_z w128 c.args.loser_area c.ranges.loser_area in
+    let live = c.args.live.now in
+    let removed =
+    c.deref.ensures.value ∙ c.in_ok-gone.ensures
+    ∙ ap (λ (l : List Edge). sweep_edges c.args.ratio (to_z w128 (of_z w128 c.args.loser_area)) c.args.made [] l) c.as_slice.ensures
+    ∙ ap (λ (z : ℤ). sweep_edges c.args.ratio z c.args.made [] live) area
+    ∙ sym (sweep_all c.args.ratio c.args.loser_area c.args.made live c.if-ratio-eq0.false) in
+    subst (λ (l : List Point).
+    IfOk c.removals_of.result (λ (removals : List Removal). removals ≡ map (λ (p : Point). record { point = p; step = c.args.step }) l))
+    removed c.removals_of.ensures

@@ -1,0 +1,4 @@
+pub mod Boxes
+pub mod Rows
+pub mod Outside
+pub mod Sweep
