@@ -17,6 +17,17 @@ def grid(side):
     return side * side, 2 * side * (side + 1), 4 * side * (side + 1), arcs()
 
 
+def bent_grid(side):
+    """The same cells, four times as wide, where each side has a bend that a larger neighbour of it does not need."""
+    faces, count, _, arcs = grid(side)
+
+    def bent(points):
+        (x, y), (u, v) = points
+        return [(4 * x, 4 * y), (4 * x + 1, 4 * y + 2) if x == u else (4 * x + 2, 4 * y + 1), (4 * u, 4 * v)]
+
+    return faces, count, 3 * count, ((left, right, 3, bent(points)) for left, right, _, points in arcs)
+
+
 def saw(teeth):
     """One face inside one long arc: a level base, and above it the teeth of a saw from right to left."""
     end = 2 * teeth
@@ -70,20 +81,21 @@ def star(reach):
     return count, 2 * count, 4 * count, arcs()
 
 
-# Each shape with sizes that about double the points, up to what a map may have: 131,072 points, 65,536 arcs and 32,768 faces.
+# Each shape with its ratio, and with sizes that about double the points, up to what a map may have: 131,072 points, 65,536 arcs and 32,768 faces.
 SHAPES = {
-    "grid of cells": (grid, [22, 32, 45, 64, 90, 128, 180]),
-    "one long arc": (saw, [1024, 2048, 4096, 8192, 16384, 32768, 65534]),
-    "comb": (comb, [512, 1024, 2048, 4096, 8192, 16384, 32767]),
-    "star": (star, [64, 128, 256, 512, 1024, 2048, 4096]),
+    "grid of cells": (grid, 0, [22, 32, 45, 64, 90, 128, 180]),
+    "bent cells": (bent_grid, 16, [18, 26, 40, 64, 91, 128, 147]),
+    "one long arc": (saw, 0, [1024, 2048, 4096, 8192, 16384, 32768, 65534]),
+    "comb": (comb, 0, [512, 1024, 2048, 4096, 8192, 16384, 32767]),
+    "star": (star, 0, [64, 128, 256, 512, 1024, 2048, 4096]),
 }
 
 
-def write(path, shape, size):
-    """Writes the listing of a map to a file. No vertex of it is removed."""
+def write(path, shape, size, ratio=0):
+    """Writes the listing of a map to a file. With a ratio above 0 vertices of it are removed."""
     faces, arc_count, _, arcs = shape(size)
     with open(path, "w", encoding="ascii") as file:
-        file.write(f"tgap 1\ntransform 1 1 0 0\nratio 0\nclasses 1\nclass 0 1 1\nfaces {faces}\n")
+        file.write(f"tgap 1\ntransform 1 1 0 0\nratio {ratio}\nclasses 1\nclass 0 1 1\nfaces {faces}\n")
         file.writelines(f"face {face} 0\n" for face in range(1, faces + 1))
         file.write(f"arcs {arc_count}\n")
         for left, right, count, points in arcs:
