@@ -1,5 +1,6 @@
 pub mod Examples
 pub mod ListingExamples
+pub mod TopologyExamples
 pub mod PartitionExamples
 pub mod SliceExamples
 pub mod StepExamples

@@ -22,3 +22,7 @@ pub mod Lines
 pub mod ListingLines
 pub mod Listing
 pub mod SliceTexts
+pub mod Json
+pub mod RulesFile
+pub mod Topology
+pub mod Rings

@@ -1,6 +1,6 @@
 //! The map and its definitions: what a base map is, how its faces are merged, which borders are left,
 //! and how a listing of it is spelled. Every other crate states its contracts in the words of this one.
-//! It stands on std alone.
+//! A JSON value is one of `serde_json`.
 #![tactic(auto)]
 
 mod base;
@@ -17,6 +17,7 @@ mod record;
 mod segment;
 mod slice;
 mod text;
+mod topology;
 mod validity;
 
 pub use base::{Base, BaseArc, Rules, Transform};
@@ -35,4 +36,5 @@ pub use record::{Mend, Packet, Piece, Put, StepRecord};
 pub use segment::{LabelledSegment, base_segments};
 pub use slice::{Edge, FaceRow, Removal, Slice};
 pub use text::Text;
+pub use topology::{NamedRules, RawMap, RawPolygon};
 pub use validity::are_without_repeat;
