@@ -6,3 +6,4 @@ pub mod LineEnds
 pub mod Steps
 pub mod Fields
 pub mod Loops
+mod JsonTrees

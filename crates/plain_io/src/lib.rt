@@ -4,6 +4,7 @@
 
 mod calls;
 mod files;
+pub mod json;
 mod sink;
 mod text;
 
