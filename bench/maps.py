@@ -1,5 +1,6 @@
 """Maps of several shapes and sizes. Each is a planar partition whose faces hang together. A shape gives, for its size, the numbers of faces, arcs and
 points and the arcs: left face, right face, number of points and points."""
+import json
 
 
 def grid(side):
@@ -89,6 +90,46 @@ SHAPES = {
     "comb": (comb, 0, [512, 1024, 2048, 4096, 8192, 16384, 32767]),
     "star": (star, 0, [64, 128, 256, 512, 1024, 2048, 4096]),
 }
+
+
+def rings_of(faces, arcs):
+    """The ring of each face: the indexes of its arcs, one after the other, against the clock. No face of these shapes has a hole."""
+    starts = [{} for _ in range(faces + 1)]
+    for number, (left, right, _, points) in enumerate(arcs):
+        starts[left][points[0]] = number, points[-1]
+        starts[right][points[-1]] = ~number, points[0]
+    for face in range(1, faces + 1):
+        first = point = next(iter(starts[face]))
+        ring = []
+        while not ring or point != first:
+            index, point = starts[face][point]
+            ring.append(index)
+        yield ring
+
+
+def steps_of(points):
+    """The first point, and then the differences."""
+    return [points[0], *((b[0] - a[0], b[1] - a[1]) for a, b in zip(points, points[1:]))]
+
+
+def write_topology(path, shape, size, ratio=0):
+    """Writes the same map as a topology, path.json, with its object 'cells', and its rules, path.rules.json."""
+    faces, _, _, arcs = shape(size)
+    arcs = [(left, right, count, list(points)) for left, right, count, points in arcs]
+    geometries = [{"type": "Polygon", "arcs": [ring], "properties": {"kind": "cell"}} for ring in rings_of(faces, arcs)]
+    with open(f"{path}.json", "w", encoding="ascii") as file:
+        json.dump({"type": "Topology", "transform": {"scale": [1, 1], "translate": [0, 0]}, "objects": {"cells": {"type": "GeometryCollection", "geometries": geometries}},
+                   "arcs": [steps_of(points) for _, _, _, points in arcs]}, file, separators=(",", ":"))
+    with open(f"{path}.rules.json", "w", encoding="ascii") as file:
+        json.dump({"property": "kind", "classes": [["cell", 1]], "default": 0, "compat": [[1]], "ratio": ratio}, file)
+
+
+def write_longest(path):
+    """Writes a topology of 16 MiB, the greatest length: a square whose first position is repeated as often as fits."""
+    head, tail = '{"type":"Topology","transform":{"scale":[1,1],"translate":[0,0]},"objects":{"cells":{"type":"Polygon","arcs":[[0]]}},"arcs":[[', "[9,0],[0,9],[-9,0],[0,-9]]]}"
+    room = 2 ** 24 - len(head) - len(tail)
+    with open(f"{path}.json", "w", encoding="ascii") as file:
+        file.write(head + "[0,0]," * (room // 6) + " " * (room % 6) + tail)
 
 
 def write(path, shape, size, ratio=0):

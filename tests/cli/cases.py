@@ -153,6 +153,7 @@ ANY_FILE = [case for name, status, text in FILES for case in ((["check", name], 
 
 NO_COMMAND = [(words, 2, USAGE) for words in [
     "", "borders", "check", "borders two_squares", "borders two_squares 1 2", "borders 1 two_squares", "check two_squares 1",
+    "check two_squares land rules more", "slice two_squares 0 land", "slice two_squares 0 land rules more", "slice two_squares land rules 0", "borders two_squares 0 land rules",
     "slice", "slice two_squares_ratio_0", "slice two_squares_ratio_0 0 0", "slice two_squares_ratio_0 00", "slice 0 two_squares_ratio_0",
     "Borders two_squares 1", "Check two_squares", "Slice two_squares_ratio_0 0", "borders two_squares 01", "borders two_squares -1", "borders two_squares +1",
     "borders two_squares 1.0", "borders two_squares 4294967296", "borders two_squares 99999999999999999999", "two_squares", "help", "--help",

@@ -1,5 +1,5 @@
 -- What each status says, from the outcome that was put. Nothing here depends on which commands there are.
-use Rattle.std.proofs.Common.{◌≡◌, ◌≢◌, ℕ, zero, suc, ◌<◌, ◌⊎◌, inl, inr, List, [], ◌∷◌, length, get_or, Option, Some, None, Contains, refl, sym, ap, ◌∙◌, subst, arith}
+use Rattle.std.proofs.Common.{◌≡◌, ◌≢◌, ℕ, ◌<◌, ◌≤◌, ◌⊎◌, inl, inr, List, [], ◌∷◌, length, Option, Some, None, Contains, refl, sym, ap, ◌∙◌, subst, arith}
 use Rattle.plain_io.specs.declared.files.Which.{Which}
 use Rattle.plain_io.specs.Loads.{Told, OfFile}
 use Rattle.plain_io.specs.Puts.{Appends}
@@ -92,12 +92,11 @@ by_command words told rose o (Some c) e h = let a : AnswersCommand c told rose o
 
 -- of a file that is missing there are no contents
 none_held : (told : Which → List ℕ → Told) (names : List FileName) (files : Contents) → MissesOne told names → MayHold told names files → ⊥
-none_held told [] files m h = absurd (omega (arith, m.1.1))
-none_held told (n ∷ names) files m h = by m.1.0 m.1.1 m.1.2 (λ l. none_held told names files (m.0, l, m.2) h.1)
-  where
-    by : (k : ℕ) → k < length (n ∷ names) → get_or (n ∷ names) k m.0 ≡ m.0 → (Contains names m.0 → ⊥) → ⊥
-    by zero l e rest = subst (λ (t : Told). OfFile t (λ bytes. files n.which ≡ bytes)) (ap (λ (f : FileName). told f.which f.name) e ∙ m.2) h.0
-    by (suc k) l e rest = rest (k, omega arith, e)
+none_held told [] files m h = m
+none_held told (n ∷ names) files (inl missing) h = subst (λ (t : Told). OfFile t (λ bytes. files n.which ≡ bytes)) missing h.0
+none_held told (n ∷ names) files (inr (bytes, holds, fits, later)) h =
+    let same : files n.which ≡ bytes = subst (λ (t : Told). OfFile t (λ held. files n.which ≡ held)) holds h.0 in
+    none_held told names files later (h.1 (subst (λ (held : List ℕ). length held ≤ n.max) (sym same) fits))
 
 -- What is put for these words: an outcome of them, the counts of faults that it leaves, and its text.
 pub record Put (words : List (List ℕ)) (told : Which → List ℕ → Told) (rose : Which → Type 0) (before now : Which → ℕ)

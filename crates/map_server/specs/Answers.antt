@@ -6,25 +6,30 @@ use Rattle.tgap_model.specs.Base.{BaseMap}
 use Rattle.tgap_model.specs.Listing.{IsListing, listing}
 use Rattle.plain_io.specs.declared.files.Which.{Which}
 use Rattle.plain_io.specs.Faults.{Rose}
-use Rattle.plain_io.specs.Loads.{Told, Missing, OfFile}
+use Rattle.plain_io.specs.Loads.{Told, Missing, Holds, OfFile}
 use Rattle.plain_io.specs.Puts.{Appends}
 use Rattle.map_server.specs.declared.outcome.Outcome.{Outcome}
 use Rattle.map_server.specs.declared.outcome.Outcome.TheVariants.{Done, Usage, LoadFault, Refused, OutOfMemory}
 use Rattle.map_server.specs.Outcomes.{text_of, IsOfFiles}
 use Rattle.map_server.specs.Command.{Command, Source}
-use Rattle.map_server.specs.MapFile.{Contents, FileName, files_of_map, IsMapFile, IsRefusedFile, read_map}
+use Rattle.tgap_model.specs.Rings.{topology_base}
+use Rattle.map_server.specs.MapFile.{Contents, FileName, files_of_map, IsTopologyOf, IsMapFile, IsRefusedFile, read_map}
 use Rattle.map_server.specs.Commands.{command, files_of, Says, outcome_of}
 
 -- ---- what is told of files
 
--- these may be the contents of the named files
+-- These may be the contents of the named files. After one that is too long no other is loaded.
 abbrev pub MayHold : (Which → List ℕ → Told) → List FileName → Contents → Type 0
 MayHold told [] files = ⊤
-MayHold told (n ∷ names) files = OfFile (told n.which n.name) (λ bytes. files n.which ≡ bytes) × MayHold told names files
+MayHold told (n ∷ names) files =
+    OfFile (told n.which n.name) (λ bytes. files n.which ≡ bytes) × (length (files n.which) ≤ n.max → MayHold told names files)
 
--- it is told of one of the named files that there is none
+-- It is told of one of the named files that there is none, and of those before it that they are there and not too long.
 abbrev pub MissesOne : (Which → List ℕ → Told) → List FileName → Type 0
-MissesOne told names = (n : FileName) × Contains names n × (told n.which n.name ≡ Missing)
+MissesOne told [] = ⊥
+MissesOne told (n ∷ names) =
+    (told n.which n.name ≡ Missing)
+    ⊎ ((bytes : List ℕ) × (told n.which n.name ≡ Holds bytes) × (length bytes ≤ n.max) × MissesOne told names)
 
 -- ---- the outcomes of a command
 
@@ -77,6 +82,12 @@ ReadsListing bytes (Ok m) = IsListing bytes m × (listing bytes ≡ Ok m)
 ReadsListing bytes (Err outcome) =
     (outcome ≡ OutOfMemory)
     ⊎ ((fault : MapFault) × (outcome ≡ Refused fault) × (listing bytes ≡ Err fault) × ((m : BaseMap) → ¬ (IsListing bytes m)))
+
+-- a topology is read with its rules, or what comes of it
+abbrev pub ReadsTopology : List ℕ → List ℕ → List ℕ → Result BaseMap Outcome → Type 0
+ReadsTopology map object rules (Ok m) = IsTopologyOf map object rules m
+ReadsTopology map object rules (Err outcome) =
+    (outcome ≡ OutOfMemory) ⊎ ((fault : MapFault) × (outcome ≡ Refused fault) × (topology_base map object rules ≡ Err fault))
 
 -- a map is read, or what comes of it
 abbrev pub ReadsMap : Source → (Which → List ℕ → Told) → (Which → Type 0) → Result BaseMap Outcome → Type 0

@@ -1,13 +1,14 @@
 -- The commands of the code as those of the definitions.
 use Rattle.std.specs.Prelude.{Option, option_map}
 use Rattle.map_server.specs.declared.command.Source.{Source}
-use Rattle.map_server.specs.declared.command.Source.TheVariants.{Listing}
+use Rattle.map_server.specs.declared.command.Source.TheVariants.{Listing, Topology}
 use Rattle.map_server.specs.declared.command.Command.{Command}
 use Rattle.map_server.specs.declared.command.Command.TheVariants.{Borders, Check, Slice}
 use Rattle.map_server.specs.Command as spec
 
 abbrev pub source_of : Source → spec.Source
 source_of (Listing name) = spec.Listing name.now
+source_of (Topology map object rules) = spec.Topology map.now object.now rules.now
 
 abbrev pub command_of : Command → spec.Command
 command_of (Borders source step) = spec.Borders (source_of source) step

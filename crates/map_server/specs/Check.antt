@@ -1,5 +1,5 @@
 -- The command that tells whether a map is a planar partition.
-use Rattle.std.specs.Prelude.{◌≡◌, ℕ, List, [], ◌∷◌, Option, Some, None}
+use Rattle.std.specs.Prelude.{◌≡◌, ℕ, List, ◌∷◌, Option, Some, None, option_map}
 use Rattle.tgap_model.specs.declared.fault.MapFault.{MapFault}
 use Rattle.tgap_model.specs.Base.{BaseMap}
 use Rattle.tgap_model.specs.Partition.{IsPartition, base_segments, map_fault}
@@ -7,11 +7,11 @@ use Rattle.tgap_model.specs.Evidence.{IsShownBy}
 use Rattle.tgap_model.specs.Texts.{ok_text}
 use Rattle.map_server.specs.declared.outcome.Outcome.{Outcome}
 use Rattle.map_server.specs.declared.outcome.Outcome.TheVariants.{Done, Refused}
-use Rattle.map_server.specs.Command.{Command, Listing, Check}
+use Rattle.map_server.specs.Command.{Command, source_named, Check}
 
--- the word after its name: a file with a listing
+-- the words after its name: the source of a map
 abbrev pub check_command : List (List ℕ) → Option Command
-check_command (map ∷ []) = Some (Check (Listing map))
+check_command (map ∷ words) = option_map Check (source_named map words)
 check_command words = None
 
 -- the base map is no planar partition, and this fault shows it: what it names is wrong, and nothing before it is

@@ -1,10 +1,18 @@
 -- The commands: what the words of a command line ask for.
-use Rattle.std.specs.Prelude.{ℕ, ◌-◌, ◌^◌, pos, unsigned_abs, List, Option, Some, None}
+use Rattle.std.specs.Prelude.{ℕ, ◌-◌, ◌^◌, pos, unsigned_abs, List, [], ◌∷◌, Option, Some, None}
 use Rattle.tgap_model.specs.Texts.{number_of}
 
--- where a map is read from: the listing in a file of this name
+-- Where a map is read from: the listing in a file of this name; or the topology in a file of the first name, with the object of
+-- the second, and the rules in a file of the third.
 pub data Source : Type 0 where
   Listing : List ℕ → Source
+  Topology : List ℕ → List ℕ → List ℕ → Source
+
+-- the source that a file and the words that may follow it name
+abbrev pub source_named : List ℕ → List (List ℕ) → Option Source
+source_named map [] = Some (Listing map)
+source_named map (object ∷ rules ∷ []) = Some (Topology map object rules)
+source_named map words = None
 
 -- the borders of a map after a step of its history, whether a map is a planar partition, or its slice after a step
 pub data Command : Type 0 where

@@ -1,5 +1,5 @@
 -- The command that tells the slice of a map after a step of its history.
-use Rattle.std.specs.Prelude.{◌≡◌, ◌<◌, ◌≤◌, ℕ, nat_lt, List, [], ◌∷◌, length, Option, Some, None, option_map, if◌then◌else◌}
+use Rattle.std.specs.Prelude.{◌≡◌, ◌<◌, ◌≤◌, ℕ, nat_lt, List, ◌∷◌, length, Option, Some, None, option_map, option_and_then, if◌then◌else◌}
 use Rattle.tgap_model.specs.declared.merge.MergeStep.{MergeStep}
 use Rattle.tgap_model.specs.declared.slice.Slice.{Slice}
 use Rattle.tgap_model.specs.Base.{BaseMap}
@@ -16,9 +16,10 @@ use Rattle.map_server.specs.declared.outcome.Outcome.TheVariants.{Done, Refused,
 use Rattle.map_server.specs.Command as spec
 use Rattle.map_server.specs.Check.{IsFirstFault}
 
--- the words after its name: a file with a listing, and a step
+-- the words after its name: the file of a map, a step, and what else its source names
 abbrev pub slice_command : List (List ℕ) → Option spec.Command
-slice_command (map ∷ step ∷ []) = option_map (spec.Slice (spec.Listing map)) (spec.step_of step)
+slice_command (map ∷ step ∷ words) =
+    option_and_then (λ source. option_map (spec.Slice source) (spec.step_of step)) (spec.source_named map words)
 slice_command words = None
 
 -- The map after k steps of its merge history. It is the slice by the definition: its faces are the live ones, and its edges are

@@ -8,7 +8,7 @@ ghost use Rattle.map_server.specs.Asked.{asked, source_of};
 ghost use Rattle.map_server.specs.Answers.{AnswersCommand, Failed, KeepCounts, IsEither, outcome_from};
 ghost use Rattle.map_server.specs.Check.{check_command, SaysCheck, check_outcome};
 
-use crate::command::{Command, Source};
+use crate::command::{Command, Source, source_named};
 use crate::load::load_map;
 use crate::outcome::Outcome;
 use base_check::check;
@@ -22,11 +22,11 @@ use wire_text::ok_text;
 pub fn parse(words: &[String]) -> Option<Command<'_>>
     ensures { asked result ≡ check_command (map string_bytes words.now) }
 {
-    let [map] = words else {
+    let [map, rest @ ..] = words else {
         return None;
     };
     Some(Command::Check {
-        map: Source::Listing(map.as_str()),
+        map: source_named(map.as_str(), rest)?,
     })
 }
 

@@ -1,8 +1,9 @@
 //! The commands, and the words that ask for them.
 
-ghost use Rattle.std.specs.Prelude.{◌≡◌, string_bytes, map};
+ghost use Rattle.std.specs.Prelude.{◌≡◌, string_bytes, map, option_map};
+ghost use Rattle.map_server.specs.Command.{source_named};
 ghost use Rattle.map_server.specs.Commands.{command};
-ghost use Rattle.map_server.specs.Asked.{asked};
+ghost use Rattle.map_server.specs.Asked.{asked, source_of};
 
 use crate::{borders, check, slice};
 
@@ -11,6 +12,27 @@ use crate::{borders, check, slice};
 pub enum Source<'a> {
     /// The listing in the file of this name.
     Listing(&'a str),
+    /// The topology in the file `map`, of which `object` is chosen, with the rules in the file `rules`.
+    Topology {
+        map: &'a str,
+        object: &'a str,
+        rules: &'a str,
+    },
+}
+
+/// The source that a file and the words that may follow it name: an object and a file with rules, together or not at all.
+pub fn source_named<'a>(file: &'a str, rest: &'a [String]) -> Option<Source<'a>>
+    ensures { option_map source_of result ≡ source_named file.now (map string_bytes rest.now) }
+{
+    match rest {
+        [] => Some(Source::Listing(file)),
+        [object, rules] => Some(Source::Topology {
+            map: file,
+            object: object.as_str(),
+            rules: rules.as_str(),
+        }),
+        _ => None,
+    }
 }
 
 /// What is asked for.

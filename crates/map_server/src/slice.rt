@@ -8,7 +8,7 @@ ghost use Rattle.map_server.specs.Asked.{asked, source_of};
 ghost use Rattle.map_server.specs.Answers.{AnswersCommand, Failed, KeepCounts, IsEither, outcome_from};
 ghost use Rattle.map_server.specs.Slice.{slice_command, SaysSlice, SaysSliceOf, slice_outcome, slice_of_outcome};
 
-use crate::command::{Command, Source};
+use crate::command::{Command, Source, source_named};
 use crate::load::load_map;
 use crate::outcome::Outcome;
 use base_check::check;
@@ -24,12 +24,13 @@ use wire_text::slice_text;
 pub fn parse(words: &[String]) -> Option<Command<'_>>
     ensures { asked result ≡ slice_command (map string_bytes words.now) }
 {
-    let [map, step] = words else {
+    let [map, step, rest @ ..] = words else {
         return None;
     };
+    let map = source_named(map.as_str(), rest)?;
     let step = read_number(step.as_bytes(), 0, i64::from(u32::MAX))?;
     Some(Command::Slice {
-        map: Source::Listing(map.as_str()),
+        map,
         step: step as u32,
     })
 }

@@ -1,4 +1,6 @@
 //! The program over files and sinks in memory: worked maps, bad input and faults of the outside.
+mod topologies;
+
 use crate::run;
 use area_listing::{read_listing, write_listing};
 use plain_io::{

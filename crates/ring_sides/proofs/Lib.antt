@@ -1,0 +1,3 @@
+pub mod TakenSides
+pub mod TakenFaces
+pub mod BasedIsBase

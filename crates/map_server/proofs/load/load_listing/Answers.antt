@@ -1,10 +1,11 @@
+use Rattle.map_server.specs.Command.{Listing}
 use Rattle.map_server.specs.Answers.{Failed}
 use Rattle.map_server.proofs.Loads.{passed_on, of_bytes}
 use Rattle.map_server.proofs.load.load_listing.Goals as goal
 
 pub returns-in_err-text-clause-read : goal.returns-in_err-text-clause-read
 returns-in_err-text-clause-read g c =
-    passed_on c.args.name.now (g.F.Files.told c.args.files.now)
+    passed_on (Listing c.args.name.now) (g.F.Files.told c.args.files.now)
     (Failed (g.F.Files.faults c.args.files.now) (g.F.Files.faults c.load.new.files))
     c.in_err-text.field-0.0 c.from_residual.result c.from_residual.ensures.1 c.in_err-text.ensures.fetched
 
