@@ -15,9 +15,10 @@ use Rattle.map_laws.proofs.Examples.{two_squares}
 -- two squares, of two classes
 abbrev two_kinds : BaseMap
 two_kinds = record {
-  transform = two_squares.transform; classes = 0 ∷ 1 ∷ [];
+  transform = two_squares.transform;
+  classes = 0 ∷ 1 ∷ [];
   rules = record { ratio = 16; weights = 1 ∷ 1 ∷ []; compat = 1 ∷ 1 ∷ 1 ∷ 1 ∷ [] };
-  arcs = two_squares.arcs
+  arcs = two_squares.arcs;
 }
 
 -- two squares: delta positions, a collapsed arc, a reversed index, polygons of several, and a geometry that is null
