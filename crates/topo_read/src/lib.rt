@@ -1,1 +1,4 @@
+//! A topology, as it is read.
 #![tactic(auto)]
+
+mod geometry;
