@@ -13,14 +13,17 @@ ghost use Rattle.area_listing.specs.Reading.{GivesParts};
 mod limit;
 mod line;
 mod row;
+mod rules;
 mod section;
 mod write;
 
 use line::{read_end, read_heading, read_transform};
 use plain_io::{Lines, at_line};
-use section::{read_arcs, read_faces, read_rules};
+use section::{read_arcs, read_faces, read_rules as read_listed_rules};
 use std::alloc::Global;
 use tgap_model::{Base, BaseArc, List, MapFault, Or, Rules, Transform};
+pub use rules::read_rules;
+pub use tgap_model::NamedRules;
 pub use write::write_listing;
 
 /// The base map that a listing spells, by 'The area listing' of docs/formats.md.
@@ -72,7 +75,7 @@ fn read_map(alloc: Global, lines: &mut Lines) -> Result<MapParts, Or<MapFault>>
 {
     at_line(lines.number(), read_heading(lines))?;
     let transform = at_line(lines.number(), read_transform(lines))?;
-    let rules = read_rules(alloc, lines)?;
+    let rules = read_listed_rules(alloc, lines)?;
     let classes = read_faces(alloc, lines, rules.weights.len() as u32)?;
     let arcs = read_arcs(alloc, lines, classes.len() as u32)?;
     Ok(MapParts {
