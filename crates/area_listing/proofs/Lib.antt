@@ -6,3 +6,4 @@ pub mod Laws
 pub mod Writing
 pub mod EachOf
 pub mod Classes
+pub mod RulesForm

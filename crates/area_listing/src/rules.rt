@@ -67,6 +67,7 @@ fn at_place<T>(place: u8, found: Option<T>) -> Result<T, Or<MapFault>>
 }
 
 /// The rules that a JSON value tells.
+#[tactic(auto, unfolding(tgap_model::specs::RulesFile::named_rules))]
 fn named_rules(alloc: Global, tree: &Value) -> Result<NamedRules, Or<MapFault>>
     ensures exact { GivesWhole result (named_rules (view tree.now)) }
     ensures utf8 { IfOk result (λ named. IsUtf8 named.property) }
