@@ -20,25 +20,11 @@ where_some false read y e = absurd cc
 abbrev pub gathered : {B S : Type 0} → (S → B → S) → S → Option (List B) → Option S
 gathered put state read = option_map (λ ys. fold put state ys) read
 
--- one item put into the state, or read first of those that are left
-put_first : {B S : Type 0} (put : S → B → S) (state : S) (y : B) (more : Option (List B))
-    → gathered put (put state y) more ≡ gathered put state (option_map (λ ys. y ∷ ys) more)
-put_first put state y (Some ys) = refl
-put_first put state y None = refl
-
 -- the next of the items that are left
-pub next_left : {V A B : Type 0} (read : A → Option B) (see : V → A) (xs : List V) (i : ℕ) (x : V) → i < length xs → x ≡ get_or xs i x
+next_left : {V A B : Type 0} (read : A → Option B) (see : V → A) (xs : List V) (i : ℕ) (x : V) → i < length xs → x ≡ get_or xs i x
     → each_of read (map see (drop i xs)) ≡ option_and_then (λ y. option_map (λ ys. y ∷ ys) (each_of read (map see (drop (i + 1) xs)))) (read (see x))
 next_left read see xs i x lt is =
     at_drop_more (λ left. each_of read (map see left)) xs i x lt ∙ ap (λ v. each_of read (see v ∷ map see (drop (i + 1) xs))) (sym is)
-
--- an item more
-pub gathers_on : {V A B S : Type 0} (put : S → B → S) (read : A → Option B) (see : V → A) (state : S) (xs : List V) (i : ℕ) (x : V) (y : B) → i < length xs → x ≡ get_or xs i x → read (see x) ≡ Some y
-    → gathered put (put state y) (each_of read (map see (drop (i + 1) xs))) ≡ gathered put state (each_of read (map see (drop i xs)))
-gathers_on put read see state xs i x y lt is e =
-    let rest = each_of read (map see (drop (i + 1) xs)) in
-    put_first put state y rest
-    ∙ sym (ap (gathered put state) (next_left read see xs i x lt is ∙ ap (option_and_then (λ z. option_map (λ ys. z ∷ ys) rest)) e))
 
 -- an item that is not read
 pub gathers_none : {V A B S : Type 0} (put : S → B → S) (read : A → Option B) (see : V → A) (state : S) (xs : List V) (i : ℕ) (x : V) → i < length xs → x ≡ get_or xs i x → read (see x) ≡ None
@@ -74,27 +60,28 @@ each_of_all read p holds (x ∷ xs) ys e =
 
 -- ---- states
 
+-- read, and not kept
+abbrev pub passed_by : {B : Type 0} → Unit {0} → B → Unit {0}
+passed_by seen y = seen
+
 -- put at the end
 abbrev pub behind : {B : Type 0} → List B → B → List B
 behind front y = front ++ y ∷ []
 
-pub behind_all : {B : Type 0} (front ys : List B) → fold behind front ys ≡ front ++ ys
+behind_all : {B : Type 0} (front ys : List B) → fold behind front ys ≡ front ++ ys
 behind_all front [] = sym (append-nil front)
 behind_all front (y ∷ ys) = behind_all (front ++ y ∷ []) ys ∙ append_assoc front (y ∷ []) ys
 
+-- all that is read is put at the end
 pub gathered_behind : {B : Type 0} (front : List B) (read : Option (List B)) → gathered behind front read ≡ option_map (λ ys. front ++ ys) read
 gathered_behind front (Some ys) = ap Some (behind_all front ys)
 gathered_behind front None = refl
 
--- row after row
-pub joined_all : (front : List ℕ) (rows : List (List ℕ)) → fold ◌++◌ front rows ≡ front ++ concat rows
+joined_all : (front : List ℕ) (rows : List (List ℕ)) → fold ◌++◌ front rows ≡ front ++ concat rows
 joined_all front [] = sym (append-nil front)
 joined_all front (row ∷ rows) = joined_all (front ++ row) rows ∙ append_assoc front row (concat rows)
 
+-- row after row
 pub gathered_joined : (read : Option (List (List ℕ))) → gathered ◌++◌ [] read ≡ option_map concat read
 gathered_joined (Some rows) = ap Some (joined_all [] rows)
 gathered_joined None = refl
-
--- read, and not kept
-abbrev pub passed_by : {B : Type 0} → Unit {0} → B → Unit {0}
-passed_by seen y = seen

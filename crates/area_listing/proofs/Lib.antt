@@ -5,5 +5,5 @@ pub mod Plain
 pub mod Laws
 pub mod Writing
 pub mod EachOf
-pub mod Classes
+pub mod RulesReading
 pub mod RulesForm

@@ -1,5 +1,5 @@
 -- What is read of a rules file keeps to the limits.
-use Rattle.std.proofs.Common.{◌≡◌, ℕ, ◌+◌, ◌-◌, ◌*◌, ◌<◌, ◌≤◌, ◌==◌, nat_le, Bool, true, false, ◌&&◌, cond, if◌then◌else◌, List, [], ◌∷◌, ◌++◌, length, map, Option, Some, None, option_map, option_and_then, Result, Ok, Err, refl, sym, ap, subst, ◌∙◌, arith}
+use Rattle.std.proofs.Common.{◌≡◌, ℕ, ◌-◌, ◌*◌, ◌≤◌, ◌==◌, nat_le, Bool, true, ◌&&◌, if◌then◌else◌, List, [], ◌∷◌, length, map, Option, Some, None, option_map, option_and_then, Result, Ok, Err, refl, ap, subst, ◌∙◌, arith}
 use Rattle.std.specs.Prelude.{codes, IsTrue, IfOk}
 use Rattle.std.specs.List.{list_all, concat}
 use Rattle.std.specs.Option.{ok_or, is_some}
@@ -27,17 +27,18 @@ use Rattle.area_listing.proofs.Sections.{within_limit_is}
 -- ---- numbers
 
 -- a number that is read is in its range
-pub natural_fits : (low high : ℕ) (d : Data) (n : ℕ) → natural_in low high d ≡ Some n → (nat_le low n && nat_le n high) ≡ true
+natural_fits : (low high : ℕ) (d : Data) (n : ℕ) → natural_in low high d ≡ Some n → (nat_le low n && nat_le n high) ≡ true
 natural_fits low high d n e =
     option_and_then_some (λ m. if nat_le low m && nat_le m high then Some m else None) (option_and_then as_u64 (as_number d)) n e (λ m is kept.
     let in_range = cond_some (nat_le low m && nat_le m high) m n kept in
     subst (λ k. (nat_le low k && nat_le k high) ≡ true) in_range.1 in_range.0)
 
-pub natural_below : (low high : ℕ) (d : Data) (n : ℕ) → natural_in low high d ≡ Some n → n ≤ high
+-- and not above the greatest
+natural_below : (low high : ℕ) (d : Data) (n : ℕ) → natural_in low high d ≡ Some n → n ≤ high
 natural_below low high d n e = leb-true n high (and_parts (nat_le low n) (nat_le n high) (natural_fits low high d n e)).1
 
 -- a member that is a number
-pub member_below : (high : ℕ) (member : Option Data) (n : ℕ) → option_and_then (natural_in 0 high) member ≡ Some n → n ≤ high
+member_below : (high : ℕ) (member : Option Data) (n : ℕ) → option_and_then (natural_in 0 high) member ≡ Some n → n ≤ high
 member_below high member n e = option_and_then_some (natural_in 0 high) member n e (λ d is read. natural_below 0 high d n read)
 
 -- ---- classes
@@ -46,10 +47,12 @@ member_below high member n e = option_and_then_some (natural_in 0 high) member n
 abbrev has_weight : List ℕ × ℕ → Bool
 has_weight class = nat_le 1 class.1 && nat_le class.1 MAX_WEIGHT
 
+-- the weight of a class
 with_weight : (name : List ℕ) (weight : Option ℕ) (class : List ℕ × ℕ) → option_map (λ w. (name, w)) weight ≡ Some class → weight ≡ Some class.1
 with_weight name (Some w) class e = let same : (name, w) ≡ class = cc in ap (λ (c : List ℕ × ℕ). Some c.1) same
 with_weight name None class e = absurd cc
 
+-- a name and a weight
 named_weight_fits : (items : List Data) (class : List ℕ × ℕ) → named_weight items ≡ Some class → has_weight class ≡ true
 named_weight_fits [] class e = absurd cc
 named_weight_fits (name ∷ []) class e = absurd cc
@@ -58,6 +61,7 @@ named_weight_fits (name ∷ weight ∷ []) class e =
     natural_fits 1 MAX_WEIGHT weight class.1 (with_weight n (natural_in 1 MAX_WEIGHT weight) class read))
 named_weight_fits (name ∷ weight ∷ more ∷ items) class e = absurd cc
 
+-- a class
 class_fits : (d : Data) (class : List ℕ × ℕ) → class_of d ≡ Some class → has_weight class ≡ true
 class_fits d class e = option_and_then_some named_weight (items_of d) class e (λ items is read. named_weight_fits items class read)
 
@@ -66,6 +70,7 @@ record AreClasses (classes : List (List ℕ × ℕ)) : Type 0 where
   some : 1 ≤ length classes
   weights : list_all has_weight classes ≡ true
 
+-- the classes
 classes_fit : (member : Option Data) (classes : List (List ℕ × ℕ)) → option_and_then classes_of member ≡ Some classes → AreClasses classes
 classes_fit member classes e =
     option_and_then_some classes_of member classes e (λ d is read.
@@ -89,13 +94,14 @@ exactly_fits n read d found e =
     let many = where_some (length items == n) (each_of read items) found kept in
     (items, each_of_length read items found many.1 ∙ eqb-true (length items) n many.0, many.1))
 
+-- a row
 row_fits : (n : ℕ) (d : Data) (row : List ℕ) → exactly n (natural_in 0 MAX_COMPATIBILITY) d ≡ Some row → is_row n row ≡ true
 row_fits n d row e =
     let found = exactly_fits n (natural_in 0 MAX_COMPATIBILITY) d row e in
     let few = each_of_all (natural_in 0 MAX_COMPATIBILITY) (λ v. nat_le v MAX_COMPATIBILITY) (λ x y read. le-leb y MAX_COMPATIBILITY (natural_below 0 MAX_COMPATIBILITY x y read)) found.0 row found.2 in
     and_from (length row == n) _ (eq-eqb (length row) n found.1) few
 
--- rows one after another
+-- rows one after another have n numbers each
 rows_length : (n : ℕ) (rows : List (List ℕ)) → list_all (is_row n) rows ≡ true → length (concat rows) ≡ length rows * n
 rows_length n [] fits = omega arith
 rows_length n (row ∷ rows) fits =
@@ -103,6 +109,7 @@ rows_length n (row ∷ rows) fits =
     let one = eqb-true (length row) n (and_parts (length row == n) (list_all (λ v. nat_le v MAX_COMPATIBILITY) row) parts.0).0 in
     omega (arith, length-append row (concat rows), one, rows_length n rows parts.1)
 
+-- and each of their numbers is in its range
 rows_few : (n : ℕ) (rows : List (List ℕ)) → list_all (is_row n) rows ≡ true → list_all (λ v. nat_le v MAX_COMPATIBILITY) (concat rows) ≡ true
 rows_few n [] fits = refl
 rows_few n (row ∷ rows) fits =
@@ -115,6 +122,7 @@ record AreCompatibilities (n : ℕ) (compat : List ℕ) : Type 0 where
   table : length compat ≡ n * n
   few : list_all (λ v. nat_le v MAX_COMPATIBILITY) compat ≡ true
 
+-- the compatibilities
 compat_fits : (n : ℕ) (member : Option Data) (compat : List ℕ) → option_and_then (compat_of n) member ≡ Some compat → AreCompatibilities n compat
 compat_fits n member compat e =
     option_and_then_some (compat_of n) member compat e (λ d is read.
@@ -128,6 +136,7 @@ compat_fits n member compat e =
 
 -- ---- the rules
 
+-- the rules that a JSON value tells keep to their limits
 named_rules_fit : (d : Data) (named : NamedRules) → named_rules d ≡ Ok named → is_named_rules named ≡ true
 unfolding named_rules is_named_rules is_rules
 named_rules_fit d named e =
@@ -147,14 +156,18 @@ named_rules_fit d named e =
     let weights = length-map classes (λ c. c.1) in
     let names = length-map classes (λ c. c.0) in
     let made : record {
-      property = property; names = map (λ c. c.0) classes; default = default;
-      rules = record { ratio = ratio; weights = map (λ c. c.1) classes; compat = compat }
+      property = property;
+      names = map (λ c. c.0) classes;
+      default = default;
+      rules = record { ratio = ratio; weights = map (λ c. c.1) classes; compat = compat };
     } ≡ named = cc in
     subst (λ x. is_named_rules x ≡ true) made (rw (
-      weights, names,
+      weights,
+      names,
       le-leb 1 n known.some,
       le-leb n MAX_CLASSES few,
-      list_all-map (λ w. nat_le 1 w && nat_le w MAX_WEIGHT) (λ c. c.1) classes, known.weights,
+      list_all-map (λ w. nat_le 1 w && nat_le w MAX_WEIGHT) (λ c. c.1) classes,
+      known.weights,
       eq-eqb (length compat) (n * n) table.table,
       table.few,
       le-leb ratio MAX_RATIO last,
@@ -162,8 +175,8 @@ named_rules_fit d named e =
       lt-ltb default n (omega (arith, first, known.some)),
     ) refl))))))))
 
--- the rules that are read keep to their limits
-pub rules_fit : (bytes : List ℕ) (named : NamedRules) → rules_of bytes ≡ Ok named → is_named_rules named ≡ true
+-- and so do those that the bytes tell
+rules_fit : (bytes : List ℕ) (named : NamedRules) → rules_of bytes ≡ Ok named → is_named_rules named ≡ true
 unfolding rules_of
 rules_fit bytes named e = bound _ (ok_or (tree bytes) (BadRules 0)) named e (λ d e0 r0. named_rules_fit d named r0)
 

@@ -1,3 +1,3 @@
 pub mod Reading
 pub mod Written
-pub mod Classes
+pub mod RulesReading

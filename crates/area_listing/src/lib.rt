@@ -1,6 +1,6 @@
-//! The plain listing of a base map. It stands on `tgap_model`, whose `Listing` says how a base map is spelled and what
-//! the first fault of other bytes is, and on `plain_io`, which cuts a text into lines and words, and reads and writes
-//! numbers.
+//! The plain listing of a base map, and the rules file. It stands on `tgap_model`, whose `Listing` says how a base map is
+//! spelled and what the first fault of other bytes is, as `RulesFile` does for rules, and on `plain_io`, which cuts a
+//! text into lines and words, reads and writes numbers, and looks into the JSON values of `serde_json`.
 #![tactic(auto)]
 
 ghost use Rattle.std.specs.Prelude.{◌≡◌, IfOk, Ok, Err};
@@ -19,11 +19,11 @@ mod write;
 
 use line::{read_end, read_heading, read_transform};
 use plain_io::{Lines, at_line};
+pub use rules::read_rules;
 use section::{read_arcs, read_faces, read_rules as read_listed_rules};
 use std::alloc::Global;
-use tgap_model::{Base, BaseArc, List, MapFault, Or, Rules, Transform};
-pub use rules::read_rules;
 pub use tgap_model::NamedRules;
+use tgap_model::{Base, BaseArc, List, MapFault, Or, Rules, Transform};
 pub use write::write_listing;
 
 /// The base map that a listing spells, by 'The area listing' of docs/formats.md.

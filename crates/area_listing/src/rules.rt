@@ -10,7 +10,7 @@ ghost use Rattle.tgap_model.specs.declared.fault.MapFault.TheVariants.{BadRules}
 ghost use Rattle.tgap_model.specs.Json.{ensured, each_of, text_at, natural_in};
 ghost use Rattle.tgap_model.specs.RulesFile.{class_of, exactly, compat_of, classes_of, named_rules, rules_of, is_named_rules};
 ghost use Rattle.plain_io.specs.Taking.{GivesWhole};
-ghost use Rattle.area_listing.specs.Classes.{so_many, names_and_weights, GivesAll};
+ghost use Rattle.area_listing.specs.RulesReading.{so_many, names_and_weights, GivesAll};
 
 use plain_io::json;
 use serde_json::Value;
@@ -144,10 +144,7 @@ fn fault_of_many(items: &[Value]) -> MapFault
 }
 
 /// The names and the weights of so many classes as the limit allows.
-fn collect_classes(
-    alloc: Global,
-    items: &[Value],
-) -> Result<(List<Text>, List<u32>), Or<MapFault>>
+fn collect_classes(alloc: Global, items: &[Value]) -> Result<(List<Text>, List<u32>), Or<MapFault>>
     requires { length items.now ≤ MAX_CLASSES }
     ensures exact { GivesWhole result (names_and_weights (each_of class_of (map view items.now))) }
     ensures few { IfOk result (λ classes. length classes.1 ≤ MAX_CLASSES) }
@@ -176,11 +173,7 @@ fn class_of(item: &Value) -> Option<(&str, u32)>
 }
 
 /// The compatibilities of `n` classes, row after row.
-fn read_compatibilities(
-    alloc: Global,
-    tree: &Value,
-    n: usize,
-) -> Result<List<u32>, Or<MapFault>>
+fn read_compatibilities(alloc: Global, tree: &Value, n: usize) -> Result<List<u32>, Or<MapFault>>
     requires { n ≤ MAX_CLASSES }
     ensures { GivesWhole result
         (ok_or (option_and_then (compat_of n) (get (codes "compat") (view tree.now))) (BadRules 5)) }
@@ -212,11 +205,7 @@ fn array_of(value: &Value, n: usize) -> Option<&[Value]>
     ensures { option_map (λ items. map view items.now) result ≡ so_many n (view value.now) }
 {
     let items = json::items_of(value)?;
-    if items.len() == n {
-        Some(items)
-    } else {
-        None
-    }
+    if items.len() == n { Some(items) } else { None }
 }
 
 /// The whole number from 0 to `high` that is this member, or the fault of this place.

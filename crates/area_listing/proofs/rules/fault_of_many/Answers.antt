@@ -1,12 +1,11 @@
-use Rattle.std.proofs.Common.{◌≡◌, ◌<◌, Err, length, map, sym, ap, ◌∙◌, arith}
+use Rattle.std.proofs.Common.{Err, map, sym, ap, ◌∙◌, arith}
 use Rattle.std.proofs.lemmas.List.{length-map}
 use Rattle.serde_json.specs.View.{view}
 use Rattle.tgap_model.specs.declared.fault.LimitKind.TheVariants.{Classes}
 use Rattle.tgap_model.specs.declared.fault.MapFault.TheVariants.{Limit}
-use Rattle.tgap_model.specs.declared.limits.TheConstants.{MAX_CLASSES}
 use Rattle.tgap_model.specs.RulesFile.{class_of}
 use Rattle.area_listing.proofs.EachOf.{passed_by, gathers_all}
-use Rattle.area_listing.proofs.Classes.{classes_beyond}
+use Rattle.area_listing.proofs.RulesReading.{classes_beyond}
 use Rattle.area_listing.proofs.rules.fault_of_many.Goals as goal
 
 pub returns : goal.returns

@@ -1,10 +1,10 @@
-use Rattle.std.proofs.Common.{◌≡◌, ◌-◌, ◌∙◌, length, Result, Ok, refl, sym, subst, ap}
+use Rattle.std.proofs.Common.{◌≡◌, ◌-◌, ◌∙◌, length, Result, refl, sym, subst, ap}
 use Rattle.std.proofs.lemmas.Result.{err_from_is_err_and}
 use Rattle.serde_json.specs.View.{view}
 use Rattle.tgap_model.specs.declared.topology.NamedRules.{NamedRules}
 use Rattle.tgap_model.specs.declared.fault.MapFault.{MapFault}
 use Rattle.plain_io.specs.Taking.{Refuses}
-use Rattle.area_listing.proofs.Classes.{rules_from_classes, refused_first, default_refused, compat_refused, ratio_left}
+use Rattle.area_listing.proofs.RulesReading.{rules_from_classes, refused_first, default_refused, compat_refused, ratio_left}
 use Rattle.area_listing.proofs.rules.named_rules.Goals as goal
 
 pub returns-in_err-default-clause-exact : goal.returns-in_err-default-clause-exact

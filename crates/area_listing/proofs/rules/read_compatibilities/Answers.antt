@@ -1,4 +1,4 @@
-use Rattle.std.proofs.Common.{◌≡◌, [], ◌++◌, map, ap, sym, ◌∙◌}
+use Rattle.std.proofs.Common.{◌++◌, map, ap, sym, ◌∙◌}
 use Rattle.std.specs.Option.{ok_or}
 use Rattle.std.specs.Prelude.{codes}
 use Rattle.std.proofs.lemmas.Result.{err_from_is_err_and}
@@ -9,9 +9,9 @@ use Rattle.tgap_model.specs.declared.fault.MapFault.TheVariants.{BadRules}
 use Rattle.tgap_model.specs.declared.limits.TheConstants.{MAX_COMPATIBILITY}
 use Rattle.tgap_model.specs.Json.{each_of, natural_in}
 use Rattle.tgap_model.specs.RulesFile.{exactly}
-use Rattle.area_listing.specs.Classes.{so_many}
+use Rattle.area_listing.specs.RulesReading.{so_many}
 use Rattle.area_listing.proofs.EachOf.{gathers_all, gathers_none, gathered_joined}
-use Rattle.area_listing.proofs.Classes.{found_at, compat_is, refused_part}
+use Rattle.area_listing.proofs.RulesReading.{found_at, compat_is, refused_part}
 use Rattle.area_listing.proofs.rules.read_compatibilities.Goals as goal
 
 pub returns-in_err-push_row : goal.returns-in_err-push_row
@@ -25,8 +25,8 @@ returns-in_err-push_row c =
     let there = found_at c.get.result table (λ v. view v.now) (get (codes "compat") d) (Fault (BadRules 5)) c.in_ok-table.ensures c.get.ensures in
     let many = found_at c.array_of.result rows (λ items. map view items.now) (so_many c.args.n (view table.now)) (Fault (BadRules 5)) c.in_ok-rows.ensures c.array_of.ensures in
     rw (p.1, p.2) (refused_part c.in_err-push_row.field-0.0 (λ numbers. l.compat ++ numbers) (row (view c.row-item.result)) _ (BadRules 5) (λ none.
-      compat_is c.args.n d (view table.now) (map view rows.now) there many ∙ sym (gathered_joined (each_of row (map view rows.now)))
-      ∙ sym l.invariant ∙ gathers_none ◌++◌ row view l.compat rows.now l.row-index c.row-item.result c.loop-row-test.true c.row-item.is none) c.in_err-push_row.ensures)
+    compat_is c.args.n d (view table.now) (map view rows.now) there many ∙ sym (gathered_joined (each_of row (map view rows.now)))
+    ∙ sym l.invariant ∙ gathers_none ◌++◌ row view l.compat rows.now l.row-index c.row-item.result c.loop-row-test.true c.row-item.is none) c.in_err-push_row.ensures)
 
 pub returns : goal.returns
 returns c =
@@ -38,6 +38,6 @@ returns c =
     let there = found_at c.get.result table (λ v. view v.now) (get (codes "compat") d) (Fault (BadRules 5)) c.in_ok-table.ensures c.get.ensures in
     let many = found_at c.array_of.result rows (λ items. map view items.now) (so_many c.args.n (view table.now)) (Fault (BadRules 5)) c.in_ok-rows.ensures c.array_of.ensures in
     ap (λ numbers. ok_or numbers (BadRules 5)) (
-      compat_is c.args.n d (view table.now) (map view rows.now) there many ∙ sym (gathered_joined (each_of row (map view rows.now)))
-      ∙ sym l.invariant ∙ gathers_all ◌++◌ row view l.compat rows.now l.row-index c.loop-row-test.false
+    compat_is c.args.n d (view table.now) (map view rows.now) there many ∙ sym (gathered_joined (each_of row (map view rows.now)))
+    ∙ sym l.invariant ∙ gathers_all ◌++◌ row view l.compat rows.now l.row-index c.loop-row-test.false
     )

@@ -1,10 +1,8 @@
-use Rattle.std.proofs.Common.{◌≡◌, Option, Some, None, Result, Ok, Err, option_map, sym, ap, subst, ◌∙◌}
-use Rattle.std.specs.Option.{ok_or}
-use Rattle.serde_json.specs.Data.{Data}
+use Rattle.std.proofs.Common.{Result, option_map, sym, ap, subst, ◌∙◌}
 use Rattle.serde_json.specs.View.{view}
 use Rattle.tgap_model.specs.declared.topology.NamedRules.{NamedRules}
 use Rattle.tgap_model.specs.declared.fault.MapFault.{MapFault}
-use Rattle.plain_io.specs.Taking.{GivesWhole, Refuses}
+use Rattle.plain_io.specs.Taking.{GivesWhole}
 use Rattle.area_listing.proofs.RulesForm.{given_fits, rules_read, no_rules}
 use Rattle.area_listing.proofs.rules.read_rules.Goals as goal
 

@@ -1,27 +1,27 @@
--- The classes of a rules file, and their compatibilities.
-use Rattle.std.proofs.Common.{subst, ◌≡◌, ℕ, ◌-◌, ◌≤◌, ◌<◌, arith, Bool, true, false, ◌==◌, if◌then◌else◌, List, [], ◌∷◌, ◌++◌, length, map, Option, Some, None, option_map, option_and_then, Result, Ok, Err, refl, sym, ap, ◌∙◌, append_assoc}
+-- The parts of a rules file, read one after another.
+use Rattle.std.proofs.Common.{◌≡◌, ℕ, ◌-◌, ◌≤◌, ◌<◌, ◌==◌, Bool, true, false, if◌then◌else◌, List, [], ◌∷◌, ◌++◌, length, map, Option, Some, None, option_map, option_and_then, Result, Ok, Err, refl, sym, ap, subst, ◌∙◌, append_assoc, arith}
+use Rattle.std.specs.Prelude.{codes}
 use Rattle.std.specs.List.{fold, concat}
 use Rattle.std.specs.Option.{ok_or, is_some}
 use Rattle.std.proofs.lemmas.Bool.{lt-leb}
 use Rattle.std.proofs.lemmas.List.{append-nil, length-map}
-use Rattle.std.specs.Prelude.{codes}
 use Rattle.serde_json.specs.Data.{Data}
 use Rattle.serde_json.specs.Find.{get, as_object}
+use Rattle.tgap_model.specs.declared.topology.NamedRules.{NamedRules}
+use Rattle.tgap_model.specs.declared.fault.LimitKind.TheVariants.{Classes}
+use Rattle.tgap_model.specs.declared.fault.MapFault.{MapFault}
+use Rattle.tgap_model.specs.declared.fault.MapFault.TheVariants.{Limit, BadRules}
+use Rattle.tgap_model.specs.declared.limits.TheConstants.{MAX_CLASSES, MAX_COMPATIBILITY, MAX_RATIO}
 use Rattle.tgap_model.specs.declared.failure.Or.{Or}
 use Rattle.tgap_model.specs.declared.failure.Or.TheVariants.{Fault, Memory}
-use Rattle.plain_io.specs.Taking.{Refuses}
-use Rattle.tgap_model.specs.declared.fault.LimitKind.TheVariants.{Classes}
-use Rattle.tgap_model.specs.declared.fault.MapFault.TheVariants.{Limit, BadRules}
-use Rattle.tgap_model.specs.declared.fault.MapFault.{MapFault}
-use Rattle.tgap_model.specs.declared.topology.NamedRules.{NamedRules}
+use Rattle.tgap_model.specs.Json.{ensured, items_of, each_of, text_at, natural_in}
 use Rattle.tgap_model.specs.Lines.{◌>>=◌}
 use Rattle.tgap_model.specs.Listing.{within_limit}
+use Rattle.tgap_model.specs.RulesFile.{class_of, classes_of, exactly, compat_of, named_rules}
+use Rattle.plain_io.specs.Taking.{Refuses}
 use Rattle.plain_io.proofs.Loops.{refused}
 use Rattle.plain_io.proofs.Steps.{bound}
-use Rattle.tgap_model.specs.declared.limits.TheConstants.{MAX_CLASSES, MAX_COMPATIBILITY, MAX_RATIO}
-use Rattle.tgap_model.specs.Json.{ensured, items_of, each_of, text_at, natural_in}
-use Rattle.tgap_model.specs.RulesFile.{class_of, classes_of, exactly, compat_of, named_rules}
-use Rattle.area_listing.specs.Classes.{so_many, apart, names_and_weights}
+use Rattle.area_listing.specs.RulesReading.{so_many, apart, names_and_weights}
 use Rattle.area_listing.proofs.EachOf.{gathered, gathered_some, each_of_length, passed_by}
 use Rattle.area_listing.proofs.Sections.{within_limit_again}
 
@@ -39,6 +39,7 @@ where_holds : {A B : Type 0} (b : Bool) (f : A → Option B) (x y : A) → (if b
 where_holds true f x y e = let same : x ≡ y = cc in ap f same
 where_holds false f x y e = absurd cc
 
+-- so many items are read as they are
 exactly_of : {B : Type 0} (n : ℕ) (f : List Data → Option B) (found : Option (List Data)) (items : List Data) → option_and_then (λ xs. if length xs == n then Some xs else None) found ≡ Some items
     → option_and_then (λ xs. if length xs == n then f xs else None) found ≡ f items
 exactly_of n f (Some xs) items e = where_holds (length xs == n) f xs items e
@@ -54,6 +55,7 @@ exactly_is n read d items e = exactly_of n (each_of read) (items_of d) items e
 abbrev pub class_behind : List (List ℕ) × List ℕ → List ℕ × ℕ → List (List ℕ) × List ℕ
 class_behind classes class = (classes.0 ++ class.0 ∷ [], classes.1 ++ class.1 ∷ [])
 
+-- all classes are put apart
 apart_all : (names : List (List ℕ)) (weights : List ℕ) (classes : List (List ℕ × ℕ)) → fold class_behind (names, weights) classes ≡ (names ++ map (λ c. c.0) classes, weights ++ map (λ c. c.1) classes)
 apart_all names weights [] = rw (append-nil names, append-nil weights) refl
 apart_all names weights (c ∷ classes) =
@@ -111,11 +113,13 @@ rules_from d property names weights = do
   ratio ← ok_or (option_and_then (natural_in 0 MAX_RATIO) (get (codes "ratio") d)) (BadRules 6)
   Ok (record { property = property; names = names; default = default; rules = record { ratio = ratio; weights = weights; compat = compat } })
 
+-- the rules, where what stands before the default is read
 rules_from_known : (d : Data) (top : Unit {0}) (property : List ℕ) (classes : List (List ℕ × ℕ)) → ensured (is_some (as_object d)) (BadRules 1) ≡ Ok top → ok_or (text_at (codes "property") d) (BadRules 2) ≡ Ok property
     → option_and_then classes_of (get (codes "classes") d) ≡ Some classes → within_limit Classes (length classes) ≡ Ok tt → named_rules d ≡ rules_from d property (map (λ c. c.0) classes) (map (λ c. c.1) classes)
 unfolding named_rules
 rules_from_known d top property classes e0 e1 e2 e3 = let n = length-map classes (λ c. c.1) in rw (e0, e1, e2, e3, n) refl
 
+-- the same, of classes whose names and weights are apart
 pub rules_from_classes : (d : Data) (top : Unit {0}) (property : List ℕ) (names : List (List ℕ)) (weights : List ℕ) → ensured (is_some (as_object d)) (BadRules 1) ≡ Ok top → ok_or (text_at (codes "property") d) (BadRules 2) ≡ Ok property
     → names_and_weights (option_and_then classes_of (get (codes "classes") d)) ≡ Ok (names, weights) → named_rules d ≡ rules_from d property names weights
 rules_from_classes d top property names weights e0 e1 e2 =
@@ -123,12 +127,13 @@ rules_from_classes d top property names weights e0 e1 e2 =
     let P : List (List ℕ) × List ℕ → Type 0 = λ all. named_rules d ≡ rules_from d property all.0 all.1 in
     subst P read.3 (rules_from_known d top property read.0 e0 e1 read.1 read.2)
 
--- what of the rest is not read
+-- no default
 pub default_refused : (d : Data) (property : List ℕ) (names : List (List ℕ)) (weights : List ℕ) (high : ℕ) (f : Or MapFault) → high ≡ length weights - 1
     → Refuses f (ok_or (option_and_then (natural_in 0 high) (get (codes "default") d)) (BadRules 4)) → Refuses f (rules_from d property names weights)
 default_refused d property names weights high f same h =
     refused f (ok_or (option_and_then (natural_in 0 high) (get (codes "default") d)) (BadRules 4)) (rules_from d property names weights) (λ e is. let now = rw same at is in rw now refl) h
 
+-- no compatibilities
 pub compat_refused : (d : Data) (property : List ℕ) (names : List (List ℕ)) (weights : List ℕ) (high default n : ℕ) (f : Or MapFault) → high ≡ length weights - 1
     → ok_or (option_and_then (natural_in 0 high) (get (codes "default") d)) (BadRules 4) ≡ Ok default → n ≡ length weights
     → Refuses f (ok_or (option_and_then (compat_of n) (get (codes "compat") d)) (BadRules 5)) → Refuses f (rules_from d property names weights)
@@ -141,7 +146,7 @@ pub ratio_left : (d : Data) (property : List ℕ) (names : List (List ℕ)) (wei
     → ok_or (option_and_then (natural_in 0 high) (get (codes "default") d)) (BadRules 4) ≡ Ok default → n ≡ length weights
     → ok_or (option_and_then (compat_of n) (get (codes "compat") d)) (BadRules 5) ≡ Ok compat
     → rules_from d property names weights ≡ (ok_or (option_and_then (natural_in 0 MAX_RATIO) (get (codes "ratio") d)) (BadRules 6)
-      >>= λ ratio. Ok (record { property = property; names = names; default = default; rules = record { ratio = ratio; weights = weights; compat = compat } }))
+    >>= λ ratio. Ok (record { property = property; names = names; default = default; rules = record { ratio = ratio; weights = weights; compat = compat } }))
 ratio_left d property names weights high default n compat same e many table =
     let first = rw same at e in
     let second = rw many at table in
