@@ -4,3 +4,6 @@ pub mod Sections
 pub mod Plain
 pub mod Laws
 pub mod Writing
+pub mod EachOf
+pub mod RulesReading
+pub mod RulesForm

@@ -1,6 +1,6 @@
-//! The plain listing of a base map. It stands on `tgap_model`, whose `Listing` says how a base map is spelled and what
-//! the first fault of other bytes is, and on `plain_io`, which cuts a text into lines and words, and reads and writes
-//! numbers.
+//! The plain listing of a base map, and the rules file. It stands on `tgap_model`, whose `Listing` says how a base map is
+//! spelled and what the first fault of other bytes is, as `RulesFile` does for rules, and on `plain_io`, which cuts a
+//! text into lines and words, reads and writes numbers, and looks into the JSON values of `serde_json`.
 #![tactic(auto)]
 
 ghost use Rattle.std.specs.Prelude.{◌≡◌, IfOk, Ok, Err};
@@ -13,13 +13,16 @@ ghost use Rattle.area_listing.specs.Reading.{GivesParts};
 mod limit;
 mod line;
 mod row;
+mod rules;
 mod section;
 mod write;
 
 use line::{read_end, read_heading, read_transform};
 use plain_io::{Lines, at_line};
-use section::{read_arcs, read_faces, read_rules};
+pub use rules::read_rules;
+use section::{read_arcs, read_faces, read_rules as read_listed_rules};
 use std::alloc::Global;
+pub use tgap_model::NamedRules;
 use tgap_model::{Base, BaseArc, List, MapFault, Or, Rules, Transform};
 pub use write::write_listing;
 
@@ -72,7 +75,7 @@ fn read_map(alloc: Global, lines: &mut Lines) -> Result<MapParts, Or<MapFault>>
 {
     at_line(lines.number(), read_heading(lines))?;
     let transform = at_line(lines.number(), read_transform(lines))?;
-    let rules = read_rules(alloc, lines)?;
+    let rules = read_listed_rules(alloc, lines)?;
     let classes = read_faces(alloc, lines, rules.weights.len() as u32)?;
     let arcs = read_arcs(alloc, lines, classes.len() as u32)?;
     Ok(MapParts {
