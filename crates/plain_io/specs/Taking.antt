@@ -34,6 +34,11 @@ abbrev pub GivesWhole : {X F : Type 0} → Result X (Or F) → Result X F → Ty
 GivesWhole (Ok x) read = read ≡ Ok x
 GivesWhole (Err e) read = Refuses e read
 
+-- what a step in memory made of what there was
+abbrev pub LeavesWhole : {X S F : Type 0} → Result X (Or F) → S → Result S F → Type 0
+LeavesWhole (Ok x) after step = step ≡ Ok after
+LeavesWhole (Err e) after step = Refuses e step
+
 -- what a step in memory took and what it left
 abbrev pub Gives : {A S F : Type 0} → Result A (Or F) → S → Result (A × S) F → Type 0
 Gives (Ok x) rest read = read ≡ Ok (x, rest)
