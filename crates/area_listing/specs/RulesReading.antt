@@ -25,8 +25,3 @@ names_and_weights read = do
   classes ← ok_or read (BadRules 3)
   limited ← within_limit Classes (length classes)
   Ok (apart classes)
-
--- all that is there after a step that puts something behind; want of memory says nothing
-abbrev pub GivesAll : {A B F : Type 0} → Result B (Or F) → A → Result A F → Type 0
-GivesAll (Ok x) all read = read ≡ Ok all
-GivesAll (Err e) all read = Refuses e read

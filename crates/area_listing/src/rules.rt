@@ -9,8 +9,8 @@ ghost use Rattle.tgap_model.specs.declared.failure.Or.TheVariants.{Fault};
 ghost use Rattle.tgap_model.specs.declared.fault.MapFault.TheVariants.{BadRules};
 ghost use Rattle.tgap_model.specs.Json.{ensured, each_of, text_at, natural_in};
 ghost use Rattle.tgap_model.specs.RulesFile.{class_of, exactly, compat_of, classes_of, named_rules, rules_of, is_named_rules};
-ghost use Rattle.plain_io.specs.Taking.{GivesWhole};
-ghost use Rattle.area_listing.specs.RulesReading.{so_many, names_and_weights, GivesAll};
+ghost use Rattle.plain_io.specs.Taking.{GivesWhole, LeavesWhole};
+ghost use Rattle.area_listing.specs.RulesReading.{so_many, names_and_weights};
 
 use plain_io::json;
 use serde_json::Value;
@@ -189,8 +189,9 @@ fn read_compatibilities(alloc: Global, tree: &Value, n: usize) -> Result<List<u3
 
 /// A row of `n` compatibilities, put after those of `compat`.
 fn push_row(row: &Value, n: usize, compat: &mut List<u32>) -> Result<(), Or<MapFault>>
-    ensures { GivesAll result compat.new
-        (ok_or (option_map (λ numbers. compat.old ++ numbers) (exactly n (natural_in 0 MAX_COMPATIBILITY) (view row.now))) (BadRules 5)) }
+    ensures { LeavesWhole result compat.new
+        (ok_or (option_map (λ numbers. compat.old ++ numbers)
+        (exactly n (natural_in 0 MAX_COMPATIBILITY) (view row.now))) (BadRules 5)) }
 {
     let items = at_place(5, array_of(row, n))?;
     for item in items {

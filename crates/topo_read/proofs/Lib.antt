@@ -1,2 +1,11 @@
+pub mod Steps
+pub mod Folds
+pub mod Objects
+pub mod Points
+pub mod ArcForm
+pub mod Tokens
+pub mod Sizes
+pub mod MapForm
+pub mod InParts
 pub mod Indexes
 pub mod Walks

@@ -1,5 +1,5 @@
 -- The steps of the walk over the geometries of a topology, beside the definition of the walk.
-use Rattle.std.specs.Prelude.{◌≡◌, ℕ, Bool, List, map, Result, Ok, Err}
+use Rattle.std.specs.Prelude.{ℕ, Bool, List, map, Result, Ok, Err}
 use Rattle.std.specs.List.{list_all}
 use Rattle.std.specs.Option.{ok_or, is_some}
 use Rattle.std.specs.Borrow.{Bor}
@@ -10,20 +10,13 @@ use Rattle.serde_json.specs.declared.value.Value.{Value}
 use Rattle.tgap_model.specs.declared.topology.RawPolygon.{RawPolygon}
 use Rattle.tgap_model.specs.declared.fault.MapFault.{MapFault}
 use Rattle.tgap_model.specs.declared.fault.MapFault.TheVariants.{Shape}
-use Rattle.tgap_model.specs.declared.failure.Or.{Or}
 use Rattle.tgap_model.specs.Lines.{◌>>=◌}
 use Rattle.tgap_model.specs.Json.{ensured, try_fold}
 use Rattle.tgap_model.specs.Topology.{Walk, met, Geometry, collection, polygon, polygons, other, geometry_of, members_of, shapes_of, kind_of, polygon_read}
 use Rattle.tgap_model.specs.Rings.{is_raw_ring}
-use Rattle.plain_io.specs.Taking.{Refuses}
 use Rattle.topo_read.specs.declared.geometry.walk.Walk.{Walk as WalkInMemory}
 use Rattle.topo_read.specs.declared.geometry.shapes.GeometryType.{GeometryType}
 use Rattle.topo_read.specs.declared.geometry.shapes.GeometryType.TheVariants.{Collection, Polygon, MultiPolygon, Other}
-
--- what a step in memory leaves, or the fault of the step
-abbrev pub Leaves : {A S F : Type 0} → Result A (Or F) → S → Result S F → Type 0
-Leaves (Ok x) after read = read ≡ Ok after
-Leaves (Err e) after read = Refuses e read
 
 -- the walk that is in memory
 abbrev pub walk_of : WalkInMemory → Walk

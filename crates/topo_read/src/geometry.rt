@@ -6,8 +6,8 @@ ghost use Rattle.serde_json.specs.View.{view};
 ghost use Rattle.tgap_model.specs.Lines.{◌>>=◌ as ◌or>>=◌};
 ghost use Rattle.tgap_model.specs.Topology.{no_geometries, geometry_read};
 ghost use Rattle.tgap_model.specs.Rings.{is_raw_ring};
-ghost use Rattle.plain_io.specs.Taking.{Gives, GivesWhole};
-ghost use Rattle.topo_read.specs.Walk.{Leaves, walk_of, are_raw, viewed, own_read};
+ghost use Rattle.plain_io.specs.Taking.{Gives, GivesWhole, LeavesWhole};
+ghost use Rattle.topo_read.specs.Walk.{walk_of, are_raw, viewed, own_read};
 
 mod indexes;
 mod kind;
@@ -58,7 +58,7 @@ fn walk_geometry(
 ) -> Result<(), Or<MapFault>>
     requires few { arcs ≤ MAX_ARCS }
     requires raw { IsTrue (are_raw arcs walk.old.polygons) }
-    ensures walked { Leaves result (walk_of walk.new)
+    ensures walked { LeavesWhole result (walk_of walk.new)
         (geometry_read depth arcs property.now (walk_of walk.old) (view geometry.now)) }
     ensures raw { IsTrue (are_raw arcs walk.new.polygons) }
 {

@@ -5,7 +5,8 @@ ghost use Rattle.std.specs.List.{list_all};
 ghost use Rattle.serde_json.specs.View.{view};
 ghost use Rattle.tgap_model.specs.Json.{try_fold};
 ghost use Rattle.tgap_model.specs.Topology.{no_geometries, kind_of, polygon_read};
-ghost use Rattle.topo_read.specs.Walk.{Leaves, walk_of, are_raw};
+ghost use Rattle.plain_io.specs.Taking.{LeavesWhole};
+ghost use Rattle.topo_read.specs.Walk.{walk_of, are_raw};
 
 use crate::geometry::indexes::check_rings;
 use crate::geometry::kind::{kind_of, property_of};
@@ -48,7 +49,7 @@ pub fn push_polygons(
 ) -> Result<(), Or<MapFault>>
     requires few { arcs ≤ MAX_ARCS }
     requires raw { IsTrue (are_raw arcs walk.old.polygons) }
-    ensures pushed { Leaves result (walk_of walk.new)
+    ensures pushed { LeavesWhole result (walk_of walk.new)
         (try_fold (polygon_read arcs (kind_of property.now (view geometry.now))) (walk_of walk.old) shapes) }
     ensures raw { IsTrue (are_raw arcs walk.new.polygons) }
 {
@@ -70,7 +71,7 @@ fn push_polygon(
 ) -> Result<(), Or<MapFault>>
     requires few { arcs ≤ MAX_ARCS }
     requires raw { IsTrue (are_raw arcs walk.old.polygons) }
-    ensures pushed { Leaves result (walk_of walk.new) (polygon_read arcs kind (walk_of walk.old) rings) }
+    ensures pushed { LeavesWhole result (walk_of walk.new) (polygon_read arcs kind (walk_of walk.old) rings) }
     ensures raw { IsTrue (are_raw arcs walk.new.polygons) }
 {
     let first_ring = walk.rings;
