@@ -1,15 +1,13 @@
 -- What the steps of reading a rules file answer, beside the definitions of what is read.
-use Rattle.std.specs.Prelude.{◌≡◌, ℕ, ◌==◌, List, length, map, Option, Some, None, option_and_then, Result, Ok, Err, if◌then◌else◌}
+use Rattle.std.specs.Prelude.{ℕ, ◌==◌, List, length, map, Option, Some, None, option_and_then, Result, Ok, if◌then◌else◌}
 use Rattle.std.specs.Option.{ok_or}
 use Rattle.serde_json.specs.Data.{Data}
-use Rattle.tgap_model.specs.declared.failure.Or.{Or}
 use Rattle.tgap_model.specs.declared.fault.LimitKind.TheVariants.{Classes}
 use Rattle.tgap_model.specs.declared.fault.MapFault.{MapFault}
 use Rattle.tgap_model.specs.declared.fault.MapFault.TheVariants.{BadRules}
 use Rattle.tgap_model.specs.Json.{items_of}
 use Rattle.tgap_model.specs.Lines.{◌>>=◌}
 use Rattle.tgap_model.specs.Listing.{within_limit}
-use Rattle.plain_io.specs.Taking.{Refuses}
 
 -- the items of an array, where there are n
 abbrev pub so_many : ℕ → Data → Option (List Data)
