@@ -1,3 +1,8 @@
+pub mod Measures
+pub mod RawArcs
+pub mod RingLoops
+pub mod Steps
 pub mod TakenSides
 pub mod TakenFaces
 pub mod BasedIsBase
+pub mod Read
