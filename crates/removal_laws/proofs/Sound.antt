@@ -107,20 +107,20 @@ split_member (f ∷ edges) e (inr m) = let s = split_member edges e m in (f ∷ 
 
 module _ (before after : List Edge) (e : Edge) (front rest : List Point) (a b c : Point) (points : e.points ≡ front ++ a ∷ b ∷ c ∷ rest)
     (sound : AreSound (before ++ e ∷ after)) where
-  others : All (λ f. e.key ≢ f.key) (before ++ after)
+  pub others : All (λ f. e.key ≢ f.key) (before ++ after)
   others = key_alone before e after sound.keys
 
-  segments_apart : AllPairs AreApart (xs before after e front rest a b c others ++ ab before after e front rest a b c others ∷ bc before after e front rest a b c others ∷ ys before after e front rest a b c others)
+  pub segments_apart : AllPairs AreApart (xs before after e front rest a b c others ++ ab before after e front rest a b c others ∷ bc before after e front rest a b c others ∷ ys before after e front rest a b c others)
   segments_apart = subst (AllPairs AreApart) (old_is before after e front rest a b c others)
       (subst (λ ps. AllPairs AreApart (edge_segments (before ++ record e { points = ps } ∷ after))) points sound.apart)
 
   steps : no_repeat (a ∷ b ∷ c ∷ rest) ≡ true
   steps = no_repeat_from front (a ∷ b ∷ c ∷ rest) (ap no_repeat (sym points) ∙ All-head (λ (f : Edge). no_repeat f.points ≡ true) e after (all_right (λ (f : Edge). no_repeat f.points ≡ true) before (e ∷ after) sound.steps))
 
-  a_apart : a ≢ b
+  pub a_apart : a ≢ b
   a_apart = different a b (c ∷ rest) steps
 
-  c_apart : c ≢ b
+  pub c_apart : c ≢ b
   c_apart f = different b c rest (no_repeat_rest a (b ∷ c ∷ rest) steps) (sym f)
 
   -- no other segment touches b
@@ -196,16 +196,20 @@ module _ (before after : List Edge) (e : Edge) (front rest : List Point) (a b c 
       in_after = edges_away b after (All-tail (λ (f : Edge). 2 ≤ length f.points) e after (all_right (λ (f : Edge). 2 ≤ length f.points) before (e ∷ after) two))
           (all_right (IsAway b) rest_of (edge_segments after) after_parts)
 
-  -- a is not c, for then a-b and b-c would be one segment
-  ends_apart : a ≢ c
-  unfolding ab bc
-  ends_apart f = a_apart (turns_back (ab before after e front rest a b c others) (bc before after e front rest a b c others)
-      (All-head (AreApart (ab before after e front rest a b c others)) (bc before after e front rest a b c others) (ys before after e front rest a b c others)
+  -- a-b and b-c are apart
+  pub next_apart : AreApart (ab before after e front rest a b c others) (bc before after e front rest a b c others)
+  next_apart =
+      All-head (AreApart (ab before after e front rest a b c others)) (bc before after e front rest a b c others) (ys before after e front rest a b c others)
       (mid_after AreApart (xs before after e front rest a b c others) (ab before after e front rest a b c others)
-      (bc before after e front rest a b c others ∷ ys before after e front rest a b c others) segments_apart)) refl f)
+      (bc before after e front rest a b c others ∷ ys before after e front rest a b c others) segments_apart)
+
+  -- a is not c, for then they would be one segment
+  pub ends_apart : a ≢ c
+  unfolding ab bc
+  ends_apart f = a_apart (turns_back (ab before after e front rest a b c others) (bc before after e front rest a b c others) next_apart refl f)
 
   -- and the edges without b are such too
-  stays_sound : is_free (other_segments before after front a c rest) a b c ≡ true → AreSound (before ++ record e { points = front ++ a ∷ c ∷ rest } ∷ after)
+  pub stays_sound : is_free (other_segments before after front a c rest) a b c ≡ true → AreSound (before ++ record e { points = front ++ a ∷ c ∷ rest } ∷ after)
   stays_sound free = record {
     keys = keys_stay before e after (front ++ a ∷ c ∷ rest) sound.keys;
     points = in_place (λ (f : Edge). 2 ≤ length f.points) sound.points (omega (arith, length-append front (a ∷ c ∷ rest)));
