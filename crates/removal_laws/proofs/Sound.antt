@@ -66,7 +66,7 @@ none_counted b (x ∷ points) h =
 
 -- ---- rows with no two points in a row that are one
 
-no_repeat_rest : (x : Point) (points : List Point) → no_repeat (x ∷ points) ≡ true → no_repeat points ≡ true
+pub no_repeat_rest : (x : Point) (points : List Point) → no_repeat (x ∷ points) ≡ true → no_repeat points ≡ true
 no_repeat_rest x [] h = refl
 no_repeat_rest x (y ∷ points) h = (and_parts (not (same_point x y)) (no_repeat (y ∷ points)) h).1
 
@@ -74,7 +74,7 @@ no_repeat_from : (front points : List Point) → no_repeat (front ++ points) ≡
 no_repeat_from [] points h = h
 no_repeat_from (x ∷ front) points h = no_repeat_from front points (no_repeat_rest x (front ++ points) h)
 
-different : (a b : Point) (points : List Point) → no_repeat (a ∷ b ∷ points) ≡ true → a ≢ b
+pub different : (a b : Point) (points : List Point) → no_repeat (a ∷ b ∷ points) ≡ true → a ≢ b
 different a b points h e = true≢false (sym (same_point-from a b e) ∙ not-true (same_point a b) (and_parts (not (same_point a b)) (no_repeat (b ∷ points)) h).0)
 
 no_repeat_without : (front : List Point) (a b c : Point) (rest : List Point) → a ≢ c → no_repeat (front ++ a ∷ b ∷ c ∷ rest) ≡ true → no_repeat (front ++ a ∷ c ∷ rest) ≡ true
