@@ -18,3 +18,5 @@ pub mod StepRemovals
 pub mod SpokesApart
 pub mod ReplacedSpoke
 pub mod NodesKept
+pub mod EndSpokes
+pub mod NodesStepped

@@ -7,4 +7,4 @@ mod nodes;
 mod slices;
 
 pub use nodes::{replaced_agrees_round, sweep_keeps_nodes};
-pub use slices::{faces_stay_unions, slices_stay_planar};
+pub use slices::{faces_stay_unions, slices_stay_partitions, slices_stay_planar};
