@@ -99,7 +99,7 @@ permitted_common s t apart p positive h k = true_from_ne_false (is_permitted (sh
     (λ e. apart p (record { rational = positive; first = h; second = k; forbidden = e }))
 
 -- at the end of a segment a point is on it
-at_first : (p : Fraction) (u v : Point) → pos 0 <ℤ p.d → is_at p u ≡ true → is_on p (record { a = u; b = v }) ≡ true
+pub at_first : (p : Fraction) (u v : Point) → pos 0 <ℤ p.d → is_at p u ≡ true → is_on p (record { a = u; b = v }) ≡ true
 at_first p u v positive h = is_on_from p u v (record {
   total = pos 1;
   near = p.d;
@@ -118,7 +118,7 @@ at_first p u v positive h = is_on_from p u v (record {
     coordinate : (n x y : ℤ) → n ≡ p.d *ℤ x → pos 1 *ℤ n ≡ p.d *ℤ x +ℤ pos 0 *ℤ y
     coordinate n x y e = ap (λ (z : ℤ). pos 1 *ℤ z) e ∙ same_value (p.d ∷ x ∷ y ∷ []) (number (pos 1) ⊗ (var 0 ⊗ var 1)) (var 0 ⊗ var 1 ⊕ number (pos 0) ⊗ var 2) refl
 
-at_last : (p : Fraction) (u v : Point) → pos 0 <ℤ p.d → is_at p v ≡ true → is_on p (record { a = u; b = v }) ≡ true
+pub at_last : (p : Fraction) (u v : Point) → pos 0 <ℤ p.d → is_at p v ≡ true → is_on p (record { a = u; b = v }) ≡ true
 at_last p u v positive h = is_on_from p u v (record {
   total = pos 1;
   near = pos 0;
@@ -141,11 +141,11 @@ at_last p u v positive h = is_on_from p u v (record {
 abbrev pub whole : Point → Fraction
 whole v = record { nx = v.x; ny = v.y; d = pos 1 }
 
-at_itself : (v : Point) → is_at (whole v) v ≡ true
+pub at_itself : (v : Point) → is_at (whole v) v ≡ true
 at_itself v = and_from (int_eq v.x (pos 1 *ℤ v.x)) (int_eq v.y (pos 1 *ℤ v.y))
     ((Decides-int_eq v.x (pos 1 *ℤ v.x)).1 (sym (one-*ℤ v.x))) ((Decides-int_eq v.y (pos 1 *ℤ v.y)).1 (sym (one-*ℤ v.y)))
 
-at_whole : (v w : Point) → is_at (whole v) w ≡ true → v ≡ w
+pub at_whole : (v w : Point) → is_at (whole v) w ≡ true → v ≡ w
 at_whole v w h =
     let parts = and_parts (int_eq v.x (pos 1 *ℤ w.x)) (int_eq v.y (pos 1 *ℤ w.y)) h in
     point_same v w ((Decides-int_eq v.x (pos 1 *ℤ w.x)).0 parts.0 ∙ one-*ℤ w.x) ((Decides-int_eq v.y (pos 1 *ℤ w.y)).0 parts.1 ∙ one-*ℤ w.y)

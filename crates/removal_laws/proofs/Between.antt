@@ -106,7 +106,7 @@ in_order u v n d e = elim (or_cases (int_le (d *ℤ u) n && int_le n (d *ℤ v))
 le_from_sub_back : (x y : ℤ) → (y -ℤ x) ≤ℤ pos 0 → y ≤ℤ x
 le_from_sub_back x y h = omega (arith, ints)
 
-negatives : (a b : ℤ) → a ≤ℤ pos 0 → b ≤ℤ pos 0 → pos 0 ≤ℤ (a *ℤ b)
+pub negatives : (a b : ℤ) → a ≤ℤ pos 0 → b ≤ℤ pos 0 → pos 0 ≤ℤ (a *ℤ b)
 negatives a b h k = subst (λ (z : ℤ). pos 0 ≤ℤ z) (same_value (a ∷ b ∷ []) (minus (var 0) ⊗ minus (var 1)) (var 0 ⊗ var 1) refl) (mul_not_negative (neg_not_negative h) (neg_not_negative k))
 
 -- the step from u to v times the gap from u to the point, and times the gap from the point to v

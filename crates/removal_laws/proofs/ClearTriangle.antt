@@ -52,7 +52,7 @@ at_corner a c v p h e = elim (or_cases (same_point v a) (same_point v c) h) [
 -- ---- a side of the triangle has the segment on the other side
 
 -- the end is strictly on the other side, or it is a or c on the line
-away_cases : (a c u v w e : Point) → cross_of u v w ≢ pos 0 → lies_away a c u v w e ≡ true
+pub away_cases : (a c u v w e : Point) → cross_of u v w ≢ pos 0 → lies_away a c u v w e ≡ true
     → ((cross_of u v w *ℤ cross_of u v e) <ℤ pos 0) ⊎ ((is_base_corner a c e ≡ true) × (cross_of u v e ≡ pos 0))
 away_cases a c u v w e area h = elim (or_cases (not (int_eq (side u v e) (pos 0)) && int_eq (side u v e) (neg_ℤ (side u v w))) (is_base_corner a c e && int_eq (side u v e) (pos 0)) h) [
   | inl f ↦ inl (opposite (cross_of u v w) (cross_of u v e) area ((Decides-int_eq _ _).0 (and_parts (not (int_eq (side u v e) (pos 0))) _ f).1))
@@ -116,7 +116,7 @@ module _ (a c u v w : Point) (s : Seg) (p : Fraction) (area : cross_of u v w ≢
 -- ---- the segment has the triangle on one side
 
 -- the corner is strictly on this side of the segment's line, or it is a or c and an end of the segment
-at_side_cases : (a c v : Point) (s : Seg) (z : ℤ) → is_at_side a c s z v ≡ true
+pub at_side_cases : (a c v : Point) (s : Seg) (z : ℤ) → is_at_side a c s z v ≡ true
     → (int_signum (cross_of s.a s.b v) ≡ z) ⊎ ((is_base_corner a c v ≡ true) × ((s.a ≡ v) ⊎ (s.b ≡ v)))
 at_side_cases a c v s z h = elim (or_cases (int_eq (side s.a s.b v) z) (is_base_corner a c v && (same_point v s.a || same_point v s.b)) h) [
   | inl f ↦ inl ((Decides-int_eq (side s.a s.b v) z).0 f)

@@ -22,3 +22,6 @@ pub mod InsideKept
 pub mod ArcEdges
 pub mod ChainCounts
 pub mod StandOnce
+pub mod Opposite
+pub mod OnePlace
+pub mod WedgeEmpty

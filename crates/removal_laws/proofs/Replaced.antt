@@ -145,9 +145,9 @@ module _ (before after : List Edge) (e : Edge) (front rest : List Point) (a b c 
       → (is_on x (record { a = a; b = b }) ≡ true) ⊎ (is_on x (record { a = b; b = c }) ≡ true)
 
   -- what holds of all other live segments holds of these
-  pub clear_of_all : (p : Seg → Bool) → list_all p (other_segments before after front a c rest) ≡ true → All (λ s. p s.segment ≡ true) (xs ++ ys)
+  pub of_others : (Q : Seg → Type 0) → All Q (other_segments before after front a c rest) → All (λ s. Q s.segment) (xs ++ ys)
   unfolding xs ys
-  clear_of_all p h =
+  of_others Q all =
       All-append P xs ys
       (All-append P (edge_segments before) (front_segments e.key e.left e.right 0 front a)
       (plain (edge_segments before) (segments_of_edges before) parts.0)
@@ -157,14 +157,10 @@ module _ (before after : List Edge) (e : Edge) (front rest : List Point) (a b c 
       (plain (edge_segments after) (segments_of_edges after) parts.1))
     where
       P : LabelledSegment → Type 0
-      P s = p s.segment ≡ true
-
-      Q : Seg → Type 0
-      Q s = p s ≡ true
+      P s = Q s.segment
 
       parts : All Q (live_segments before) × All Q (live_segments after) × All Q (path (front ++ a ∷ [])) × All Q (path (c ∷ rest))
       parts =
-          let all = all_pass p (other_segments before after front a c rest) h in
           let three = all_left Q (live_segments before ++ live_segments after ++ path (front ++ a ∷ [])) (path (c ∷ rest)) all in
           let two = all_left Q (live_segments before ++ live_segments after) (path (front ++ a ∷ [])) three in (
             all_left Q (live_segments before) (live_segments after) two,
@@ -180,6 +176,9 @@ module _ (before after : List Edge) (e : Edge) (front rest : List Point) (a b c 
           of_map [] l = All-nil P
           of_map (s ∷ ss) l = All-cons P s ss (All-head Q s.segment (map (λ (s : LabelledSegment). s.segment) ss) l)
               (of_map ss (All-tail Q s.segment (map (λ (s : LabelledSegment). s.segment) ss) l))
+
+  pub clear_of_all : (p : Seg → Bool) → list_all p (other_segments before after front a c rest) ≡ true → All (λ s. p s.segment ≡ true) (xs ++ ys)
+  clear_of_all p h = of_others (λ s. p s ≡ true) (all_pass p (other_segments before after front a c rest) h)
 
   module _ (free : is_free (other_segments before after front a c rest) a b c ≡ true) where
     covered : All IsCovered (xs ++ ys)

@@ -66,7 +66,7 @@ none_counted b (x ∷ points) h =
 
 -- ---- rows with no two points in a row that are one
 
-no_repeat_rest : (x : Point) (points : List Point) → no_repeat (x ∷ points) ≡ true → no_repeat points ≡ true
+pub no_repeat_rest : (x : Point) (points : List Point) → no_repeat (x ∷ points) ≡ true → no_repeat points ≡ true
 no_repeat_rest x [] h = refl
 no_repeat_rest x (y ∷ points) h = (and_parts (not (same_point x y)) (no_repeat (y ∷ points)) h).1
 
@@ -74,7 +74,7 @@ no_repeat_from : (front points : List Point) → no_repeat (front ++ points) ≡
 no_repeat_from [] points h = h
 no_repeat_from (x ∷ front) points h = no_repeat_from front points (no_repeat_rest x (front ++ points) h)
 
-different : (a b : Point) (points : List Point) → no_repeat (a ∷ b ∷ points) ≡ true → a ≢ b
+pub different : (a b : Point) (points : List Point) → no_repeat (a ∷ b ∷ points) ≡ true → a ≢ b
 different a b points h e = true≢false (sym (same_point-from a b e) ∙ not-true (same_point a b) (and_parts (not (same_point a b)) (no_repeat (b ∷ points)) h).0)
 
 no_repeat_without : (front : List Point) (a b c : Point) (rest : List Point) → a ≢ c → no_repeat (front ++ a ∷ b ∷ c ∷ rest) ≡ true → no_repeat (front ++ a ∷ c ∷ rest) ≡ true
@@ -107,20 +107,20 @@ split_member (f ∷ edges) e (inr m) = let s = split_member edges e m in (f ∷ 
 
 module _ (before after : List Edge) (e : Edge) (front rest : List Point) (a b c : Point) (points : e.points ≡ front ++ a ∷ b ∷ c ∷ rest)
     (sound : AreSound (before ++ e ∷ after)) where
-  others : All (λ f. e.key ≢ f.key) (before ++ after)
+  pub others : All (λ f. e.key ≢ f.key) (before ++ after)
   others = key_alone before e after sound.keys
 
-  segments_apart : AllPairs AreApart (xs before after e front rest a b c others ++ ab before after e front rest a b c others ∷ bc before after e front rest a b c others ∷ ys before after e front rest a b c others)
+  pub segments_apart : AllPairs AreApart (xs before after e front rest a b c others ++ ab before after e front rest a b c others ∷ bc before after e front rest a b c others ∷ ys before after e front rest a b c others)
   segments_apart = subst (AllPairs AreApart) (old_is before after e front rest a b c others)
       (subst (λ ps. AllPairs AreApart (edge_segments (before ++ record e { points = ps } ∷ after))) points sound.apart)
 
   steps : no_repeat (a ∷ b ∷ c ∷ rest) ≡ true
   steps = no_repeat_from front (a ∷ b ∷ c ∷ rest) (ap no_repeat (sym points) ∙ All-head (λ (f : Edge). no_repeat f.points ≡ true) e after (all_right (λ (f : Edge). no_repeat f.points ≡ true) before (e ∷ after) sound.steps))
 
-  a_apart : a ≢ b
+  pub a_apart : a ≢ b
   a_apart = different a b (c ∷ rest) steps
 
-  c_apart : c ≢ b
+  pub c_apart : c ≢ b
   c_apart f = different b c rest (no_repeat_rest a (b ∷ c ∷ rest) steps) (sym f)
 
   -- no other segment touches b
@@ -196,16 +196,20 @@ module _ (before after : List Edge) (e : Edge) (front rest : List Point) (a b c 
       in_after = edges_away b after (All-tail (λ (f : Edge). 2 ≤ length f.points) e after (all_right (λ (f : Edge). 2 ≤ length f.points) before (e ∷ after) two))
           (all_right (IsAway b) rest_of (edge_segments after) after_parts)
 
-  -- a is not c, for then a-b and b-c would be one segment
-  ends_apart : a ≢ c
-  unfolding ab bc
-  ends_apart f = a_apart (turns_back (ab before after e front rest a b c others) (bc before after e front rest a b c others)
-      (All-head (AreApart (ab before after e front rest a b c others)) (bc before after e front rest a b c others) (ys before after e front rest a b c others)
+  -- a-b and b-c are apart
+  pub next_apart : AreApart (ab before after e front rest a b c others) (bc before after e front rest a b c others)
+  next_apart =
+      All-head (AreApart (ab before after e front rest a b c others)) (bc before after e front rest a b c others) (ys before after e front rest a b c others)
       (mid_after AreApart (xs before after e front rest a b c others) (ab before after e front rest a b c others)
-      (bc before after e front rest a b c others ∷ ys before after e front rest a b c others) segments_apart)) refl f)
+      (bc before after e front rest a b c others ∷ ys before after e front rest a b c others) segments_apart)
+
+  -- a is not c, for then they would be one segment
+  pub ends_apart : a ≢ c
+  unfolding ab bc
+  ends_apart f = a_apart (turns_back (ab before after e front rest a b c others) (bc before after e front rest a b c others) next_apart refl f)
 
   -- and the edges without b are such too
-  stays_sound : is_free (other_segments before after front a c rest) a b c ≡ true → AreSound (before ++ record e { points = front ++ a ∷ c ∷ rest } ∷ after)
+  pub stays_sound : is_free (other_segments before after front a c rest) a b c ≡ true → AreSound (before ++ record e { points = front ++ a ∷ c ∷ rest } ∷ after)
   stays_sound free = record {
     keys = keys_stay before e after (front ++ a ∷ c ∷ rest) sound.keys;
     points = in_place (λ (f : Edge). 2 ≤ length f.points) sound.points (omega (arith, length-append front (a ∷ c ∷ rest)));

@@ -7,3 +7,4 @@ pub mod EndLaws
 pub mod StackLaws
 pub mod InsideLaws
 pub mod BaseLaws
+pub mod WedgeLaws

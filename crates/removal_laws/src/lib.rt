@@ -9,6 +9,7 @@ mod partition;
 mod replace;
 mod trace;
 mod triangle;
+mod wedge;
 
 pub use ends::{ends_are_not_listed, ends_were_ends};
 pub use faces::{
@@ -22,3 +23,4 @@ pub use partition::{chains_stand_once, partition_has_removals};
 pub use replace::replaced_is_apart;
 pub use trace::{sweep_keeps_apart, trace_follows_rule, trace_is_removals, trace_leads};
 pub use triangle::{clear_is_apart, clear_of_base, one_line_covers};
+pub use wedge::neighbours_have_one_place;

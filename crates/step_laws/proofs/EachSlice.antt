@@ -1,17 +1,19 @@
--- From one step to the next the slice of a planar partition stays sound, its faces agree down each line, and a point outside the
--- triangles of the removed vertices stays inside the ancestors of the base face that it is inside.
-use Rattle.std.proofs.Common.{◌≡◌, ◌≢◌, ℕ, zero, suc, ◌+◌, ◌-◌, ◌<◌, ◌≤◌, ◌==◌, Bool, true, false, cond, List, [], ◌++◌, filter, not, length, get_or, All, refl, sym, ap, ◌∙◌, subst, arith}
-use Rattle.std.proofs.lemmas.Bool.{and_from, le-leb, lt-ltb}
-use Rattle.std.proofs.lemmas.List.Elements.{All-weaker}
+-- From one step to the next the slice of a planar partition stays sound, its faces agree down each line and round each node, and a
+-- point outside the triangles of the removed vertices stays inside the ancestors of the base face that it is inside.
+use Rattle.std.proofs.Common.{◌≡◌, ◌≢◌, ℕ, zero, suc, ◌+◌, ◌-◌, ◌<◌, ◌≤◌, ◌==◌, Bool, true, false, cond, List, [], ◌∷◌, ◌++◌, filter, not, length, get_or, All, refl, sym, ap, ◌∙◌, subst, arith}
+use Rattle.std.proofs.lemmas.Bool.{and_from, le-leb, lt-ltb, ne_eqb}
+use Rattle.std.proofs.lemmas.List.Elements.{All-nil, All-cons, All-weaker}
 use Rattle.std.proofs.lemmas.List.Kept.{AllPairs-filter}
+use Rattle.lemmas.proofs.Members.{All-flat_map}
 use Rattle.tgap_model.specs.declared.geometry.Point.{Point}
 use Rattle.tgap_model.specs.declared.geometry.Fraction.{Fraction}
 use Rattle.tgap_model.specs.declared.base.BaseArc.{BaseArc}
 use Rattle.tgap_model.specs.declared.merge.MergeStep.{MergeStep}
+use Rattle.tgap_model.specs.declared.segment.LabelledSegment.{LabelledSegment}
 use Rattle.tgap_model.specs.declared.slice.Edge.{Edge}
 use Rattle.tgap_model.specs.Base.{BaseMap, is_base}
 use Rattle.tgap_model.specs.Segment.{Line, IsBetweenColumns, line_through}
-use Rattle.tgap_model.specs.Partition.{base_segments, edge_segments, IsPartition}
+use Rattle.tgap_model.specs.Partition.{base_segments, path_segments, edge_segments, IsPartition}
 use Rattle.tgap_model.specs.Inside.{is_inside}
 use Rattle.tgap_model.specs.History.{relabel, AreNumbered, history_of}
 use Rattle.tgap_model.specs.Merged.{merged, label_at, step_number}
@@ -27,6 +29,7 @@ use Rattle.face_merge.proofs.Start.{history_numbered}
 use Rattle.slice_laws.specs.SliceLaws.{KeepsFaces}
 use Rattle.slice_laws.proofs.EvenSides.{chains_keep_faces}
 use Rattle.slice_laws.proofs.Outside.{outside_label}
+use Rattle.slice_laws.proofs.SliceNodes.{slice_nodes}
 use Rattle.slice_laws.proofs.SliceStacks.{slice_agrees}
 use Rattle.slice_laws.proofs.Unions.{face_below, inside_labels, inside_slice, there, back}
 use Rattle.removal_laws.specs.Trace.{swept_edges, edges_before_sweep, edges_after_sweep, step_area, trace_at, trace_to}
@@ -46,7 +49,10 @@ use Rattle.step_laws.proofs.SameFaces.{same_agree, same_inside}
 use Rattle.step_laws.proofs.MergedFaces.{IsBelow, merged_agree, merged_below}
 use Rattle.step_laws.proofs.JoinedChains.{step_edges}
 use Rattle.step_laws.proofs.FirstSlice.{all_sound, faces_differ}
-use Rattle.step_laws.specs.StepLaws.{SlicesStayPlanar, FacesStayUnions}
+use Rattle.step_laws.specs.StepLaws.{SlicesStayPlanar, SlicesStayPartitions, FacesStayUnions}
+use Rattle.step_laws.specs.NodeLaws.{AgreeRound}
+use Rattle.step_laws.proofs.NodesStepped.{merged_round, same_round}
+use Rattle.step_laws.proofs.NodesKept.{sweep_keeps_nodes}
 
 abbrev no_step : MergeStep
 no_step = record { loser = 0; winner = 0; made = 0 }
@@ -91,6 +97,7 @@ module _ (m : BaseMap) (base : is_base m ≡ true) (planar : IsPartition (base_s
   pub record IsGood (k : ℕ) : Type 0 where
     pub sound : AreSound (slice_edges k)
     pub stacks : (l : Line) → IsBetweenColumns l → AgreeOn l (slice_edges k)
+    pub nodes : (v : Point) → AgreeRound v (slice_edges k)
     pub below : (p : Fraction) → IsBetweenColumns (line_through p) → IsOutside p (trace_to (merged m) k)
         → IsBelow (slice_edges k) p (label_at (merged m) k (face_below m p))
 
@@ -100,6 +107,7 @@ module _ (m : BaseMap) (base : is_base m ≡ true) (planar : IsPartition (base_s
   first_good = record {
     sound = all_sound m base planar 0;
     stacks = λ l between. slice_agrees m base planar 0 (chains_at (merged m) 0) (chains_exist (merged m) 0) l between.rational between;
+    nodes = slice_nodes m base planar 0 (chains_at (merged m) 0) (chains_exist (merged m) 0);
     below = λ p between outside f n.
         inside_slice m base planar 0 p between f (chains_at (merged m) 0) (chains_exist (merged m) 0) ∙ inside_labels m base planar 0 p between f n;
   }
@@ -140,6 +148,11 @@ module _ (m : BaseMap) (base : is_base m ≡ true) (planar : IsPartition (base_s
         (same_agree (merged_edges (relabel step) (slice_edges k)) _ (merged_sound (relabel step) (slice_edges k) good.sound).apart joined.0.apart joined.1 l between
         (merged_agree (relabel step) outside_stays (slice_edges k) good.sound.apart l between (good.stacks l between)))
 
+    before_nodes : (v : Point) → AgreeRound v (edges_before_sweep (merged m) (k + 1))
+    before_nodes v = subst (AgreeRound v) (sym before_is)
+        (same_round (merged_edges (relabel step) (slice_edges k)) _ (merged_sound (relabel step) (slice_edges k) good.sound) joined.0 v joined.1
+        (merged_round (relabel step) v (slice_edges k) good.sound (good.nodes v)))
+
     before_below : (p : Fraction) → IsBetweenColumns (line_through p) → IsOutside p (trace_to (merged m) k)
         → IsBelow (edges_before_sweep (merged m) (k + 1)) p (label_at (merged m) (k + 1) (face_below m p))
     before_below p between outside f n =
@@ -169,6 +182,13 @@ module _ (m : BaseMap) (base : is_base m ≡ true) (planar : IsPartition (base_s
         by false = sweep_keeps_faces m.rules.ratio (step_area (merged m) (k + 1)) step.made (edges_before_sweep (merged m) (k + 1))
             before_sound.keys before_sound.apart l between (before_stacks l between)
 
+    after_nodes : (v : Point) → AgreeRound v (edges_after_sweep (merged m) (k + 1))
+    after_nodes v = by (m.rules.ratio == 0)
+      where
+        by : (b : Bool) → AgreeRound v (cond b (edges_before_sweep (merged m) (k + 1)) (swept_edges m.rules.ratio (step_area (merged m) (k + 1)) step.made [] (edges_before_sweep (merged m) (k + 1))))
+        by true = before_nodes v
+        by false = sweep_keeps_nodes m.rules.ratio (step_area (merged m) (k + 1)) step.made (edges_before_sweep (merged m) (k + 1)) before_sound v (before_nodes v)
+
     trace_next : trace_to (merged m) (k + 1) ≡ trace_to (merged m) k ++ trace_at (merged m) (k + 1)
     trace_next =
         ap (trace_to (merged m)) one_more
@@ -179,6 +199,7 @@ module _ (m : BaseMap) (base : is_base m ≡ true) (planar : IsPartition (base_s
     next_good = record {
       sound = subst AreSound after_is after_sound;
       stacks = λ l between. subst (AgreeOn l) after_is (after_stacks l between);
+      nodes = λ v. subst (AgreeRound v) after_is (after_nodes v);
       below = λ p between outside f n.
           let all : IsOutside p (trace_to (merged m) k ++ trace_at (merged m) (k + 1)) = subst (IsOutside p) trace_next outside in
           ap (λ es. is_inside (edge_segments es) f p) (sym after_is)
@@ -199,6 +220,32 @@ unfolding slice
 slices_stay_planar m base planar k l =
     let good = each_good m base planar k l in
     record { sound = good.sound; two_faces = faces_differ m base planar k (removals_to (merged m) k); stacks = good.stacks }
+
+-- where the two faces of each edge differ, those of each segment do
+row_faces : (key l r place : ℕ) (points : List Point) → l ≢ r → All (λ (s : LabelledSegment). (s.left == s.right) ≡ false) (path_segments key l r place points)
+row_faces key l r place [] n = All-nil (λ (s : LabelledSegment). (s.left == s.right) ≡ false)
+row_faces key l r place (a ∷ []) n = All-nil (λ (s : LabelledSegment). (s.left == s.right) ≡ false)
+row_faces key l r place (a ∷ b ∷ points) n =
+    All-cons (λ (s : LabelledSegment). (s.left == s.right) ≡ false) _ (path_segments key l r (place + 1) (b ∷ points)) (ne_eqb l r n)
+    (row_faces key l r (place + 1) (b ∷ points) n)
+
+segment_faces : (es : List Edge) → All (λ e. e.left ≢ e.right) es → All (λ (s : LabelledSegment). (s.left == s.right) ≡ false) (edge_segments es)
+segment_faces es h = All-flat_map (λ (s : LabelledSegment). (s.left == s.right) ≡ false) (λ (e : Edge). path_segments e.key e.left e.right 0 e.points) es
+    (All-weaker (λ (e : Edge). e.left ≢ e.right) (λ (e : Edge). All (λ (s : LabelledSegment). (s.left == s.right) ≡ false) (path_segments e.key e.left e.right 0 e.points))
+    (λ e n. row_faces e.key e.left e.right 0 e.points n) es h)
+
+pub slices_stay_partitions : SlicesStayPartitions
+unfolding slice
+slices_stay_partitions m base planar k l =
+    let good = each_good m base planar k l in
+    record {
+      arcs = record {
+        apart = good.sound.apart;
+        two_faces = segment_faces (slice_edges m base planar k) (faces_differ m base planar k (removals_to (merged m) k));
+        nodes = good.nodes;
+      };
+      stacks = good.stacks;
+    }
 
 pub faces_stay_unions : FacesStayUnions
 unfolding slice

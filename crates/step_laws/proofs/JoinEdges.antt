@@ -199,12 +199,15 @@ module _ (h : MergedMap) (k : ℕ) (rs : List Removal) where
             let all = edge_along h k rs x ∷ edge_along h k rs y ∷ es in
             let x_last : last_point (edge_along h k rs x).points ≡ p = along_last h k rs x first.plain ∙ first.ends in
             let y_first : first_point (edge_along h k rs y).points ≡ p = along_first h k rs y y_plain ∙ y_start in
+            let x_first : first_point (edge_along h k rs x).points ≢ p = λ t. first.apart (sym (along_first h k rs x first.plain) ∙ t) in
+            let y_last : last_point (edge_along h k rs y).points ≢ p = λ t. y_apart (sym (along_last h k rs y y_plain) ∙ t) in
             let faces = append_faces h k rs x y first.plain.path.links y_plain.path.links sides in (
-              sound_joined p (edge_along h k rs x) (edge_along h k rs y) es s x_last y_first
-                  (λ t. first.apart (sym (along_first h k rs x first.plain) ∙ t)) (λ t. y_apart (sym (along_last h k rs y y_plain) ∙ t)) away,
+              sound_joined p (edge_along h k rs x) (edge_along h k rs y) es s x_last y_first x_first y_last away,
               same_joined (edge_along h k rs x) (edge_along h k rs y) es faces.0 faces.1 (x_last ∙ sym y_first)
                   (members_all (λ (e : Edge). 2 ≤ length e.points) all (edge_along h k rs x) s.points (inl refl))
-                  (members_all (λ (e : Edge). 2 ≤ length e.points) all (edge_along h k rs y) s.points (inr (inl refl))),
+                  (members_all (λ (e : Edge). 2 ≤ length e.points) all (edge_along h k rs y) s.points (inr (inl refl)))
+                  (λ t. x_first (t ∙ x_last)) (λ t. y_last (t ∙ x_last))
+                  (λ o m. ((λ t. (away o m).0 (t ∙ x_last)), (λ t. (away o m).1 (t ∙ x_last)))),
             )
 
         two_become : Become (map (edge_along h k rs) cs) (map (edge_along h k rs) ((x ++ y) ∷ others))

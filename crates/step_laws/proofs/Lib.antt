@@ -15,3 +15,8 @@ pub mod JoinedChains
 pub mod FirstSlice
 pub mod EachSlice
 pub mod StepRemovals
+pub mod SpokesApart
+pub mod ReplacedSpoke
+pub mod NodesKept
+pub mod EndSpokes
+pub mod NodesStepped

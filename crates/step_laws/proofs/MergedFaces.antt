@@ -46,7 +46,7 @@ filters_swapped p q (x ∷ xs) = by (p x) refl (q x) refl (filters_swapped p q x
     by false e false f h = h
 
 -- an equality of numbers is tested from either side
-test_swapped : (a b : ℕ) → (a == b) ≡ (b == a)
+pub test_swapped : (a b : ℕ) → (a == b) ≡ (b == a)
 test_swapped a b = by (a == b) refl
   where
     by : (t : Bool) → (a == b) ≡ t → t ≡ (b == a)
@@ -57,7 +57,7 @@ module _ (g : ℕ → ℕ) where
   -- ---- the segments
 
   -- the labels of the faces of a segment differ
-  abbrev stays : LabelledSegment → Bool
+  abbrev pub stays : LabelledSegment → Bool
   stays s = not (g s.left == g s.right)
 
   -- the segments of an edge get the other labels, or go all together
@@ -81,7 +81,7 @@ module _ (g : ℕ → ℕ) where
       by false h = ap (λ ss. row_of key (g l) (g r) place (record { a = p; b = q }) (is_empty points) ∷ ss) h
 
   -- the segments of the merged edges
-  merged_segments : (es : List Edge) → edge_segments (merged_edges g es) ≡ map (with_labels g) (filter stays (edge_segments es))
+  pub merged_segments : (es : List Edge) → edge_segments (merged_edges g es) ≡ map (with_labels g) (filter stays (edge_segments es))
   merged_segments [] = refl
   merged_segments (e ∷ es) =
       by (g e.left == g e.right) refl (merged_segments es)

@@ -1,5 +1,5 @@
 -- Edges that have the same segments with the same faces: in another order, with an edge turned round, and with two edges joined.
-use Rattle.std.proofs.Common.{◌≡◌, inl, inr, ℕ, ◌+◌, ◌≤◌, true, List, [], ◌∷◌, ◌++◌, length, reverse, drop, refl, sym, ap, ap₂, ◌∙◌, subst, arith}
+use Rattle.std.proofs.Common.{◌≡◌, ◌≢◌, ◌⊎◌, inl, inr, ℕ, ◌+◌, ◌≤◌, true, List, [], ◌∷◌, ◌++◌, length, reverse, drop, refl, sym, ap, ap₂, ◌∙◌, subst, arith}
 use Rattle.std.specs.Prelude.{min, sum_by}
 use Rattle.std.proofs.lemmas.List.{append_assoc}
 use Rattle.std.proofs.lemmas.List.Sums.{sum_by-cons, sum_by-append}
@@ -7,7 +7,7 @@ use Rattle.tgap_model.specs.declared.geometry.Point.{Point}
 use Rattle.tgap_model.specs.declared.geometry.Seg.{Seg}
 use Rattle.tgap_model.specs.declared.slice.Edge.{Edge}
 use Rattle.tgap_model.specs.declared.segment.LabelledSegment.{LabelledSegment}
-use Rattle.tgap_model.specs.Partition.{path_segments, edge_segments}
+use Rattle.tgap_model.specs.Partition.{Spoke, path_segments, edge_segments}
 use Rattle.tgap_model.specs.Chains.{first_point, last_point}
 use Rattle.map_laws.proofs.ChainMembers.{Among, among_left, among_right, append_among}
 use Rattle.map_laws.proofs.Lists.{among_flat}
@@ -16,7 +16,8 @@ use Rattle.slice_laws.proofs.Places.{among_flat_map}
 use Rattle.slice_laws.proofs.CountedSums.{sum_by-flat_map}
 use Rattle.slice_laws.proofs.Correspondence.{IsMirror}
 use Rattle.slice_laws.proofs.EdgeSums.{row_of}
-use Rattle.step_laws.proofs.StepEdges.{turned_edge, joined_edge, IsEvenWeight, HaveSame}
+use Rattle.step_laws.proofs.StepEdges.{turned_edge, joined_edge, IsEvenWeight, HasEnd, IsSpoke, SameSpokes, HaveSame}
+use Rattle.step_laws.proofs.EndSpokes.{turned_end, end_turned, joined_spokes}
 
 -- ---- one segment
 
@@ -167,8 +168,13 @@ rows_joined key other l r n m (p ∷ o ∷ ps) (q ∷ qs) f g e =
 
 -- ---- edges
 
-from_segments : (es fs : List Edge) → SameSegments (edge_segments es) (edge_segments fs) → HaveSame es fs
-from_segments es fs h = record { sums = h.sums; there = h.there; back = λ t m. let s = h.back t m in (s.0, s.1, same_back t s.0 s.2) }
+-- at the point they have the same spokes, or the second list has none
+abbrev KeepSpokes : List Edge → List Edge → Point → Type 0
+KeepSpokes es fs v = SameSpokes es fs v ⊎ ((q : Spoke) → IsSpoke fs v q → ⊥)
+
+from_segments : (es fs : List Edge) → SameSegments (edge_segments es) (edge_segments fs) → ((v : Point) → KeepSpokes es fs v) → HaveSame es fs
+from_segments es fs h nodes =
+    record { sums = h.sums; there = h.there; back = λ t m. let s = h.back t m in (s.0, s.1, same_back t s.0 s.2); nodes = nodes }
 
 to_segments : (es fs : List Edge) → HaveSame es fs → SameSegments (edge_segments es) (edge_segments fs)
 to_segments es fs h = record { sums = h.sums; there = h.there; back = λ t m. let s = h.back t m in (s.0, s.1, same_back s.0 t s.2) }
@@ -178,14 +184,16 @@ abbrev edge_row : Edge → List LabelledSegment
 edge_row e = path_segments e.key e.left e.right 0 e.points
 
 pub same_self : (es : List Edge) → HaveSame es es
-same_self es = from_segments es es (segments_self (edge_segments es))
+same_self es = from_segments es es (segments_self (edge_segments es)) (λ v. inl (λ q. (λ s. s, λ s. s)))
 
 pub same_then : (es fs gs : List Edge) → HaveSame es fs → HaveSame fs gs → HaveSame es gs
-same_then es fs gs h k = from_segments es gs (segments_then _ (edge_segments fs) _ (to_segments es fs h) (to_segments fs gs k))
-
-pub same_after : (e : Edge) (es fs : List Edge) → HaveSame es fs → HaveSame (e ∷ es) (e ∷ fs)
-same_after e es fs h =
-    from_segments (e ∷ es) (e ∷ fs) (segments_append (edge_row e) (edge_row e) _ _ (segments_self (edge_row e)) (to_segments es fs h))
+same_then es fs gs h k =
+    from_segments es gs (segments_then _ (edge_segments fs) _ (to_segments es fs h) (to_segments fs gs k)) (λ v. by v (h.nodes v) (k.nodes v))
+  where
+    by : (v : Point) → KeepSpokes es fs v → KeepSpokes fs gs v → KeepSpokes es gs v
+    by v (inl a) (inl b) = inl (λ q. (λ s. (b q).0 ((a q).0 s), λ s. (a q).1 ((b q).1 s)))
+    by v (inr a) (inl b) = inr (λ q s. a q ((b q).1 s))
+    by v a (inr b) = inr b
 
 -- in another order
 pub same_ordered : (es fs : List Edge) → ((w : Edge → ℕ) → sum_by w es ≡ sum_by w fs) → ((e : Edge) → Among e es → Among e fs)
@@ -195,7 +203,7 @@ same_ordered es fs sums into back = from_segments es fs (record {
       sum_by-flat_map (weight w) edge_row es ∙ sums (λ e. sum_by (weight w) (edge_row e)) ∙ sym (sum_by-flat_map (weight w) edge_row fs);
   there = moved es fs into;
   back = moved fs es back;
-})
+}) (λ v. inl (λ q. ((λ s. (s.0, into s.0 s.1, s.2)), (λ s. (s.0, back s.0 s.1, s.2)))))
   where
     moved : (es fs : List Edge) → ((e : Edge) → Among e es → Among e fs) → AreThere (edge_segments es) (edge_segments fs)
     moved es fs into s m =
@@ -207,14 +215,26 @@ pub same_turned : (e : Edge) (es : List Edge) → HaveSame (e ∷ es) (turned_ed
 same_turned e es =
     from_segments (e ∷ es) (turned_edge e ∷ es)
     (segments_append (edge_row e) (edge_row (turned_edge e)) _ _ (row_turned e.key e.left e.right 0 e.points) (segments_self (edge_segments es)))
+    (λ v. inl (λ q. (into v q, from v q)))
+  where
+    into : (v : Point) (q : Spoke) → IsSpoke (e ∷ es) v q → IsSpoke (turned_edge e ∷ es) v q
+    into v q (f, inl same, end) = (turned_edge e, inl refl, turned_end e v q (subst (λ (x : Edge). HasEnd x v q) (sym same) end))
+    into v q (f, inr m, end) = (f, inr m, end)
 
--- with two edges joined
+    from : (v : Point) (q : Spoke) → IsSpoke (turned_edge e ∷ es) v q → IsSpoke (e ∷ es) v q
+    from v q (f, inl same, end) = (e, inl refl, end_turned e v q (subst (λ (x : Edge). HasEnd x v q) (sym same) end))
+    from v q (f, inr m, end) = (f, inr m, end)
+
+-- with two edges joined, at a point where neither has another end, nor another edge one
 pub same_joined : (c d : Edge) (es : List Edge) → c.left ≡ d.left → c.right ≡ d.right → last_point c.points ≡ first_point d.points
-    → 2 ≤ length c.points → 2 ≤ length d.points → HaveSame (c ∷ d ∷ es) (joined_edge c d ∷ es)
-same_joined c d es l r e f g =
+    → 2 ≤ length c.points → 2 ≤ length d.points → first_point c.points ≢ last_point c.points → last_point d.points ≢ last_point c.points
+    → ((o : Edge) → Among o es → (first_point o.points ≢ last_point c.points) × (last_point o.points ≢ last_point c.points))
+    → HaveSame (c ∷ d ∷ es) (joined_edge c d ∷ es)
+same_joined c d es l r e f g c_first d_last away =
     from_segments (c ∷ d ∷ es) (joined_edge c d ∷ es)
     (subst (λ ss. SameSegments ss (edge_segments (joined_edge c d ∷ es))) (append_assoc (edge_row c) (edge_row d) (edge_segments es))
     (segments_append (edge_row c ++ edge_row d) (edge_row (joined_edge c d)) _ _ rows (segments_self (edge_segments es))))
+    (joined_spokes c d es l r e f g c_first d_last away)
   where
     key : ℕ
     key = min c.key d.key

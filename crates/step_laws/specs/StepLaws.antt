@@ -28,6 +28,12 @@ SlicesStayPlanar =
     (m : BaseMap) → IsTrue (is_base m) → IsPartition (base_segments m) → (k : ℕ) → k ≤ length (history_of m)
     → ArePlanar (slice m k).edges
 
+-- so it is a planar partition again
+abbrev pub SlicesStayPartitions : Type 0
+SlicesStayPartitions =
+    (m : BaseMap) → IsTrue (is_base m) → IsPartition (base_segments m) → (k : ℕ) → k ≤ length (history_of m)
+    → IsPartition (edge_segments (slice m k).edges)
+
 -- Outside the triangles of all vertices that were removed by then, a point between whole abscissas is inside a face of the slice
 -- exactly where it is inside one of the base faces that the face was made of.
 abbrev pub FacesStayUnions : Type 0

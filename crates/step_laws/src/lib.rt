@@ -3,6 +3,8 @@
 //! slices and of the vertex removal.
 #![tactic(auto)]
 
+mod nodes;
 mod slices;
 
-pub use slices::{faces_stay_unions, slices_stay_planar};
+pub use nodes::{replaced_agrees_round, sweep_keeps_nodes};
+pub use slices::{faces_stay_unions, slices_stay_partitions, slices_stay_planar};
