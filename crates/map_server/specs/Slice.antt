@@ -23,15 +23,14 @@ slice_command (map ∷ step ∷ words) =
 slice_command words = None
 
 -- The map after k steps of its merge history. It is the slice by the definition: its faces are the live ones, and its edges are
--- chains of arcs, less the vertices that were removed by then, with the faces at the sides of each arc. Segments have no point in
--- common but permitted ones, no two points in a row of an edge are one, the faces of an edge differ, and the faces agree down each
--- line; where the ratio is 0 it is a planar partition. Outside the triangles of removed vertices each face is the union of the base
--- faces that it was made of, and two faces are adjacent exactly where base faces of theirs are.
+-- chains of arcs, less the vertices that were removed by then, with the faces at the sides of each arc. It is a planar partition, and
+-- its edges have keys that differ and no two points in a row that are one. Outside the triangles of removed vertices each face is the
+-- union of the base faces that it was made of, and two faces are adjacent exactly where base faces of theirs are.
 pub record IsSliceOf (m : BaseMap) (k : ℕ) (s : Slice) : Type 0 where
   pub exact : s ≡ slice m k
   pub chains : IsSlice (merged m) k (removals_to (merged m) k) s
   pub planar : ArePlanar s.edges
-  pub partition : m.rules.ratio ≡ 0 → IsPartition (edge_segments s.edges)
+  pub partition : IsPartition (edge_segments s.edges)
   pub unions : HasUnions m k s
   pub adjacent : HasAdjacentFaces m k s
 

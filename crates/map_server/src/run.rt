@@ -29,7 +29,7 @@ use tgap_model::Text;
 /// | 0 | the command was done | the borders text or the slice text of the step, or `ok` with the numbers of faces, arcs and points |
 /// | 2 | the words are no command | the usage line |
 /// | 3 | a file that the command reads could not be loaded; the count of faults of its kind rose | `load fault` and the kind |
-/// | 4 | the map file is too long, or the listing of no base map, or the map that is checked or sliced is no planar partition | the first fault |
+/// | 4 | a file is too long, or the map file is the listing of no base map, or the two files are no topology and rules that make one, or the map that is checked or sliced is no planar partition | the first fault |
 /// | 5 | the step is above the last one | `step too high` with that step |
 /// | 6 | the text could not be put; the count of faults of the sink rose | a front of the text |
 /// | 7 | memory is wanting | `memory` |
@@ -50,9 +50,9 @@ pub fn run<R: Threads + Sync, F: Files, K: Sink>(
         → (contents : Contents) × MayHold (F.told files.old) (files_of c) contents
         × PutsWhole (outcome_of c contents) (K.told out.old) (K.told out.new) result }
     // For a slice this says: the map is a planar partition, and what is put is the text of its slice by the definition, whose
-    // edges are chains of its arcs less the listed vertices. The edges of the slice have no point in common but permitted
-    // ones, and the faces agree down each line; outside the triangles of the listed vertices each face is the union of the
-    // base faces that the history made it of, and two are adjacent exactly where base faces of theirs are.
+    // edges are chains of its arcs less the listed vertices. The slice is a planar partition again; outside the triangles of
+    // the listed vertices each face is the union of the base faces that the history made it of, and two are adjacent exactly
+    // where base faces of theirs are.
     ensures done { result ≡ 0
         → PutsAnswer (map string_bytes words.now) (F.told files.old) (K.told out.old) (K.told out.new) outcome.Done }
     ensures usage { result ≡ 2 → command (map string_bytes words.now) ≡ None }

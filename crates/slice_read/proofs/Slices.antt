@@ -16,9 +16,8 @@ use Rattle.face_merge.proofs.Steps.{length-history_of}
 use Rattle.face_tree.specs.Tree.{FaceHistory, face_history}
 use Rattle.slice_laws.proofs.EvenSides.{slices_are_slices}
 use Rattle.slice_laws.proofs.Adjacency.{faces_are_adjacent}
-use Rattle.slice_laws.proofs.SlicesPlanar.{slices_are_partitions}
 use Rattle.step_laws.specs.StepLaws.{ArePlanar}
-use Rattle.step_laws.proofs.EachSlice.{slices_stay_planar, faces_stay_unions}
+use Rattle.step_laws.proofs.EachSlice.{slices_stay_planar, slices_stay_partitions, faces_stay_unions}
 use Rattle.edge_forest.specs.Edges.{chain_of}
 use Rattle.edge_forest.specs.Forest.{EdgeForest, last_step}
 use Rattle.tgap_build.specs.Built.{AreGone, HasRemoved}
@@ -63,8 +62,8 @@ module _ (m : BaseMap) (base : is_base m ≡ true) (planar : IsPartition (base_s
   pub planar_edges : ArePlanar s.edges
   planar_edges = subst (λ (u : Slice). ArePlanar u.edges) (sym is) (slices_stay_planar m base planar k within)
 
-  pub partition : m.rules.ratio ≡ 0 → IsPartition (edge_segments s.edges)
-  partition ratio = subst (λ (u : Slice). IsPartition (edge_segments u.edges)) (sym is) (slices_are_partitions m base planar ratio k)
+  pub partition : IsPartition (edge_segments s.edges)
+  partition = subst (λ (u : Slice). IsPartition (edge_segments u.edges)) (sym is) (slices_stay_partitions m base planar k within)
 
   pub adjacent : HasAdjacentFaces m k s
   adjacent = subst (HasAdjacentFaces m k) (sym is) (faces_are_adjacent m base planar k)

@@ -29,11 +29,10 @@ pub fn slice_at(alloc: Global, built: &Built, k: u32) -> Result<Slice, ReadFail>
     // Its faces are the live ones, and its edges are the chains after k steps, less the vertices that were removed by then, with
     // the faces at the sides of each arc.
     ensures slice { IfOk result (IsSlice (merged built.now) k (removals_to (merged built.now) k)) }
-    // Its segments have no point in common but permitted ones, no two points in a row of an edge are one, the two faces of an edge
-    // differ, and the faces agree down each line.
+    // It is a planar partition, whatever vertices were removed.
+    ensures partition { IfOk result (λ s. IsPartition (edge_segments s.edges)) }
+    // Its edges have keys that differ, two points at least and no two points in a row that are one.
     ensures planar { IfOk result (λ s. ArePlanar s.edges) }
-    // Where no vertex is removed, it is a planar partition: the faces agree round each node too.
-    ensures partition { built.now.rules.ratio ≡ 0 → IfOk result (λ s. IsPartition (edge_segments s.edges)) }
     // Two faces are adjacent exactly where base faces of theirs are, and outside the triangles of removed vertices each face is the
     // union of its base faces.
     ensures adjacent { IfOk result (HasAdjacentFaces built.now k) }
