@@ -1,5 +1,6 @@
 //! Whether the segments of a base map have no point in common but permitted ones. It stands on `grid_geo`, which finds
-//! the common point of two segments, and on `tgap_model`, whose `Partition` defines the least pair that meets.
+//! the common point of two segments, on `grid_index`, which names the boxes that meet a box, and on `tgap_model`, whose
+//! `Partition` defines the least pair that meets.
 #![tactic(auto)]
 
 ghost use Rattle.std.specs.Prelude.{◌≡◌, IfOk, Ok, Some, None, option_map, AllPairs};
@@ -7,6 +8,7 @@ ghost use Rattle.tgap_model.specs.Partition.{AreApart, base_segments, meeting_fa
 ghost use Rattle.tgap_model.specs.Evidence.{IsFirstMeeting};
 ghost use Rattle.planar_apart.specs.Meetings.{meets};
 
+mod boxes;
 mod meeting;
 mod pair;
 
@@ -19,8 +21,8 @@ use tgap_model::{Base, Memory, base_segments};
 /// The least pair of segments that meet where they may not, with a point that both hold, or None exactly where there is
 /// none.
 ///
-/// Every pair of segments is looked at, so the cost is the square of their number; a pair whose bounding boxes are
-/// apart costs a few comparisons.
+/// Only pairs of segments whose bounding boxes meet are looked at, and an index of the boxes names them. So the time is
+/// near the number of segments and of such pairs; the memory is a small multiple of the segments.
 pub fn first_meeting<R: Threads + Sync>(
     _rt: &R,
     alloc: Global,
@@ -34,5 +36,5 @@ pub fn first_meeting<R: Threads + Sync>(
     ensures apart { result ≡ Ok None → AllPairs AreApart (base_segments base.now) }
 {
     let segments = base_segments(alloc, base)?;
-    Ok(first_pair(segments.as_slice()))
+    first_pair(alloc, segments.as_slice())
 }

@@ -3,7 +3,7 @@
 ghost use Rattle.std.specs.Prelude.{◌≡◌, IsTrue};
 ghost use Rattle.tgap_model.specs.Partition.{is_proper, follows, shared_ends, meeting_point};
 
-use grid_geo::{Shared, boxes_apart, common_point};
+use grid_geo::{Shared, common_point};
 use tgap_model::{Fraction, LabelledSegment};
 
 /// Whether `t` is the next segment of the same arc.
@@ -31,9 +31,5 @@ pub fn meeting_point(s: &LabelledSegment, t: &LabelledSegment) -> Option<Fractio
     requires second { IsTrue (is_proper t.now) }
     ensures { result ≡ meeting_point s.now t.now }
 {
-    if boxes_apart(&s.segment, &t.segment) {
-        None
-    } else {
-        common_point(s.segment, t.segment, shared_ends(s, t))
-    }
+    common_point(s.segment, t.segment, shared_ends(s, t))
 }

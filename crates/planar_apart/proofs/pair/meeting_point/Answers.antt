@@ -1,6 +1,4 @@
-use Rattle.std.proofs.Common.{sym}
 use Rattle.tgap_model.proofs.Proper.{proper_parts}
-use Rattle.planar_apart.proofs.Pairs.{no_meeting}
 use Rattle.planar_apart.proofs.pair.meeting_point.Goals as goal
 
 pub common_point-requires-clause-s : goal.common_point-requires-clause-s
@@ -11,6 +9,3 @@ common_point-requires-clause-t c = let t = proper_parts c.args.t.now c.requires.
 
 pub common_point-requires-clause-apart : goal.common_point-requires-clause-apart
 common_point-requires-clause-apart c = (proper_parts c.args.s.now c.requires.first).apart
-
-pub returns-then-boxes_apart : goal.returns-then-boxes_apart
-returns-then-boxes_apart c = sym (no_meeting c.args.s.now c.args.t.now c.requires.first (c.boxes_apart.ensures c.if-boxes_apart.true))
