@@ -1,6 +1,11 @@
 pub mod Crossings
 pub mod Heights
 pub mod Slabs
+pub mod Ends
+pub mod Seams
+pub mod Ordered
+pub mod FirstPlace
 pub mod Active
+pub mod Leaving
 pub mod Swept
 pub mod Evidence

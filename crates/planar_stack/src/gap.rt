@@ -1,9 +1,11 @@
-//! The faces down a stack, and where they disagree.
+//! The faces at a place of a stack, and whether they disagree.
 
-ghost use Rattle.std.specs.Prelude.{◌≡◌, ◌<◌, ◌^◌, length, map};
+ghost use Rattle.std.specs.Prelude.{◌≡◌, ◌<◌, ◌≤◌, ◌^◌, length, map};
+ghost use Rattle.std.specs.List.{All};
 ghost use Rattle.std.specs.Option.{option_map};
-ghost use Rattle.tgap_model.specs.Partition.{sides, stack_fault_from};
-ghost use Rattle.planar_stack.specs.Sweep.{disagrees};
+ghost use Rattle.tgap_model.specs.Partition.{sides};
+ghost use Rattle.tgap_model.specs.Evidence.{face_above, face_below};
+ghost use Rattle.planar_stack.specs.Sweep.{disagrees, sides_at, fault_at};
 
 use tgap_model::{LabelledSegment, MapFault};
 
@@ -43,31 +45,50 @@ fn faces(s: &LabelledSegment) -> (u32, u32)
     }
 }
 
-/// The first place from the top at which the faces of a stack disagree.
-pub fn gap_of(stack: &[LabelledSegment], line: i64) -> Option<StackGap>
-    requires { length stack.now < 2 ^ 32 }
-    ensures { option_map disagrees result ≡ stack_fault_from line 0 0 (map sides stack.now) }
+/// The face that is reached from above at a place of a stack.
+fn face_reached(starts: &[LabelledSegment], stack: &[u32], place: usize) -> u32
+    requires known { All (λ n. n < length starts.now) stack.now }
+    requires within { place ≤ length stack.now }
+    ensures { result ≡ face_above (map (sides_at starts.now) stack.now) place }
 {
-    let mut reached = 0;
-    for (i, s) in stack.iter().enumerate() {
-        let (upper, lower) = faces(s);
-        if upper != reached {
-            return Some(StackGap {
-                line,
-                place: i as u32,
-                upper: reached,
-                lower: upper,
-            });
-        }
-        reached = lower;
+    if place == 0 {
+        return 0;
     }
-    if reached != 0 {
-        return Some(StackGap {
-            line,
-            place: stack.len() as u32,
-            upper: reached,
-            lower: 0,
-        });
+    faces(&starts[stack[place - 1] as usize]).1
+}
+
+/// The face that stands at a place of a stack.
+fn face_standing(starts: &[LabelledSegment], stack: &[u32], place: usize) -> u32
+    requires known { All (λ n. n < length starts.now) stack.now }
+    ensures { result ≡ face_below (map (sides_at starts.now) stack.now) place }
+{
+    if place >= stack.len() {
+        return 0;
     }
-    None
+    faces(&starts[stack[place] as usize]).0
+}
+
+/// The gap at a place of a stack, where the two faces differ.
+pub fn gap_at(
+    starts: &[LabelledSegment],
+    stack: &[u32],
+    place: usize,
+    line: i64,
+) -> Option<StackGap>
+    requires known { All (λ n. n < length starts.now) stack.now }
+    requires few { length stack.now < 2 ^ 32 }
+    requires within { place ≤ length stack.now }
+    ensures { option_map disagrees result ≡ fault_at line (map (sides_at starts.now) stack.now) place }
+{
+    let upper = face_reached(starts, stack, place);
+    let lower = face_standing(starts, stack, place);
+    if upper == lower {
+        return None;
+    }
+    Some(StackGap {
+        line,
+        place: place as u32,
+        upper,
+        lower,
+    })
 }

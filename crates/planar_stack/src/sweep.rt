@@ -1,17 +1,17 @@
 //! The sweep: from abscissa to abscissa the segments that end there leave the stack, and those that begin there come
 //! in.
 
-ghost use Rattle.std.specs.Prelude.{◌≡◌, ◌<◌, ◌≤◌, ◌<ℤ◌, ◌^◌, length, drop, filter, AllPairs, IfOk, OnOk, IsTrue, int_lt};
-ghost use Rattle.std.specs.List.{All, insert};
+ghost use Rattle.std.specs.Prelude.{◌≡◌, ℕ, ◌<◌, ◌≤◌, ◌<ℤ◌, ◌≤ℤ◌, ◌^◌, ◌==◌, ◌++◌, ◌∷◌, [], List, length, map, take, drop, filter, not, AllPairs, Contains, IfOk, IsTrue};
+ghost use Rattle.std.specs.List.{All};
 ghost use Rattle.std.specs.Option.{option_map};
-ghost use Rattle.lemmas.specs.Sorting.{insert_by, is_sorted_by};
+ghost use Rattle.lemmas.specs.Sorting.{insert_by};
 ghost use Rattle.tgap_model.specs.Bounds.{HasNearEnds};
-ghost use Rattle.tgap_model.specs.Partition.{AreApart, base_segments};
+ghost use Rattle.tgap_model.specs.Partition.{AreApart, base_segments, stack_fault_from};
 ghost use Rattle.tgap_model.specs.declared.limits.TheConstants.{MAX_POINTS};
-ghost use Rattle.planar_stack.specs.Sweep.{disagrees, left_end as left_of, right_end as right_of, crossed_after, higher_after, AreReady, IsActive, first_stack_fault};
+ghost use Rattle.planar_stack.specs.Sweep.{disagrees, left_end as left_of, right_end as right_of, segment_at, sides_at, crossed_at, higher_at, stays_at, AreReady, AreEnds, IsOrdered, IsPlace, IsActive, HaveEnded, AreLeft, AreTouched, IsFirstOf, first_stack_fault};
 
-use crate::events::{abscissas_of, left_end, right_end, starts_of};
-use crate::gap::{StackGap, gap_of};
+use crate::events::{End, abscissas_of, ends_of, left_end, right_end, starts_of};
+use crate::gap::{StackGap, gap_at};
 use grid_geo::cmp_on_line;
 use std::alloc::Global;
 use std::cmp::Ordering;
@@ -27,20 +27,20 @@ pub fn segments_of(alloc: Global, base: &Base) -> Result<List<LabelledSegment>, 
 }
 
 /// The place of a segment in a stack: above the first segment that it is higher than.
-fn place_of(stack: &[LabelledSegment], s: &LabelledSegment, line: i64) -> usize
-    requires sorted { IsTrue (is_sorted_by (higher_after line) stack.now) }
-    requires near { All (λ t. HasNearEnds t.segment) stack.now }
-    requires crossed { All (λ t. IsTrue (crossed_after line t)) stack.now }
-    requires near_s { HasNearEnds s.now.segment }
-    requires crossed_s { IsTrue (crossed_after line s.now) }
-    ensures place { result ≤ length stack.now }
-    ensures value { insert stack.now result s.now ≡ insert_by (higher_after line) s.now stack.now }
+fn place_of(starts: &[LabelledSegment], stack: &[u32], number: u32, line: i64) -> usize
+    requires near { All (λ s. HasNearEnds s.segment) starts.now }
+    requires ordered { IsOrdered line starts.now stack.now }
+    requires known { number < length starts.now }
+    requires crossed { IsTrue (crossed_at line starts.now number) }
+    ensures { IsPlace line starts.now number stack.now result }
 {
+    let s = &starts[number as usize];
     let mut low = 0;
     let mut high = stack.len();
     while low < high {
         let middle = low + (high - low) / 2;
-        if cmp_on_line(s.segment, stack[middle].segment, line) == Ordering::Greater {
+        let other = &starts[stack[middle] as usize];
+        if cmp_on_line(s.segment, other.segment, line) == Ordering::Greater {
             high = middle;
         } else {
             low = middle + 1;
@@ -49,36 +49,163 @@ fn place_of(stack: &[LabelledSegment], s: &LabelledSegment, line: i64) -> usize
     low
 }
 
-/// Takes the segments that end at an abscissa out of the stack.
-fn remove_ended(stack: &mut Vec<LabelledSegment>, line: i64)
-    ensures { stack.new.items ≡ filter (λ s. int_lt line (right_of s)) stack.old.items }
+/// Touches the segment at a place of a stack, where there is one.
+fn touch(touched: &mut Vec<u32>, stack: &[u32], place: usize) -> Result<(), Memory>
+    ensures { IfOk result (λ _. touched.new.items ≡ touched.old.items ++ take 1 (drop place stack.now)) }
 {
-    stack.retain(|s| right_end(s) > line);
+    if place < stack.len() {
+        touched.push(stack[place])?;
+    }
+    Ok(())
+}
+
+/// Takes a segment out of a stack. The one below it is touched.
+fn take_out(
+    starts: &[LabelledSegment],
+    stack: &mut Vec<u32>,
+    touched: &mut Vec<u32>,
+    number: u32,
+    line: i64,
+) -> Result<(), Memory>
+    requires near { All (λ s. HasNearEnds s.segment) starts.now }
+    requires ordered { IsOrdered line starts.now stack.old.items }
+    requires member { Contains stack.old.items number }
+    requires touched { AreTouched line starts.now stack.old.items touched.old.items }
+    ensures out { IfOk result (λ _. stack.new.items ≡ filter (λ n. not (n == number)) stack.old.items) }
+    ensures touched { IfOk result (λ _. AreTouched line starts.now stack.new.items touched.new.items) }
+{
+    let below = place_of(starts, stack, number, line);
+    touch(touched, stack, below)?;
+    stack.remove(below - 1);
+    Ok(())
+}
+
+/// Puts a segment into a stack. It is touched, and the one below it.
+fn put_in(
+    starts: &[LabelledSegment],
+    stack: &mut Vec<u32>,
+    touched: &mut Vec<u32>,
+    number: u32,
+    line: i64,
+) -> Result<(), Memory>
+    requires near { All (λ s. HasNearEnds s.segment) starts.now }
+    requires ordered { IsOrdered line starts.now stack.old.items }
+    requires known { number < length starts.now }
+    requires crossed { IsTrue (crossed_at line starts.now number) }
+    requires touched { AreTouched line starts.now stack.old.items touched.old.items }
+    ensures placed { IfOk result (λ _. stack.new.items ≡ insert_by (higher_at line starts.now) number stack.old.items) }
+    ensures touched { IfOk result (λ _. AreTouched line starts.now stack.new.items touched.new.items) }
+{
+    let place = place_of(starts, stack, number, line);
+    touched.push(number)?;
+    touch(touched, stack, place)?;
+    stack.insert(place, number)?;
+    Ok(())
+}
+
+/// Takes the segments that end up to an abscissa out of the stack of the line one half beyond `before`, where the first
+/// `ended` ends have left before. It gives how many have left then.
+fn remove_ended(
+    starts: &[LabelledSegment],
+    ends: &[End],
+    ended: usize,
+    stack: &mut Vec<u32>,
+    touched: &mut Vec<u32>,
+    before: i64,
+    line: i64,
+) -> Result<usize, Memory>
+    requires near { All (λ s. HasNearEnds s.segment) starts.now }
+    requires ends { AreEnds starts.now ends.now }
+    requires ordered { IsOrdered before starts.now stack.old.items }
+    requires left { AreLeft line starts.now ends.now ended stack.old.items }
+    requires touched { AreTouched before starts.now stack.old.items touched.old.items }
+    ensures out { IfOk result (λ _. stack.new.items ≡ filter (stays_at line starts.now) stack.old.items) }
+    ensures ended { IfOk result (λ gone. HaveEnded line ends.now gone) }
+    ensures touched { IfOk result (λ _. AreTouched before starts.now stack.new.items touched.new.items) }
+{
+    let mut gone = ended;
+    while gone < ends.len() && ends[gone].abscissa <= line {
+        take_out(starts, stack, touched, ends[gone].number, before)?;
+        gone += 1;
+    }
+    Ok(gone)
 }
 
 /// Puts the segments that begin at an abscissa into the stack, where the first `next` starts have begun before. It
 /// gives how many have begun then.
 fn insert_begun(
-    stack: &mut Vec<LabelledSegment>,
     starts: &[LabelledSegment],
     next: usize,
+    stack: &mut Vec<u32>,
+    touched: &mut Vec<u32>,
     line: i64,
 ) -> Result<usize, Memory>
     requires ready { AreReady starts.now }
+    requires few { length starts.now < 2 ^ 32 }
     requires active { IsActive line starts.now next stack.old.items }
     requires ahead { All (λ s. line <ℤ right_of s) (drop next starts.now) }
+    requires touched { AreTouched line starts.now stack.old.items touched.old.items }
     ensures active { IfOk result (λ begun. IsActive line starts.now begun stack.new.items) }
     ensures begun { IfOk result (λ begun. next ≤ begun) }
     ensures later { IfOk result (λ begun. All (λ s. line <ℤ left_of s) (drop begun starts.now)) }
+    ensures touched { IfOk result (λ _. AreTouched line starts.now stack.new.items touched.new.items) }
 {
     let mut begun = next;
     while begun < starts.len() && left_end(&starts[begun]) <= line {
-        let s = starts[begun];
-        let place = place_of(stack, &s, line);
-        stack.insert(place, s)?;
+        put_in(starts, stack, touched, begun as u32, line)?;
         begun += 1;
     }
     Ok(begun)
+}
+
+/// The higher of a place, and the place of a segment where the faces disagree there.
+fn higher_gap(
+    starts: &[LabelledSegment],
+    stack: &[u32],
+    place: usize,
+    number: u32,
+    line: i64,
+) -> usize
+    requires near { All (λ s. HasNearEnds s.segment) starts.now }
+    requires ordered { IsOrdered line starts.now stack.now }
+    requires few { length stack.now < 2 ^ 32 }
+    requires known { number < length starts.now }
+    requires begun { left_of (segment_at starts.now number) ≤ℤ line }
+    requires member { IsTrue (crossed_at line starts.now number) → Contains stack.now number }
+    requires within { place ≤ length stack.now }
+    ensures seen { (seen : List ℕ) → IsFirstOf seen (map (sides_at starts.now) stack.now) stack.now place
+        → IsFirstOf (seen ++ number ∷ []) (map (sides_at starts.now) stack.now) stack.now result }
+    ensures within { result ≤ length stack.now }
+{
+    if right_end(&starts[number as usize]) <= line {
+        return place;
+    }
+    let here = place_of(starts, stack, number, line) - 1;
+    if here < place && gap_at(starts, stack, here, line).is_some() {
+        return here;
+    }
+    place
+}
+
+/// The first gap of a stack, where only above touched segments the faces may disagree.
+fn touched_gap(
+    starts: &[LabelledSegment],
+    stack: &[u32],
+    touched: &[u32],
+    line: i64,
+) -> Option<StackGap>
+    requires near { All (λ s. HasNearEnds s.segment) starts.now }
+    requires ordered { IsOrdered line starts.now stack.now }
+    requires few { length stack.now < 2 ^ 32 }
+    requires all { (n : ℕ) → n < length starts.now → IsTrue (crossed_at line starts.now n) → Contains stack.now n }
+    requires touched { AreTouched line starts.now stack.now touched.now }
+    ensures { option_map disagrees result ≡ stack_fault_from line 0 0 (map (sides_at starts.now) stack.now) }
+{
+    let mut place = stack.len();
+    for number in touched {
+        place = higher_gap(starts, stack, place, *number, line);
+    }
+    gap_at(starts, stack, place, line)
 }
 
 /// The first gap of all stacks, from left to right.
@@ -90,13 +217,26 @@ pub fn first_gap(alloc: Global, segments: Vec<LabelledSegment>) -> Result<Option
 {
     let lines = abscissas_of(alloc, &segments)?;
     let starts = starts_of(segments);
+    let ends = ends_of(alloc, &starts)?;
     let mut stack = Vec::new(alloc);
+    let mut touched = Vec::new(alloc);
     let mut next = 0;
+    let mut ended = 0;
     for i in 1..lines.len() {
+        let before = lines[i.saturating_sub(2)];
         let line = lines[i - 1];
-        remove_ended(&mut stack, line);
-        next = insert_begun(&mut stack, &starts, next, line)?;
-        let gap = gap_of(&stack, line);
+        touched.clear();
+        ended = remove_ended(
+            &starts,
+            &ends,
+            ended,
+            &mut stack,
+            &mut touched,
+            before,
+            line,
+        )?;
+        next = insert_begun(&starts, next, &mut stack, &mut touched, line)?;
+        let gap = touched_gap(&starts, &stack, &touched, line);
         if gap.is_some() {
             return Ok(gap);
         }

@@ -1,0 +1,40 @@
+-- The member stands just above its place.
+use Rattle.std.proofs.Common.{◌≡◌, ◌++◌, ℤ, ℕ, List, take, drop, to_z, of_z, sym, ap, ◌∙◌, subst₂, arith}
+use Rattle.std.specs.Int.{w64}
+use Rattle.std.proofs.lemmas.Int.{ints}
+use Rattle.planar_stack.specs.Sweep.{IsPlace, AreTouched}
+use Rattle.planar_stack.proofs.Ordered.{member_above, place-remove, touched_out}
+use Rattle.planar_stack.proofs.sweep.take_out.Goals as goal
+
+pub overflow_sub-below : goal.overflow_sub-below
+overflow_sub-below c =
+    let v = c.args.line in
+    let starts = c.args.starts.now in
+    let stack = c.args.stack.now.items in
+    let place = c.place_of-below.result in
+    let e : to_z w64 (of_z w64 v) ≡ v = omega (arith, ints) in
+    let p = subst₂ (λ (z : ℤ) (ns : List ℕ). IsPlace z starts c.args.number ns place) e c.deref.ensures.value c.place_of-below.ensures in
+    (member_above v starts c.args.number stack place p c.requires.ordered c.requires.member).0
+
+pub returns-clause-out : goal.returns-clause-out
+returns-clause-out c =
+    let v = c.args.line in
+    let starts = c.args.starts.now in
+    let stack = c.args.stack.now.items in
+    let place = c.place_of-below.result in
+    let e : to_z w64 (of_z w64 v) ≡ v = omega (arith, ints) in
+    let p = subst₂ (λ (z : ℤ) (ns : List ℕ). IsPlace z starts c.args.number ns place) e c.deref.ensures.value c.place_of-below.ensures in
+    c.remove.ensures.items ∙ place-remove v starts c.args.number stack place p c.requires.ordered c.requires.member
+
+pub returns-clause-touched : goal.returns-clause-touched
+returns-clause-touched c =
+    let v = c.args.line in
+    let starts = c.args.starts.now in
+    let stack = c.args.stack.now.items in
+    let touched = c.args.touched.now.items in
+    let place = c.place_of-below.result in
+    let e : to_z w64 (of_z w64 v) ≡ v = omega (arith, ints) in
+    let p = subst₂ (λ (z : ℤ) (ns : List ℕ). IsPlace z starts c.args.number ns place) e c.deref.ensures.value c.place_of-below.ensures in
+    let more = c.in_ok-touch.ensures ∙ ap (λ (ns : List ℕ). touched ++ take 1 (drop place ns)) c.deref-2.ensures.value in
+    subst₂ (λ (ns ts : List ℕ). AreTouched v starts ns ts) (sym c.remove.ensures.items) (sym more)
+    (touched_out v starts c.args.number stack touched place p c.requires.ordered c.requires.touched c.requires.member)
