@@ -3,6 +3,7 @@
 ghost use Rattle.std.specs.Prelude.{◌≡◌, IfOk, map};
 ghost use Rattle.planar_apart.specs.Meetings.{box_of};
 
+use grid_index::segment_box;
 use std::alloc::Global;
 use tgap_model::{LabelledSegment, List, Memory, Window};
 
@@ -10,14 +11,7 @@ use tgap_model::{LabelledSegment, List, Memory, Window};
 pub fn box_of(s: &LabelledSegment) -> Window
     ensures { result ≡ box_of s.now }
 {
-    let a = s.segment.a;
-    let b = s.segment.b;
-    Window {
-        x0: a.x.min(b.x),
-        y0: a.y.min(b.y),
-        x1: a.x.max(b.x),
-        y1: a.y.max(b.y),
-    }
+    segment_box(&s.segment.a, &s.segment.b)
 }
 
 /// The bounding boxes of segments, in their order.

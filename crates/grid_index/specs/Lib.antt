@@ -1,0 +1,4 @@
+pub mod Boxes
+pub mod Near
+pub mod Tower
+pub mod Picked

@@ -1,0 +1,12 @@
+//! Which boxes meet a window: trees of boxes that answer in the time of what they give and little more. It stands on
+//! `tgap_model`, whose windows it takes, and on the sorting of `lemmas`.
+#![tactic(auto)]
+
+mod boxes;
+mod order;
+mod places;
+mod tree;
+mod window;
+
+pub use boxes::EdgeBoxes;
+pub use window::segment_box;
