@@ -24,8 +24,9 @@ use tgap_model::{Base, Memory};
 ///
 /// It reads the lines one half beyond each abscissa of a vertex that has a next one, from left to right. The gap has
 /// the abscissa, in grid units, and the first place from the top at which a face and the next one differ. The segments
-/// have to be apart: where two of them meet, they have no order of heights. The cost is the number of segments on all
-/// those lines together, and for each segment that comes in the logarithm of their number. It fails on want of memory
+/// have to be apart: where two of them meet, they have no order of heights. On each line it looks only at the places
+/// where a segment came or went, so the cost is that of sorting the segments, and for each of them a few searches, each
+/// the logarithm of the height of its stack, and two moves of the numbers below its place. It fails on want of memory
 /// alone. The threads of `rt` have no use yet. The sweep is that of Shamos and Hoey, 1976.
 pub fn first_disagreement<R: Threads + Sync>(
     _rt: &R,
