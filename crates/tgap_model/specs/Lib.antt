@@ -22,6 +22,10 @@ pub mod Lines
 pub mod ListingLines
 pub mod Listing
 pub mod SliceTexts
+pub mod SliceForms
+pub mod SliceReading
+pub mod Machine
+pub mod Edits
 pub mod Json
 pub mod RulesFile
 pub mod Topology

@@ -12,6 +12,7 @@ mod fault;
 mod geometry;
 mod limits;
 mod list;
+mod machine;
 mod merge;
 mod record;
 mod segment;
@@ -28,9 +29,10 @@ pub use fault::{LimitKind, MapFault};
 pub use geometry::{Fraction, Point, Seg, Shared, Window};
 pub use limits::{
     MAX_ARCS, MAX_CLASSES, MAX_COMPATIBILITY, MAX_COORDINATE, MAX_FACES, MAX_MAP_BYTES, MAX_POINTS,
-    MAX_RATIO, MAX_WEIGHT,
+    MAX_RATIO, MAX_TEXT_BYTES, MAX_WEIGHT,
 };
 pub use list::List;
+pub use machine::{Event, Outcome};
 pub use merge::{LabelledArc, MergeStep};
 pub use record::{Mend, Packet, Piece, Put, StepRecord};
 pub use segment::{LabelledSegment, base_segments};

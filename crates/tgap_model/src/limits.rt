@@ -26,3 +26,6 @@ pub const MAX_RATIO: u32 = 65_535;
 
 /// The greatest length of a map file, in bytes.
 pub const MAX_MAP_BYTES: u64 = 16_777_216;
+
+/// The greatest length of a slice file or a packet file, in bytes.
+pub const MAX_TEXT_BYTES: u64 = 67_108_864;
