@@ -5,3 +5,11 @@ pub mod Towers
 pub mod Hulls
 pub mod Sorted
 pub mod Ordering
+pub mod Pieces
+pub mod Renewal
+pub mod Holding
+pub mod KeyLists
+pub mod Finding
+pub mod Merging
+pub mod Living
+pub mod Skipping

@@ -12,10 +12,10 @@ use Rattle.grid_index.specs.Near.{near_boxes}
 use Rattle.grid_index.specs.Tower.{meets_at}
 use Rattle.grid_index.proofs.Meeting.{near_filtered}
 
-lt_test : (m n : ℕ) → m < n → nat_lt m n ≡ true
+pub lt_test : (m n : ℕ) → m < n → nat_lt m n ≡ true
 lt_test m n h = grind (arith, nat_tests)
 
-test_lt : (m n : ℕ) → nat_lt m n ≡ true → m < n
+pub test_lt : (m n : ℕ) → nat_lt m n ≡ true → m < n
 test_lt m n h = grind (arith, nat_tests)
 
 -- no two keys are equal, so none is followed by an equal one

@@ -1,5 +1,5 @@
 -- What meets a window: boxes by their places.
-use Rattle.std.specs.Prelude.{ℕ, ◌+◌, Bool, true, false, List, [], ◌∷◌}
+use Rattle.std.specs.Prelude.{◌≡◌, ℕ, ◌+◌, ◌<◌, ◌≤◌, Bool, true, false, List, [], ◌∷◌, length, get_or}
 use Rattle.tgap_model.specs.declared.geometry.Window.{Window}
 use Rattle.grid_index.specs.Boxes.{meets}
 
@@ -16,3 +16,10 @@ boxes_near area i (b ∷ boxes) = cons_if (meets area b) i (boxes_near area (i +
 -- the places of the boxes that meet the area, in ascending order
 abbrev pub near_boxes : Window → List Window → List ℕ
 near_boxes area boxes = boxes_near area 0 boxes
+
+-- the first place from this one on whose box meets the area, or the number of the boxes where there is none
+pub record IsNextNear (area : Window) (boxes : List Window) (from next : ℕ) : Type 0 where
+  pub after : from ≤ next
+  pub within : next ≤ length boxes
+  pub near : (d : Window) → next < length boxes → meets area (get_or boxes next d) ≡ true
+  pub apart : (k : ℕ) (d : Window) → from ≤ k → k < next → meets area (get_or boxes k d) ≡ false

@@ -1,5 +1,5 @@
 -- Levels of boxes over a row of boxes: a box of each level holds up to so many of the level below, in their order.
-use Rattle.std.specs.Prelude.{◌≡◌, ℕ, zero, suc, ◌+◌, ◌*◌, ◌/◌, ◌<◌, ◌≤◌, Bool, false, List, [], ◌∷◌, length, get_or, filter, All}
+use Rattle.std.specs.Prelude.{◌≡◌, ◌≢◌, ℕ, zero, suc, ◌+◌, ◌*◌, ◌/◌, ◌<◌, ◌≤◌, Bool, false, List, [], ◌∷◌, length, get_or, filter, All}
 use Rattle.std.specs.List.{flat_map, range_with_len}
 use Rattle.tgap_model.specs.declared.geometry.Window.{Window}
 use Rattle.grid_index.specs.declared.tree.TheConstants.{FANOUT}
@@ -45,3 +45,25 @@ pub record Leads (area : Window) (parents : List ℕ) (level : List Window) : Ty
 abbrev pub Reaches : Window → List ℕ → List (List Window) → List Window → Type 0
 Reaches area parents [] boxes = Leads area parents boxes
 Reaches area parents (level ∷ levels) boxes = Leads area parents level × AreHulls level levels boxes
+
+-- a box holds those of a level that belong to a box of this place in the level above
+abbrev pub HoldsGroup : Window → ℕ → List Window → Type 0
+HoldsGroup up parent boxes = (i : ℕ) (e : Window) → i < length boxes → i / FANOUT ≡ parent → Covers up (get_or boxes i e)
+
+-- two rows that differ in the box of one place at most
+pub record IsRowBut (was boxes : List Window) (place : ℕ) : Type 0 where
+  pub long : length was ≡ length boxes
+  pub same : (i : ℕ) (d : Window) → i ≢ place → get_or was i d ≡ get_or boxes i d
+
+-- levels over a row in which one box has changed since
+abbrev pub IsTowerBut : List (List Window) → List Window → ℕ → Type 0
+IsTowerBut levels boxes place = (was : List Window) × (IsTower levels was) × (IsRowBut was boxes place)
+
+-- each of these levels, of which the last one holds the row, is held by the one before it
+abbrev pub AreLevels : List (List Window) → List Window → Type 0
+AreLevels [] row = Unit
+AreLevels (top ∷ levels) row = AreHulls top levels row
+
+-- no box of the row from one place on meets the area, up to another place
+abbrev pub IsClear : Window → List Window → ℕ → ℕ → Type 0
+IsClear area row from end = (k : ℕ) (d : Window) → from ≤ k → k < end → k < length row → meets area (get_or row k d) ≡ false

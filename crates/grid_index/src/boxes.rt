@@ -26,14 +26,14 @@ impl Model for EdgeBoxes {
 }
 
 /// The same boxes.
-fn copied(alloc: Global, boxes: &[Window]) -> Result<List<Window>, Memory>
+pub fn copied(alloc: Global, boxes: &[Window]) -> Result<List<Window>, Memory>
     ensures { IfOk result (λ list. list ≡ boxes.now) }
 {
     Ok(List::from(Vec::from_slice(alloc, boxes)?))
 }
 
 /// The same numbers, in 32 bits.
-fn narrowed(alloc: Global, numbers: &[usize]) -> Result<List<u32>, Memory>
+pub fn narrowed(alloc: Global, numbers: &[usize]) -> Result<List<u32>, Memory>
     requires { All (λ n. n < 2 ^ 32) numbers.now }
     ensures { IfOk result (λ list. list ≡ numbers.now) }
 {

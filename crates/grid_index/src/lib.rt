@@ -3,10 +3,19 @@
 #![tactic(auto)]
 
 mod boxes;
+mod edges;
+mod entries;
+mod keys;
+mod live;
 mod order;
 mod places;
+mod segments;
+mod slots;
 mod tree;
 mod window;
 
 pub use boxes::EdgeBoxes;
+pub use live::{Live, SegmentPlace};
+pub use order::order_of;
+pub use tree::BoxTree;
 pub use window::segment_box;

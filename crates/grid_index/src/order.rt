@@ -57,7 +57,8 @@ fn ranked(alloc: Global, boxes: &[Window]) -> Result<Vec<CurvePlace>, Memory>
     Ok(rows)
 }
 
-/// The places of these boxes, near ones beside one another.
+/// The places of these boxes, each once, in an order in which boxes that are near one another in the plane mostly stand
+/// near one another: that of their middles on a curve. It takes the time of a sort.
 pub fn order_of(alloc: Global, boxes: &[Window]) -> Result<Vec<usize>, Memory>
     ensures { IfOk result (λ order. IsPermutation (range_with_len 0 (length boxes.now)) order.items) }
 {

@@ -1,12 +1,15 @@
 //! A packed tree over a row of boxes.
 
-ghost use Rattle.std.specs.Prelude.{◌≡◌, ◌≤◌, ◌*◌, ◌++◌, length, filter, All, IfOk, OnOk};
-ghost use Rattle.grid_index.specs.Near.{near_boxes};
-ghost use Rattle.grid_index.specs.Tower.{meets_at, children, meeting, IsHull, IsTower};
+ghost use Rattle.std.specs.Prelude.{◌≡◌, ◌<◌, ◌≤◌, ◌*◌, ◌++◌, List as Sequence, length, filter, slice_set, All, IfOk, OnOk};
+ghost use Rattle.std.specs.Vec.{vec_capacity, vec_len};
+ghost use Rattle.tgap_model.specs.declared.geometry.Window.{Window as Area};
+ghost use Rattle.grid_index.specs.Near.{near_boxes, IsNextNear};
+ghost use Rattle.grid_index.specs.Tower.{meets_at, children, meeting, IsHull, IsTower, HoldsGroup, IsTowerBut, AreLevels, IsClear};
 
 use crate::window::{hull, meets};
 use std::alloc::Global;
 use std::marker::Model;
+use std::mem;
 use tgap_model::{List, Memory, Window};
 
 /// How many boxes of a level one box of the level above it holds.
@@ -98,6 +101,73 @@ fn meeting(
     Ok(kept)
 }
 
+/// The hull of the boxes of a level that one box of the level above holds.
+fn group_hull(boxes: &[Window], parent: usize) -> Window
+    requires { FANOUT * parent < length boxes.now }
+    ensures { HoldsGroup result parent boxes.now }
+{
+    let start = FANOUT * parent;
+    let end = start + FANOUT.min(boxes.len() - start);
+    hull(&boxes[start..end])
+}
+
+/// Puts another box in the place of one.
+fn set_box(alloc: Global, boxes: &mut List<Window>, place: usize, area: Window)
+    requires { place < length boxes.old }
+    ensures { boxes.new ≡ slice_set boxes.old place area }
+{
+    let mut items = mem::replace(boxes, List::new(alloc)).into_vec();
+    items[place] = area;
+    *boxes = List::from(items);
+}
+
+/// Makes the hulls over a box of the row anew, after that box changed.
+fn renew(alloc: Global, levels: &mut Vec<List<Window>>, row: &[Window], place: usize)
+    requires place { place < length row.now }
+    requires tower { IsTowerBut levels.old.items row.now place }
+    ensures tower { IsTower levels.new.items row.now }
+    ensures len { vec_len levels.new ≡ vec_len levels.old }
+    ensures capacity { vec_capacity levels.new ≡ vec_capacity levels.old }
+{
+    let Some(mut above) = levels.pop() else {
+        return;
+    };
+    let parent = place / FANOUT;
+    set_box(alloc, &mut above, parent, group_hull(row, parent));
+    renew(alloc, levels, above.as_slice(), parent);
+    levels.push_reserved(above);
+}
+
+/// The end of the boxes from `at` on that boxes of these levels hold which do not meet the area, or `at` itself. The last
+/// level is the one over the row, and the largest group that begins at `at` and can be passed is passed.
+fn skipped(levels: &[List<Window>], area: &Window, at: usize) -> usize
+    ensures after { at ≤ result }
+    ensures clear { (row : Sequence Area) → AreLevels levels.now row → IsClear area.now row at result }
+{
+    let Some((level, above)) = levels.split_last() else {
+        return at;
+    };
+    let parent = at / FANOUT;
+    let hulls = level.as_slice();
+    if at % FANOUT != 0 || parent >= hulls.len() || meets(area, &hulls[parent]) {
+        return at;
+    }
+    let end = skipped(above, area, parent).max(parent + 1);
+    end.saturating_mul(FANOUT)
+}
+
+/// The same. Most places begin no group, and that is seen here.
+fn passed(levels: &[List<Window>], area: &Window, at: usize) -> usize
+    ensures after { at ≤ result }
+    ensures clear { (row : Sequence Area) → AreLevels levels.now row → IsClear area.now row at result }
+{
+    if at % FANOUT == 0 {
+        skipped(levels, area, at)
+    } else {
+        at
+    }
+}
+
 impl BoxTree {
     /// The tree over these boxes, in their order.
     pub fn of(alloc: Global, boxes: List<Window>) -> Result<BoxTree, Memory>
@@ -116,5 +186,43 @@ impl BoxTree {
             parents = meeting(alloc, level.as_slice(), &parents, area)?;
         }
         meeting(alloc, self.boxes.as_slice(), &parents, area)
+    }
+
+    /// The boxes.
+    pub fn boxes(&self) -> &List<Window>
+        ensures { result.now ≡ self.now }
+    {
+        &self.boxes
+    }
+
+    /// Puts another box in the place of one. It takes no memory, and the time of a few boxes a level.
+    pub fn set(&mut self, alloc: Global, place: usize, area: Window)
+        requires { place < length self.old }
+        ensures { self.new ≡ slice_set self.old place area }
+    {
+        set_box(alloc, &mut self.boxes, place, area);
+        renew(alloc, &mut self.levels, self.boxes.as_slice(), place);
+    }
+
+    /// The first place from `from` on whose box meets the area, or the number of the boxes where there is none. It takes
+    /// no memory, and all places in turn take the time of those places and little more.
+    pub fn next(&self, area: &Window, from: usize) -> usize
+        requires { from ≤ length self.now }
+        ensures { IsNextNear area.now self.now from result }
+    {
+        let boxes = self.boxes.as_slice();
+        let levels = self.levels.as_slice();
+        let mut at = from;
+        'walk: while at < boxes.len() {
+            let end = passed(levels, area, at);
+            if at < end {
+                at = end.min(boxes.len());
+            } else if meets(area, &boxes[at]) {
+                return at;
+            } else {
+                at += 1;
+            }
+        }
+        at
     }
 }

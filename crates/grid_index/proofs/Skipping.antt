@@ -1,0 +1,40 @@
+-- Boxes that may be passed, since what holds them does not meet the area.
+use Rattle.std.proofs.Common.{◌≡◌, ◌⊎◌, inl, inr, ℕ, ◌+◌, ◌*◌, ◌/◌, ◌<◌, ◌≤◌, max, false, List, [], ◌∷◌, ◌++◌, length, get_or, sym, ◌∙◌, true≢false, subst, arith}
+use Rattle.std.proofs.lemmas.Bool.{false_from_ne_true, cases_lt}
+use Rattle.tgap_model.specs.declared.geometry.Window.{Window}
+use Rattle.grid_index.specs.declared.tree.TheConstants.{FANOUT}
+use Rattle.grid_index.specs.Boxes.{meets}
+use Rattle.grid_index.specs.Tower.{IsHull, IsTower, AreHulls, AreLevels, IsClear}
+use Rattle.grid_index.proofs.Covering.{meets_wider}
+
+-- the last level holds the row, and the others hold it
+hulls_last : (up : List Window) (levels : List (List Window)) (last row : List Window) → AreHulls up (levels ++ last ∷ []) row → AreHulls up levels last × IsHull last row
+hulls_last up [] last row h = h
+hulls_last up (down ∷ levels) last row (hull, hulls) = let rest = hulls_last down levels last row hulls in ((hull, rest.0), rest.1)
+
+pub levels_last : (levels : List (List Window)) (last row : List Window) → AreLevels (levels ++ last ∷ []) row → AreLevels levels last × IsHull last row
+levels_last [] last row h = (tt, h)
+levels_last (top ∷ levels) last row h = hulls_last top levels last row h
+
+-- levels over boxes hold them
+pub tower_levels : (levels : List (List Window)) (boxes : List Window) → IsTower levels boxes → AreLevels levels boxes
+tower_levels [] boxes h = tt
+tower_levels (top ∷ levels) boxes h = h.1
+
+-- what is clear of the area holds nothing that meets it
+pub clear_below : (area : Window) (up down : List Window) (from end at : ℕ) → IsHull up down → IsClear area up from end → at ≡ FANOUT * from → IsClear area down at (end * FANOUT)
+clear_below area up down from end at hull clear e k d le lt within =
+    false_from_ne_true (meets area (get_or down k d)) (λ m.
+    true≢false (sym (meets_wider area (get_or up (k / FANOUT) d) (get_or down k d) (hull.holds k d d within) m)
+    ∙ clear (k / FANOUT) d (omega arith) (omega arith) (omega (arith, hull.room))))
+
+-- one box more
+pub clear_more : (area : Window) (row : List Window) (from end past : ℕ) → IsClear area row from end → ((d : Window) → from < length row → meets area (get_or row from d) ≡ false)
+    → past ≡ max end (from + 1) → IsClear area row from past
+clear_more area row from end past clear here e k d after lt within = by (cases_lt k end)
+  where
+    by : (k < end) ⊎ (end ≤ k) → meets area (get_or row k d) ≡ false
+    by (inl less) = clear k d after less within
+    by (inr le) =
+        let same : from ≡ k = omega arith in
+        subst (λ (n : ℕ). meets area (get_or row n d) ≡ false) same (here d (omega arith))
