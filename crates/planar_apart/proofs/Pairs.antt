@@ -1,8 +1,7 @@
 -- What the search for the least pair tells of the pairs.
-use Rattle.std.proofs.Common.{◌≡◌, inl, inr, ℕ, zero, suc, ◌+◌, ◌<◌, true, false, List, [], ◌∷◌, length, drop, get_or, Option, Some, None, AllPairs, option_map, is_some, refl, sym, ap, ◌∙◌, subst, arith}
+use Rattle.std.proofs.Common.{◌≡◌, inl, inr, ℕ, zero, suc, ◌+◌, ◌<◌, true, List, [], ◌∷◌, length, get_or, Option, Some, None, AllPairs, refl, sym, ap, ◌∙◌, subst, arith}
 use Rattle.std.specs.List.{list_all, slice_get}
 use Rattle.std.proofs.lemmas.Bool.{true≢false}
-use Rattle.std.proofs.lemmas.List.{drop_more}
 use Rattle.std.proofs.lemmas.List.Sums.{AllPass-from_list_all}
 use Rattle.std.proofs.lemmas.Option.{slice_get_within, slice_get-get_or, get_or_from_slice_get}
 use Rattle.tgap_model.specs.declared.geometry.Fraction.{Fraction}
@@ -15,7 +14,7 @@ use Rattle.tgap_model.specs.Evidence.{IsLesserPair, IsFirstMeeting}
 use Rattle.tgap_model.proofs.Proper.{proper_parts, no_segment}
 use Rattle.grid_geo.proofs.CommonPoint.{common_point_found, common_point_none}
 use Rattle.planar_apart.specs.declared.meeting.Meeting.{Meeting}
-use Rattle.planar_apart.specs.Meetings.{meets, IsFirstAfter}
+use Rattle.planar_apart.specs.Meetings.{meets}
 
 -- segments of which no rational point is on both do not meet
 pub no_meeting : (s t : LabelledSegment) → is_proper s ≡ true → AreDisjoint s.segment t.segment → meeting_point s t ≡ None
@@ -35,11 +34,6 @@ or_later found later = elim found [ None ↦ later | Some fault ↦ Some fault ]
 abbrev or_meeting : ℕ → ℕ → Option Fraction → Option MapFault → Option MapFault
 or_meeting i j common later = elim common [ None ↦ later | Some p ↦ Some (Meets i j p) ]
 
--- the search from a place on
-pub search_from : (segments : List LabelledSegment) (i : ℕ) (d : LabelledSegment) → i < length segments
-    → meeting_from i (drop i segments) ≡ or_later (first_meeting_of i (get_or segments i d) (i + 1) (drop (i + 1) segments)) (meeting_from (i + 1) (drop (i + 1) segments))
-search_from segments i d lt = ap (meeting_from i) (drop_more segments i d lt)
-
 -- where no meeting is found, no two segments meet
 none_after : (i j : ℕ) (s : LabelledSegment) (ts : List LabelledSegment) → first_meeting_of i s j ts ≡ None → (k : ℕ) (d : LabelledSegment) → k < length ts → meeting_point s (get_or ts k d) ≡ None
 none_after i j s [] e k d lt = absurd (omega arith)
@@ -52,7 +46,7 @@ none_after i j s (t ∷ ts) e k d lt = by (meeting_point s t) refl e (λ f l sho
     by None m e ih (suc k) lt = ih e k (omega arith)
     by (Some p) m e ih k lt = absurd cc
 
-none_pairs : (i : ℕ) (ss : List LabelledSegment) → meeting_from i ss ≡ None → (a b : ℕ) (d : LabelledSegment) → a < b → b < length ss → meeting_point (get_or ss a d) (get_or ss b d) ≡ None
+pub none_pairs : (i : ℕ) (ss : List LabelledSegment) → meeting_from i ss ≡ None → (a b : ℕ) (d : LabelledSegment) → a < b → b < length ss → meeting_point (get_or ss a d) (get_or ss b d) ≡ None
 none_pairs i [] e a b d lt short = absurd (omega arith)
 none_pairs i (s ∷ ss) e a zero d lt short = absurd (omega arith)
 none_pairs i (s ∷ ss) e a (suc b) d lt short = by (first_meeting_of i s (i + 1) ss) refl e (λ f k less. none_pairs (i + 1) ss f k b d less (omega arith)) a lt
@@ -65,15 +59,15 @@ none_pairs i (s ∷ ss) e a (suc b) d lt short = by (first_meeting_of i s (i + 1
     by (Some f) m e ih a lt = absurd cc
 
 -- a meeting of two segments, of which the first is the one at place a
-record Found (i : ℕ) (ss : List LabelledSegment) (f : MapFault) : Type 0 where
-  first : ℕ
-  second : ℕ
-  at : Fraction
-  order : first < second
-  inside : second < length ss
-  fault : f ≡ Meets (i + first) (i + second) at
-  meets : (d : LabelledSegment) → meeting_point (get_or ss first d) (get_or ss second d) ≡ Some at
-  least : (k l : ℕ) (d : LabelledSegment) → k < l → l < length ss → IsLesserPair k l first second → meeting_point (get_or ss k d) (get_or ss l d) ≡ None
+pub record Found (i : ℕ) (ss : List LabelledSegment) (f : MapFault) : Type 0 where
+  pub first : ℕ
+  pub second : ℕ
+  pub at : Fraction
+  pub order : first < second
+  pub inside : second < length ss
+  pub fault : f ≡ Meets (i + first) (i + second) at
+  pub meets : (d : LabelledSegment) → meeting_point (get_or ss first d) (get_or ss second d) ≡ Some at
+  pub least : (k l : ℕ) (d : LabelledSegment) → k < l → l < length ss → IsLesserPair k l first second → meeting_point (get_or ss k d) (get_or ss l d) ≡ None
 
 -- one more segment in front, which meets none
 found_later : (i : ℕ) (s : LabelledSegment) (ss : List LabelledSegment) (f : MapFault) → first_meeting_of i s (i + 1) ss ≡ None → Found (i + 1) ss f → Found i (s ∷ ss) f
@@ -138,7 +132,7 @@ found_after i j s (t ∷ ts) f e = by (meeting_point s t) refl e (found_after i 
           least = λ l d lt. absurd (omega (arith, lt));
         }
 
-found_pair : (i : ℕ) (ss : List LabelledSegment) (f : MapFault) → meeting_from i ss ≡ Some f → Found i ss f
+pub found_pair : (i : ℕ) (ss : List LabelledSegment) (f : MapFault) → meeting_from i ss ≡ Some f → Found i ss f
 found_pair i [] f e = absurd cc
 found_pair i (s ∷ ss) f e = by (first_meeting_of i s (i + 1) ss) refl e (found_pair (i + 1) ss f)
   where
@@ -216,24 +210,3 @@ is_first ss m proper e =
     (subst (λ (k : ℕ). IsFirstMeeting ss h.first k m.at) j
     (subst (λ (p : Fraction). IsFirstMeeting ss h.first h.second p) at
     (first_at ss h.first h.second h.at proper h.order h.inside h.meets h.least)))
-
--- the search goes on where the segment at this place meets none, and ends there otherwise
-module _ (segments : List LabelledSegment) (i : ℕ) (found : Option Meeting) (lt : i < length segments)
-    (search : IsFirstAfter segments i found)
-    (left : meeting_from i (drop i segments) ≡ meeting_from 0 segments) where
-  next : or_later (option_map meets found) (meeting_from (i + 1) (drop (i + 1) segments)) ≡ meeting_from 0 segments
-  next = ap (λ (o : Option MapFault). or_later o (meeting_from (i + 1) (drop (i + 1) segments))) (search no_segment) ∙ sym (search_from segments i no_segment lt) ∙ left
-
-  pub search_found : is_some found ≡ true → option_map meets found ≡ meeting_from 0 segments
-  search_found some = by found some refl ∙ next
-    where
-      by : (o : Option Meeting) → is_some o ≡ true → o ≡ found → option_map meets found ≡ or_later (option_map meets found) (meeting_from (i + 1) (drop (i + 1) segments))
-      by None some e = absurd (true≢false (sym some))
-      by (Some m) some e = subst (λ (o : Option Meeting). option_map meets o ≡ or_later (option_map meets o) (meeting_from (i + 1) (drop (i + 1) segments))) e refl
-
-  pub search_not_found : is_some found ≡ false → meeting_from (i + 1) (drop (i + 1) segments) ≡ meeting_from 0 segments
-  search_not_found none = by found none refl ∙ next
-    where
-      by : (o : Option Meeting) → is_some o ≡ false → o ≡ found → meeting_from (i + 1) (drop (i + 1) segments) ≡ or_later (option_map meets found) (meeting_from (i + 1) (drop (i + 1) segments))
-      by None none e = subst (λ (o : Option Meeting). meeting_from (i + 1) (drop (i + 1) segments) ≡ or_later (option_map meets o) (meeting_from (i + 1) (drop (i + 1) segments))) e refl
-      by (Some m) none e = absurd (true≢false none)

@@ -1,1 +1,3 @@
 pub mod Meetings
+pub mod Rows
+pub mod Ends

@@ -1,6 +1,6 @@
 //! Whether the segments of a base map have no point in common but permitted ones. It stands on `grid_geo`, which finds
-//! the common point of two segments, on `grid_index`, which names the boxes that meet a box, and on `tgap_model`, whose
-//! `Partition` defines the least pair that meets.
+//! the common point of two segments, on `grid_index`, which names the boxes that meet a box, on `rayon`, which shares the
+//! work among threads, and on `tgap_model`, whose `Partition` defines the least pair that meets.
 #![tactic(auto)]
 
 ghost use Rattle.std.specs.Prelude.{◌≡◌, IfOk, Ok, Some, None, option_map, AllPairs};
@@ -11,6 +11,7 @@ ghost use Rattle.planar_apart.specs.Meetings.{meets};
 mod boxes;
 mod meeting;
 mod pair;
+mod row;
 
 pub use meeting::Meeting;
 use meeting::first_pair;
@@ -21,10 +22,11 @@ use tgap_model::{Base, Memory, base_segments};
 /// The least pair of segments that meet where they may not, with a point that both hold, or None exactly where there is
 /// none.
 ///
-/// Only pairs of segments whose bounding boxes meet are looked at, and an index of the boxes names them. So the time is
-/// near the number of segments and of such pairs; the memory is a small multiple of the segments.
+/// Only pairs of segments whose bounding boxes meet are looked at, and a tree of the boxes names them. So the time is near
+/// the number of segments and of such pairs, shared among as many threads as there are processors where there are some
+/// thousand segments; the memory is a small multiple of the segments.
 pub fn first_meeting<R: Threads + Sync>(
-    _rt: &R,
+    rt: &R,
     alloc: Global,
     base: &Base,
 ) -> Result<Option<Meeting>, Memory>
@@ -36,5 +38,5 @@ pub fn first_meeting<R: Threads + Sync>(
     ensures apart { result ≡ Ok None → AllPairs AreApart (base_segments base.now) }
 {
     let segments = base_segments(alloc, base)?;
-    first_pair(alloc, segments.as_slice())
+    first_pair(rt, alloc, segments.as_slice())
 }

@@ -125,6 +125,29 @@ active_in v starts begun found apart a short begins ends = record {
     left n l (inr (inl less)) = a.left n less
     left n l (inr (inr more)) = absurd (omega (arith, l, more))
 
+-- the next one has ended, and stays out
+pub active_past : (v : ℤ) (starts : List LabelledSegment) (begun : ℕ) (found : List ℕ) → IsActive v starts begun found → begun < length starts
+    → left_end (segment_at starts begun) ≤ℤ v → right_end (segment_at starts begun) ≤ℤ v → IsActive v starts (begun + 1) found
+active_past v starts begun found a short begins ends = record {
+  within = omega arith;
+  ordered = a.ordered;
+  into = λ n c. let l = a.into n c in omega (arith, l);
+  back = λ n l e. back n l e (cases_order n begun);
+  left = λ n l. left n l (cases_order n begun);
+}
+  where
+    back : (n : ℕ) → n < begun + 1 → crossed_at v starts n ≡ true → (n ≡ begun) ⊎ ((n < begun) ⊎ (begun < n)) → Contains found n
+    back n l e (inl same) =
+        let after = (ends_from_crossed v (segment_at starts begun) (subst (λ m. crossed_at v starts m ≡ true) same e)).1 in
+        absurd (omega (arith, ints, after, ends))
+    back n l e (inr (inl less)) = a.back n less e
+    back n l e (inr (inr more)) = absurd (omega (arith, l, more))
+
+    left : (n : ℕ) → n < begun + 1 → (n ≡ begun) ⊎ ((n < begun) ⊎ (begun < n)) → left_end (segment_at starts n) ≤ℤ v
+    left n l (inl e) = subst (λ m. left_end (segment_at starts m) ≤ℤ v) (sym e) begins
+    left n l (inr (inl less)) = a.left n less
+    left n l (inr (inr more)) = absurd (omega (arith, l, more))
+
 -- ---- the stack of a line
 
 -- where all others begin later, all that cross the line are there

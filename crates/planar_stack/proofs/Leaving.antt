@@ -13,7 +13,7 @@ use Rattle.lemmas.proofs.Sorting.{filter-is_sorted, AllPairs-permutation}
 use Rattle.lemmas.proofs.Members.{in_tail, in_cases, All-from_drop, All-from_members, Contains-filter, Contains-from_filter}
 use Rattle.tgap_model.specs.declared.segment.LabelledSegment.{LabelledSegment}
 use Rattle.planar_stack.specs.declared.events.End.{End}
-use Rattle.planar_stack.specs.Sweep.{left_end, right_end, AreReady, no_segment, segment_at, sides_at, crossed_at, stays_at, IsOrdered, IsActive, end_of, AreEnds, HaveEnded, AreLeft, AreTouched}
+use Rattle.planar_stack.specs.Sweep.{left_end, right_end, AreReady, no_segment, segment_at, sides_at, crossed_at, stays_at, IsOrdered, IsActive, end_of, AreEnds, EndInOrder, HaveEnded, AreLeft, AreTouched}
 use Rattle.tgap_model.specs.Partition.{agree_from}
 use Rattle.planar_stack.proofs.Seams.{covered_from_agree}
 use Rattle.planar_stack.proofs.Ends.{crossed_from_ends, ends_from_crossed}
@@ -98,6 +98,13 @@ module _ (starts : List LabelledSegment) (ends : List End) (r : AreEnds starts e
           by (inl q) = absurd (late (omega (arith, q)))
           by (inr (inl less)) = a.back e.number less (crossed_from_ends u s (a.left e.number less) (subst (λ (z : ℤ). u <ℤ z) at_end after))
           by (inr (inr more)) = absurd (late (omega (arith, more)))
+
+-- where the next of some ends in order is beyond an abscissa, so are all others
+pub later_ends : (ends : List End) → EndInOrder ends → (v : ℤ) (gone : ℕ) (e : End) → v <ℤ (get_or ends gone e).abscissa → All (λ f. v <ℤ f.abscissa) (drop gone ends)
+later_ends ends up v gone e h k d short =
+    let inside : gone + k < length ends = omega (arith, length-drop gone ends) in
+    let here = subst (λ f. v <ℤ f.abscissa) (get_or_default ends gone e d (omega arith)) h in
+    subst (λ f. v <ℤ f.abscissa) (sym (get_or-drop gone ends k d)) (lt_le_trans here (up gone (gone + k) d (omega arith) inside))
 
 -- where all have ended none is left
 pub none_later : (v : ℤ) (ends : List End) (gone : ℕ) → length ends ≤ gone → All (λ f. v <ℤ f.abscissa) (drop gone ends)

@@ -9,3 +9,4 @@ pub mod Active
 pub mod Leaving
 pub mod Swept
 pub mod Evidence
+pub mod Joining

@@ -1,44 +1,32 @@
--- The sweep from line to line: what it keeps, each step, and what it has found at its end.
-use Rattle.std.proofs.Common.{◌≡◌, ⊎_elim, inl, inr, ℕ, zero, suc, ◌+◌, ◌-◌, ◌<◌, ◌≤◌, true, false, List, [], ◌∷◌, length, map, take, drop, filter, get_or, All, AllPairs, Contains, ℤ, pos, ◌<ℤ◌, ◌≤ℤ◌, int_lt, Option, Some, None, Result, Ok, IfOk, refl, sym, ap, ◌∙◌, subst, arith}
+-- The starts and the lines of a sweep, and what its answer says of the map.
+use Rattle.std.proofs.Common.{◌≡◌, ⊎_elim, inl, inr, ℕ, zero, suc, ◌+◌, ◌<◌, ◌≤◌, true, false, List, [], ◌∷◌, length, map, take, drop, filter, get_or, All, AllPairs, Contains, ℤ, pos, ◌<ℤ◌, ◌≤ℤ◌, int_lt, Option, Some, None, Result, Ok, IfOk, refl, sym, ap, ◌∙◌, subst, arith}
 use Rattle.std.specs.Option.{option_map, is_some}
 use Rattle.std.proofs.lemmas.Result.{IfOk-at_ok, IfOk-weaker}
-use Rattle.std.proofs.lemmas.Bool.{cond_both}
+use Rattle.std.proofs.lemmas.Int.{ints}
+use Rattle.std.proofs.lemmas.Bool.{cond_both, cases_lt}
 use Rattle.std.proofs.lemmas.Simd.{map-map}
-use Rattle.std.proofs.lemmas.List.{length-map, drop_more, get_or-drop, get_or_default, length-drop}
-use Rattle.std.proofs.lemmas.List.Elements.{All-nil, All-cons, All-head, All-tail, All-more, All-contains, All-contains_itself, All-filter, All-weaker, filter_passes}
+use Rattle.std.proofs.lemmas.List.{length-map, get_or-drop, get_or_default, length-drop}
+use Rattle.std.proofs.lemmas.List.Elements.{All-nil, All-cons, All-head, All-tail, All-contains, All-contains_itself, All-filter, All-weaker, filter_passes}
 use Rattle.std.proofs.lemmas.List.Kept.{AllPairs-filter}
 use Rattle.std.proofs.lemmas.List.Sorted.{All-permutation, Contains-permutation, IsPermutation-sym, length_permutation}
-use Rattle.lemmas.proofs.Signs.{le_lt_trans, apart_from_lt}
 use Rattle.lemmas.specs.Sorting.{is_sorted_by}
 use Rattle.lemmas.proofs.Sorting.{AllPairs-permutation, length-sort_by}
 use Rattle.tgap_model.specs.declared.segment.LabelledSegment.{LabelledSegment}
 use Rattle.tgap_model.specs.declared.fault.MapFault.{MapFault}
 use Rattle.tgap_model.specs.Segment.{line_after}
-use Rattle.tgap_model.specs.Partition.{AreApart, sides, stack, agree_from, stack_fault_from, stack_fault, first_fault, abscissas, all_but_last}
+use Rattle.tgap_model.specs.Partition.{AreApart, sides, stack, stack_fault_from, stack_fault, first_fault, abscissas, all_but_last}
 use Rattle.tgap_model.specs.declared.failure.Memory.{Memory}
-use Rattle.tgap_model.proofs.FirstFault.{none_from_faults}
 use Rattle.planar_stack.specs.declared.gap.StackGap.{StackGap}
 use Rattle.tgap_model.specs.Bounds.{HasNearEnds}
-use Rattle.planar_stack.specs.Sweep.{FacesAgree, disagrees, first_stack_fault, EitherApart, is_slanted, left_end, right_end, crossed_after, higher_after, AreStarts, AreReady, no_segment, segment_at, sides_at, stays_at, IsActive, end_of, AreEnds, HaveEnded, AreLeft}
+use Rattle.planar_stack.specs.Sweep.{FacesAgree, disagrees, first_stack_fault, EitherApart, is_slanted, left_end, right_end, crossed_after, higher_after, AreStarts, AreReady, segment_at, sides_at, IsActive}
 use Rattle.std.proofs.lemmas.List.Sums.{length-filter, count_by-le-length}
-use Rattle.lemmas.proofs.Members.{in_cases, All-from_members, Contains-from_filter}
-use Rattle.lemmas.proofs.Ascending.{distinct_by-is_sorted, ascending, from_place}
-use Rattle.planar_stack.proofs.Slabs.{BothEnds, ends_from_abscissas, end_abscissas, agree_from_no_fault, agree_from_faults, no_faults_from_agree}
+use Rattle.lemmas.proofs.Members.{Contains-from_filter}
+use Rattle.lemmas.proofs.Ascending.{distinct_by-is_sorted, ascending}
+use Rattle.planar_stack.proofs.Slabs.{BothEnds, ends_from_abscissas, end_abscissas, agree_from_faults, no_faults_from_agree}
 use Rattle.tgap_model.specs.Evidence.{IsFirstStackGap}
 use Rattle.planar_stack.proofs.Evidence.{first_stack_gap}
 use Rattle.planar_stack.proofs.Ends.{ends_from_slanted}
-use Rattle.planar_stack.proofs.Active.{active_none, active_out, stack_from_active}
-use Rattle.planar_stack.proofs.Leaving.{ends_real, left_from_active}
-use Rattle.planar_stack.specs.declared.events.End.{End}
-
--- Before line i: the stack is that of the line before, and its faces agree; the first ends are those up to that line; all other starts
--- begin at line i or after it; and no line before has a fault.
-pub record IsSwept (segments : List LabelledSegment) (lines : List ℤ) (starts : List LabelledSegment) (ends : List End) (i next ended : ℕ) (found : List ℕ) : Type 0 where
-  pub active : IsActive (get_or lines (i - 2) (pos 0)) starts next found
-  pub agree : agree_from 0 (map (sides_at starts) found) ≡ true
-  pub past : HaveEnded (get_or lines (i - 2) (pos 0)) ends ended
-  pub later : All (λ s. Contains (drop (i - 1) lines) (left_end s)) (drop next starts)
-  pub sound : All (λ v. stack_fault segments v ≡ None) (take (i - 1) lines)
+use Rattle.planar_stack.proofs.Active.{stack_from_active}
 
 -- ---- the starts
 
@@ -69,35 +57,11 @@ stack_is_short segments v = omega (arith, length-sort_by (higher_after v) (filte
 -- ---- the steps
 
 module _ (segments : List LabelledSegment) (lines : List ℤ) (starts : List LabelledSegment) (apart : AllPairs AreApart segments) (all : lines ≡ abscissas segments) (r : AreStarts segments starts) where
-  sorted_lines : is_sorted_by int_lt lines ≡ true
+  pub sorted_lines : is_sorted_by int_lt lines ≡ true
   sorted_lines = subst (λ xs. is_sorted_by int_lt xs ≡ true) (sym all) (distinct_by-is_sorted int_lt (end_abscissas segments))
 
-  start_is_segment : (s : LabelledSegment) → Contains starts s → Contains segments s
+  pub start_is_segment : (s : LabelledSegment) → Contains starts s → Contains segments s
   start_is_segment s c = (Contains-from_filter is_slanted segments s (Contains-permutation starts (filter is_slanted segments) s (IsPermutation-sym (filter is_slanted segments) starts r.moved) c)).0
-
-  -- no segment begins before the first line
-  begins_after_first : (s : LabelledSegment) → Contains starts s → get_or lines 0 (pos 0) ≤ℤ left_end s
-  begins_after_first s c =
-      let at_line = subst (λ xs. Contains xs (left_end s)) (sym all) (begins_at_abscissa segments s (start_is_segment s c)) in
-      from_place lines sorted_lines 0 (pos 0) (left_end s) (omega (arith, at_line.1)) at_line
-
-  pub swept_start : (ends : List End) → AreReady starts → AreEnds starts ends → IsSwept segments lines starts ends 1 0 0 []
-  swept_start ends ready at_ends = record {
-    active = active_none (get_or lines (1 - 2) (pos 0)) starts;
-    agree = refl;
-    past = record {
-      within = omega arith;
-      past = All-nil (λ e. e.abscissa ≤ℤ get_or lines 0 (pos 0));
-      ahead = All-weaker (λ e. (e.number < length starts) × (e ≡ end_of starts e.number)) (λ e. get_or lines 0 (pos 0) <ℤ e.abscissa) beyond ends (ends_real starts ends at_ends);
-    };
-    later = All-from_members (λ s. Contains (drop (1 - 1) lines) (left_end s)) starts (λ s c. subst (λ xs. Contains xs (left_end s)) (sym all) (begins_at_abscissa segments s (start_is_segment s c)));
-    sound = All-nil (λ v. stack_fault segments v ≡ None);
-  }
-    where
-      beyond : (e : End) → (e.number < length starts) × (e ≡ end_of starts e.number) → get_or lines 0 (pos 0) <ℤ e.abscissa
-      beyond e (short, same) =
-          let s = segment_at starts e.number in
-          subst (λ (z : ℤ). get_or lines 0 (pos 0) <ℤ z) (sym (ap (λ f. f.abscissa) same)) (le_lt_trans (begins_after_first s (e.number, short, get_or_default starts e.number s no_segment short)) (ready.slanted e.number no_segment short))
 
   -- the fault of a line is that of its stack
   module _ {v : ℤ} where
@@ -112,69 +76,32 @@ module _ (segments : List LabelledSegment) (lines : List ℤ) (starts : List Lab
         let same = ap length (stack_from_active segments starts begun v after apart r active beyond) in
         omega (arith, same, length-map after (segment_at starts), stack_is_short segments v)
 
-  module _ (ends : List End) (i next ended : ℕ) (found : List ℕ) (v : ℤ) (at_line : get_or lines (i - 1) v ≡ v) (s : IsSwept segments lines starts ends i next ended found) (some : 1 ≤ i) (short : i < length lines) where
-    -- the line before is no later one
-    pub swept_up : get_or lines (i - 2) (pos 0) ≤ℤ v
-    swept_up = subst (λ (z : ℤ). get_or lines (i - 2) (pos 0) ≤ℤ z) (get_or_default lines (i - 1) (pos 0) v (omega arith) ∙ at_line) (ascending lines sorted_lines (i - 2) (i - 1) (pos 0) (omega arith) (omega arith))
+  -- what begins beyond a line begins at the next one or after it
+  pub begins_at_next : (i : ℕ) → i + 1 < length lines → (s : LabelledSegment) → Contains starts s → get_or lines i (pos 0) <ℤ left_end s → get_or lines (i + 1) (pos 0) ≤ℤ left_end s
+  begins_at_next i short s c beyond = by (subst (λ xs. Contains xs (left_end s)) (sym all) (begins_at_abscissa segments s (start_is_segment s c)))
+    where
+      by : Contains lines (left_end s) → get_or lines (i + 1) (pos 0) ≤ℤ left_end s
+      by (k, inside, e) =
+          let here = get_or_default lines k (pos 0) (left_end s) inside ∙ e in
+          elim (cases_lt i k) [
+            | inl less ↦ subst (λ (z : ℤ). get_or lines (i + 1) (pos 0) ≤ℤ z) here (ascending lines sorted_lines (i + 1) k (pos 0) (omega arith) inside)
+            | inr le ↦
+                let before = ascending lines sorted_lines k i (pos 0) le (omega arith) in
+                absurd (omega (arith, ints, before, beyond, here))
+          ]
 
-    -- what has not begun begins at this line or after it
-    swept_later : All (λ t. v ≤ℤ left_end t) (drop next starts)
-    swept_later k e l = subst (λ (z : ℤ). z ≤ℤ left_end (get_or (drop next starts) k e)) at_line (from_place lines sorted_lines (i - 1) v (left_end (get_or (drop next starts) k e)) (omega arith) (s.later k e l))
-
-    -- so the ends up to the line are those of the stack
-    pub swept_left : AreReady starts → AreEnds starts ends → AreLeft v starts ends ended found
-    swept_left ready at_ends = left_from_active starts ends at_ends (get_or lines (i - 2) (pos 0)) v next ended found swept_up ready s.active s.past swept_later
-
-    -- those that end at the line leave
-    pub swept_out : AllPairs EitherApart starts → IsActive v starts next (filter (stays_at v starts) found)
-    swept_out pairs = active_out (get_or lines (i - 2) (pos 0)) v starts next found swept_up pairs s.active
-
-    -- those that are left end after it
-    pub swept_ahead : AreReady starts → All (λ t. v <ℤ right_end t) (drop next starts)
-    swept_ahead ready k e l =
-        let t = get_or (drop next starts) k e in
-        let long : next + k < length starts = omega (arith, length-drop next starts) in
-        let slanted = subst (λ z. left_end z <ℤ right_end z) (sym (get_or-drop next starts k e)) (ready.slanted (next + k) e long) in
-        le_lt_trans (swept_later k e l) slanted
-
-    -- on to the next line
-    pub swept_next : (begun gone : ℕ) (after : List ℕ) → next ≤ begun → IsActive v starts begun after → HaveEnded v ends gone → All (λ t. v <ℤ left_end t) (drop begun starts)
-        → stack_fault segments v ≡ None → IsSwept segments lines starts ends (i + 1) begun gone after
-    swept_next begun gone after further active past beyond sound = record {
-      active =
-          let e : i + 1 - 2 ≡ i - 1 = omega arith in
-          subst (λ (z : ℤ). IsActive z starts begun after) (sym (ap (λ n. get_or lines n (pos 0)) e ∙ get_or_default lines (i - 1) (pos 0) v (omega arith) ∙ at_line)) active;
-      agree = agree_from_no_fault v 0 0 (map (sides_at starts) after) (sym (stack_fault_at begun after active beyond) ∙ sound);
-      past =
-          let e : i + 1 - 2 ≡ i - 1 = omega arith in
-          subst (λ (z : ℤ). HaveEnded z ends gone) (sym (ap (λ n. get_or lines n (pos 0)) e ∙ get_or_default lines (i - 1) (pos 0) v (omega arith) ∙ at_line)) past;
-      later = let e : i + 1 - 1 ≡ i = omega arith in All-from_members (λ t. Contains (drop (i + 1 - 1) lines) (left_end t)) (drop begun starts) (λ t c. subst (λ n. Contains (drop n lines) (left_end t)) (sym e) (beyond_line t c));
-      sound =
-          let e : i - 1 + 1 ≡ i + 1 - 1 = omega arith in
-          subst (λ n. All (λ z. stack_fault segments z ≡ None) (take n lines)) e
-          (All-more (λ z. stack_fault segments z ≡ None) lines (i - 1) v (omega arith) s.sound (subst (λ (z : ℤ). stack_fault segments z ≡ None) (sym at_line) sound));
-    }
-      where
-        -- what has not begun now had not begun before
-        older : (t : LabelledSegment) → Contains (drop begun starts) t → Contains (drop next starts) t
-        older t (k, l, e) =
-            let place : next + (begun - next + k) ≡ begun + k = omega arith in (
-              begun - next + k,
-              omega (arith, l, length-drop begun starts, length-drop next starts),
-              get_or-drop next starts (begun - next + k) t ∙ ap (λ n. get_or starts n t) place ∙ sym (get_or-drop begun starts k t) ∙ e,
-            )
-
-        beyond_line : (t : LabelledSegment) → Contains (drop begun starts) t → Contains (drop i lines) (left_end t)
-        beyond_line t c =
-            let e : i - 1 + 1 ≡ i = omega arith in
-            let here = subst (λ xs. Contains xs (left_end t)) (drop_more lines (i - 1) v (omega arith)) (All-contains (λ u. Contains (drop (i - 1) lines) (left_end u)) (drop next starts) t s.later (older t c)) in
-            ⊎_elim (λ same. absurd (apart_from_lt (All-contains (λ u. v <ℤ left_end u) (drop begun starts) t beyond c) (sym at_line ∙ same)))
-            (λ k. subst (λ n. Contains (drop n lines) (left_end t)) e k) (in_cases (get_or lines (i - 1) v) (drop (i - 1 + 1) lines) (left_end t) here)
+  -- so do all that have not begun
+  pub later_at_next : (i begun : ℕ) → i + 1 < length lines → All (λ s. get_or lines i (pos 0) <ℤ left_end s) (drop begun starts) → All (λ s. get_or lines (i + 1) (pos 0) ≤ℤ left_end s) (drop begun starts)
+  later_at_next i begun short later k d lt =
+      let s = get_or (drop begun starts) k d in
+      begins_at_next i short s
+      (begun + k, omega (arith, lt, length-drop begun starts), sym (get_or-drop begun starts k s) ∙ get_or_default (drop begun starts) k s d lt)
+      (later k d lt)
 
 -- ---- the end
 
 -- the first fault is at a place whose front has none
-first_fault_at : {A : Type 0} (find : A → Option MapFault) (xs : List A) (n : ℕ) (d : A) (fault : MapFault) → n + 1 < length xs → All (λ x. find x ≡ None) (take n xs) → find (get_or xs n d) ≡ Some fault
+pub first_fault_at : {A : Type 0} (find : A → Option MapFault) (xs : List A) (n : ℕ) (d : A) (fault : MapFault) → n + 1 < length xs → All (λ x. find x ≡ None) (take n xs) → find (get_or xs n d) ≡ Some fault
     → first_fault find (all_but_last xs) ≡ Some fault
 first_fault_at find [] n d fault short none here = absurd (omega arith)
 first_fault_at find (x ∷ []) n d fault short none here = absurd (omega arith)
@@ -184,23 +111,12 @@ first_fault_at find (x ∷ y ∷ ys) (suc n) d fault short none here =
     ∙ first_fault_at find (y ∷ ys) n d fault (omega arith) (All-tail (λ z. find z ≡ None) x (take n (y ∷ ys)) none) here
 
 -- all but the last, by their places
-all_but_last-All : {A : Type 0} (P : A → Type 0) (xs : List A) (n : ℕ) → length xs ≤ n + 1 → All P (take n xs) → All P (all_but_last xs)
+pub all_but_last-All : {A : Type 0} (P : A → Type 0) (xs : List A) (n : ℕ) → length xs ≤ n + 1 → All P (take n xs) → All P (all_but_last xs)
 all_but_last-All P [] n short h = All-nil P
 all_but_last-All P (x ∷ []) n short h = All-nil P
 all_but_last-All P (x ∷ y ∷ ys) zero short h = absurd (omega arith)
 all_but_last-All P (x ∷ y ∷ ys) (suc n) short h =
     All-cons P x (all_but_last (y ∷ ys)) (All-head P x (take n (y ∷ ys)) h) (all_but_last-All P (y ∷ ys) n (omega arith) (All-tail P x (take n (y ∷ ys)) h))
-
-pub swept_end : (segments : List LabelledSegment) (lines : List ℤ) (starts : List LabelledSegment) (ends : List End) (i next ended : ℕ) (found : List ℕ) → IsSwept segments lines starts ends i next ended found → 1 ≤ i → length lines ≤ i
-    → first_fault (stack_fault segments) (all_but_last lines) ≡ None
-swept_end segments lines starts ends i next ended found s some le =
-    none_from_faults (stack_fault segments) (all_but_last lines) (all_but_last-All (λ v. stack_fault segments v ≡ None) lines (i - 1) (omega arith) s.sound)
-
-pub swept_found : (segments : List LabelledSegment) (lines : List ℤ) (starts : List LabelledSegment) (ends : List End) (i next ended : ℕ) (found : List ℕ) (v : ℤ) (gap : Option StackGap) → get_or lines (i - 1) v ≡ v
-    → IsSwept segments lines starts ends i next ended found → 1 ≤ i → i < length lines → is_some gap ≡ true → option_map disagrees gap ≡ stack_fault segments v → option_map disagrees gap ≡ first_fault (stack_fault segments) (all_but_last lines)
-swept_found segments lines starts ends i next ended found v None at_line s some short e here = absurd cc
-swept_found segments lines starts ends i next ended found v (Some g) at_line s some short e here =
-    sym (first_fault_at (stack_fault segments) lines (i - 1) v (disagrees g) (omega arith) s.sound (ap (stack_fault segments) at_line ∙ sym here))
 
 -- a gap that is none is no fault
 pub no_gap : (gap : Option StackGap) (fault : Option MapFault) → is_some gap ≡ false → option_map disagrees gap ≡ fault → fault ≡ None

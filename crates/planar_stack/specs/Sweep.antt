@@ -133,10 +133,14 @@ pub record IsActive (v : ℤ) (starts : List LabelledSegment) (begun : ℕ) (fou
 abbrev pub end_of : List LabelledSegment → ℕ → End
 end_of starts n = record { abscissa = right_end (segment_at starts n); number = n }
 
+-- the ends stand in the order of their abscissas
+abbrev pub EndInOrder : List End → Type 0
+EndInOrder ends = (i j : ℕ) (d : End) → i ≤ j → j < length ends → (get_or ends i d).abscissa ≤ℤ (get_or ends j d).abscissa
+
 -- The ends of these starts, each once, in the order of their abscissas.
 pub record AreEnds (starts : List LabelledSegment) (ends : List End) : Type 0 where
   pub moved : IsPermutation (map (end_of starts) (range_with_len 0 (length starts))) ends
-  pub ascend : (i j : ℕ) (d : End) → i ≤ j → j < length ends → (get_or ends i d).abscissa ≤ℤ (get_or ends j d).abscissa
+  pub ascend : EndInOrder ends
 
 -- The first ends are those up to an abscissa.
 pub record HaveEnded (v : ℤ) (ends : List End) (ended : ℕ) : Type 0 where

@@ -1,6 +1,6 @@
 //! Whether the faces of a base map agree down each vertical line: a line sweeps the map from left to right and keeps
 //! the segments that it crosses in the order of their heights. It stands on `tgap_model`, whose `Partition` defines the
-//! property, and on `grid_geo`, which compares heights.
+//! property, on `grid_geo`, which compares heights, and on `rayon`, which shares the lines among threads.
 #![tactic(auto)]
 
 ghost use Rattle.std.specs.Prelude.{◌≡◌, AllPairs, IfOk, Ok, Some, None};
@@ -11,12 +11,14 @@ ghost use Rattle.planar_stack.specs.Sweep.{FacesAgree, disagrees};
 
 mod events;
 mod gap;
+mod parts;
 mod sweep;
 
 pub use gap::StackGap;
+use parts::first_gap;
 use std::alloc::Global;
 use std::thread::Threads;
-use sweep::{first_gap, segments_of};
+use sweep::segments_of;
 use tgap_model::{Base, Memory};
 
 /// The first stack of a base map that disagrees, or None where the faces agree down each vertical line between whole
@@ -27,9 +29,10 @@ use tgap_model::{Base, Memory};
 /// have to be apart: where two of them meet, they have no order of heights. On each line it looks only at the places
 /// where a segment came or went, so the cost is that of sorting the segments, and for each of them a few searches, each
 /// the logarithm of the height of its stack, and two moves of the numbers below its place. It fails on want of memory
-/// alone. The threads of `rt` have no use yet. The sweep is that of Shamos and Hoey, 1976.
+/// alone. Where there are many segments, the lines are cut into a part for each processor, and the parts are swept side
+/// by side, each from the stack of its first line. The sweep is that of Shamos and Hoey, 1976.
 pub fn first_disagreement<R: Threads + Sync>(
-    _rt: &R,
+    rt: &R,
     alloc: Global,
     base: &Base,
 ) -> Result<Option<StackGap>, Memory>
@@ -44,5 +47,5 @@ pub fn first_disagreement<R: Threads + Sync>(
     ensures only { IfOk result (λ found. FacesAgree (base_segments base.now) → found ≡ None) }
 {
     let segments = segments_of(alloc, base)?;
-    first_gap(alloc, segments.into_vec())
+    first_gap(rt, alloc, segments.into_vec())
 }

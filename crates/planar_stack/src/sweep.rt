@@ -1,16 +1,17 @@
 //! The sweep: from abscissa to abscissa the segments that end there leave the stack, and those that begin there come
 //! in.
 
-ghost use Rattle.std.specs.Prelude.{◌≡◌, ℕ, ◌<◌, ◌≤◌, ◌<ℤ◌, ◌≤ℤ◌, ◌^◌, ◌==◌, ◌++◌, ◌∷◌, [], List, length, map, take, drop, filter, not, AllPairs, Contains, IfOk, IsTrue};
+ghost use Rattle.std.specs.Prelude.{◌≡◌, ℕ, ◌<◌, ◌≤◌, ◌<ℤ◌, ◌≤ℤ◌, ◌+◌, ◌^◌, ◌==◌, ◌++◌, ◌∷◌, [], List, length, map, take, drop, filter, not, Contains, IfOk, IsTrue};
 ghost use Rattle.std.specs.List.{All};
 ghost use Rattle.std.specs.Option.{option_map};
 ghost use Rattle.lemmas.specs.Sorting.{insert_by};
 ghost use Rattle.tgap_model.specs.Bounds.{HasNearEnds};
-ghost use Rattle.tgap_model.specs.Partition.{AreApart, base_segments, stack_fault_from};
+ghost use Rattle.tgap_model.specs.Partition.{base_segments, stack_fault_from, agree_from};
 ghost use Rattle.tgap_model.specs.declared.limits.TheConstants.{MAX_POINTS};
-ghost use Rattle.planar_stack.specs.Sweep.{disagrees, left_end as left_of, right_end as right_of, segment_at, sides_at, crossed_at, higher_at, stays_at, AreReady, AreEnds, IsOrdered, IsPlace, IsActive, HaveEnded, AreLeft, AreTouched, IsFirstOf, first_stack_fault};
+ghost use Rattle.planar_stack.specs.Sweep.{disagrees, left_end as left_of, right_end as right_of, segment_at, sides_at, crossed_at, higher_at, stays_at, AreReady, AreEnds, EndInOrder, IsOrdered, IsPlace, IsActive, HaveEnded, AreLeft, AreTouched, IsFirstOf};
+ghost use Rattle.planar_stack.specs.Parts.{IsReached};
 
-use crate::events::{End, abscissas_of, ends_of, left_end, right_end, starts_of};
+use crate::events::{End, left_end, right_end};
 use crate::gap::{StackGap, gap_at};
 use grid_geo::cmp_on_line;
 use std::alloc::Global;
@@ -131,8 +132,30 @@ fn remove_ended(
     Ok(gone)
 }
 
-/// Puts the segments that begin at an abscissa into the stack, where the first `next` starts have begun before. It
-/// gives how many have begun then.
+/// Puts a segment that has begun into the stack, where the line one half beyond the abscissa crosses it.
+fn bring_in(
+    starts: &[LabelledSegment],
+    stack: &mut Vec<u32>,
+    touched: &mut Vec<u32>,
+    number: u32,
+    line: i64,
+) -> Result<(), Memory>
+    requires ready { AreReady starts.now }
+    requires active { IsActive line starts.now number stack.old.items }
+    requires known { number < length starts.now }
+    requires begins { left_of (segment_at starts.now number) ≤ℤ line }
+    requires touched { AreTouched line starts.now stack.old.items touched.old.items }
+    ensures active { IfOk result (λ _. IsActive line starts.now (number + 1) stack.new.items) }
+    ensures touched { IfOk result (λ _. AreTouched line starts.now stack.new.items touched.new.items) }
+{
+    if right_end(&starts[number as usize]) <= line {
+        return Ok(());
+    }
+    put_in(starts, stack, touched, number, line)
+}
+
+/// Puts the segments that begin up to an abscissa and end beyond it into the stack, where the first `next` starts have
+/// begun before. It gives how many have begun then.
 fn insert_begun(
     starts: &[LabelledSegment],
     next: usize,
@@ -143,16 +166,14 @@ fn insert_begun(
     requires ready { AreReady starts.now }
     requires few { length starts.now < 2 ^ 32 }
     requires active { IsActive line starts.now next stack.old.items }
-    requires ahead { All (λ s. line <ℤ right_of s) (drop next starts.now) }
     requires touched { AreTouched line starts.now stack.old.items touched.old.items }
     ensures active { IfOk result (λ begun. IsActive line starts.now begun stack.new.items) }
-    ensures begun { IfOk result (λ begun. next ≤ begun) }
     ensures later { IfOk result (λ begun. All (λ s. line <ℤ left_of s) (drop begun starts.now)) }
     ensures touched { IfOk result (λ _. AreTouched line starts.now stack.new.items touched.new.items) }
 {
     let mut begun = next;
     while begun < starts.len() && left_end(&starts[begun]) <= line {
-        put_in(starts, stack, touched, begun as u32, line)?;
+        bring_in(starts, stack, touched, begun as u32, line)?;
         begun += 1;
     }
     Ok(begun)
@@ -188,7 +209,7 @@ fn higher_gap(
 }
 
 /// The first gap of a stack, where only above touched segments the faces may disagree.
-fn touched_gap(
+pub fn touched_gap(
     starts: &[LabelledSegment],
     stack: &[u32],
     touched: &[u32],
@@ -208,38 +229,86 @@ fn touched_gap(
     gap_at(starts, stack, place, line)
 }
 
-/// The first gap of all stacks, from left to right.
-pub fn first_gap(alloc: Global, segments: Vec<LabelledSegment>) -> Result<Option<StackGap>, Memory>
-    requires apart { AllPairs AreApart segments.items }
-    requires near { All (λ s. HasNearEnds s.segment) segments.items }
-    requires few { length segments.items ≤ MAX_POINTS }
-    ensures { IfOk result (λ found. option_map disagrees found ≡ first_stack_fault segments.items) }
+/// How many of the ends are those up to an abscissa.
+fn ended_by(ends: &[End], line: i64) -> usize
+    requires { EndInOrder ends.now }
+    ensures { HaveEnded line ends.now result }
 {
-    let lines = abscissas_of(alloc, &segments)?;
-    let starts = starts_of(segments);
-    let ends = ends_of(alloc, &starts)?;
-    let mut stack = Vec::new(alloc);
-    let mut touched = Vec::new(alloc);
-    let mut next = 0;
     let mut ended = 0;
-    for i in 1..lines.len() {
-        let before = lines[i.saturating_sub(2)];
-        let line = lines[i - 1];
-        touched.clear();
-        ended = remove_ended(
-            &starts,
-            &ends,
-            ended,
-            &mut stack,
-            &mut touched,
-            before,
-            line,
-        )?;
-        next = insert_begun(&starts, next, &mut stack, &mut touched, line)?;
-        let gap = touched_gap(&starts, &stack, &touched, line);
-        if gap.is_some() {
-            return Ok(gap);
-        }
+    while ended < ends.len() && ends[ended].abscissa <= line {
+        ended += 1;
     }
-    Ok(None)
+    ended
+}
+
+/// The stack of the line one half beyond an abscissa, the segments above which the faces may disagree there, and how many
+/// of the starts have begun and of the ends have passed.
+#[derive(Debug, Drop)]
+pub struct Sweep {
+    pub stack: Vec<u32>,
+    pub touched: Vec<u32>,
+    pub begun: usize,
+    pub ended: usize,
+}
+
+impl Sweep {
+    /// The sweep at an abscissa, of which all segments of the stack are touched.
+    pub fn at(
+        alloc: Global,
+        starts: &[LabelledSegment],
+        ends: &[End],
+        line: i64,
+    ) -> Result<Sweep, Memory>
+        requires ready { AreReady starts.now }
+        requires few { length starts.now < 2 ^ 32 }
+        requires ends { AreEnds starts.now ends.now }
+        ensures { IfOk result (IsReached line starts.now ends.now) }
+    {
+        let mut stack = Vec::new(alloc);
+        let mut touched = Vec::new(alloc);
+        let begun = insert_begun(starts, 0, &mut stack, &mut touched, line)?;
+        Ok(Sweep {
+            stack,
+            touched,
+            begun,
+            ended: ended_by(ends, line),
+        })
+    }
+
+    /// From an abscissa, where the faces agree, to a later one, where no segment begins or ends between them.
+    pub fn advance(
+        &mut self,
+        starts: &[LabelledSegment],
+        ends: &[End],
+        line: i64,
+        after: i64,
+    ) -> Result<(), Memory>
+        requires ready { AreReady starts.now }
+        requires few { length starts.now < 2 ^ 32 }
+        requires ends { AreEnds starts.now ends.now }
+        requires reached { IsReached line starts.now ends.now self.old }
+        requires agree { IsTrue (agree_from 0 (map (sides_at starts.now) self.old.stack.items)) }
+        requires up { line ≤ℤ after }
+        requires none { All (λ s. after ≤ℤ left_of s) (drop self.old.begun starts.now) }
+        ensures { IfOk result (λ _. IsReached after starts.now ends.now self.new) }
+    {
+        self.touched.clear();
+        self.ended = remove_ended(
+            starts,
+            ends,
+            self.ended,
+            &mut self.stack,
+            &mut self.touched,
+            line,
+            after,
+        )?;
+        self.begun = insert_begun(
+            starts,
+            self.begun,
+            &mut self.stack,
+            &mut self.touched,
+            after,
+        )?;
+        Ok(())
+    }
 }

@@ -1,5 +1,5 @@
 -- The stack is that of the segments that have begun so far.
-use Rattle.std.proofs.Common.{◌≤◌, ◌-◌, length}
+use Rattle.std.proofs.Common.{◌-◌, length}
 use Rattle.planar_stack.specs.Sweep.{IsActive, AreTouched}
 use Rattle.planar_stack.proofs.sweep.insert_begun.Given as goal
 
@@ -7,7 +7,6 @@ abbrev pub invariant-loop-begun : goal.invariant-loop-begun
 invariant-loop-begun l = record {
   active : IsActive l.line l.starts l.begun l.stack.items;
   touched : AreTouched l.line l.starts l.stack.items l.touched.items;
-  further : l.next ≤ l.begun;
 }
 
 abbrev pub decreases-loop-begun : goal.decreases-loop-begun

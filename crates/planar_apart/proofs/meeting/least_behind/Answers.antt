@@ -1,0 +1,50 @@
+use Rattle.std.proofs.Common.{◌≡◌, ◌+◌, length, get_or, Option, sym, ap, ap₂, ◌∙◌, subst, subst₂, arith}
+use Rattle.std.proofs.lemmas.List.{get_or_default, length-map}
+use Rattle.tgap_model.specs.declared.geometry.Window.{Window}
+use Rattle.grid_index.specs.Near.{IsNextNear}
+use Rattle.planar_apart.specs.declared.meeting.Meeting.{Meeting}
+use Rattle.planar_apart.specs.Meetings.{IsEarlier}
+use Rattle.planar_apart.specs.Rows.{row_box, meeting_of, past_row}
+use Rattle.planar_apart.proofs.Near.{passed}
+use Rattle.planar_apart.proofs.Earlier.{earlier_than_none}
+use Rattle.planar_apart.proofs.RowSearch.{least_of_passed, least_further}
+use Rattle.planar_apart.proofs.meeting.least_behind.Goals.{then-may_meet, else-may_meet}
+use Rattle.planar_apart.proofs.meeting.least_behind.Goals as goal
+
+pub near-init : goal.near-init
+near-init c =
+    let row = c.args.row.now in
+    let boxes = c.args.tree.now in
+    let place = c.args.place in
+    let next = c.next-at.result in
+    let long : length boxes ≡ length row = ap length c.requires.row.boxes_are ∙ length-map row row_box in
+    let near = subst (λ (area : Window). IsNextNear area boxes (place + 1) next) c.box_of-area.ensures c.next-at.ensures in
+    record {
+      behind = omega (arith, near.after);
+      within = omega (arith, near.within, long);
+      so_far = least_of_passed row place next (λ k d. passed row boxes place (place + 1) next past_row c.requires.row c.requires.inside near k d);
+    }
+
+pub near-preserved : goal.near-preserved
+near-preserved c =
+    let row = c.args.row.now in
+    let boxes = c.args.tree.now in
+    let place = c.args.place in
+    let at = c.near.at in
+    let next = c.next-at-in-near.result in
+    let old = c.near.least in
+    let new = c.if-may_meet.least in
+    let long : length boxes ≡ length row = ap length c.requires.row.boxes_are ∙ length-map row row_box in
+    let near = subst (λ (area : Window). IsNextNear area boxes (at + 1) next) c.box_of-area.ensures c.next-at-in-near.ensures in
+    let met = meeting_of (get_or row place past_row) (get_or row at past_row) in
+    let changed : IsEarlier old met new = elim c.if-may_meet.branch [
+      | then-may_meet w ↦ subst₂ (λ (found now : Option Meeting). IsEarlier old found now) w.meeting_of.ensures (sym w.least-is) w.earlier-least.ensures
+      | else-may_meet w ↦ subst₂ (λ (found now : Option Meeting). IsEarlier old found now) (sym (c.may_meet.ensures w.if-may_meet.false)) (sym w.least-is) (earlier_than_none old)
+    ] in
+    record {
+      behind = omega (arith, near.after, c.near.invariant.behind);
+      within = omega (arith, near.within, long);
+      so_far = least_further row place at next old new met c.near.invariant.behind c.near-test.true c.near.invariant.so_far
+          (λ d. ap₂ meeting_of (get_or_default row place past_row d c.requires.inside) (get_or_default row at past_row d c.near-test.true))
+          changed (λ k d. passed row boxes place (at + 1) next past_row c.requires.row c.requires.inside near k d);
+    }
