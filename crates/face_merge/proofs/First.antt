@@ -1,9 +1,8 @@
 -- The first of a list by an order: it is a member, no member stands before it, and one more member is compared with it.
-use Rattle.std.proofs.Common.{◌≡◌, ℕ, Bool, false, List, [], ◌∷◌, ◌++◌, Some, None, refl, ap, subst, cond}
+use Rattle.std.proofs.Common.{◌≡◌, ℕ, Bool, false, List, [], ◌∷◌, Some, None, subst, cond}
 use Rattle.std.specs.List.{AllByRecursion}
 use Rattle.std.proofs.lemmas.Bool.{cond_both}
 use Rattle.tgap_model.specs.History.{first_from, first_by}
-use Rattle.face_merge.specs.Choice.{first_of}
 use Rattle.face_merge.proofs.Order.{IsOrder}
 
 -- what holds of every member holds of the first
@@ -41,13 +40,3 @@ first_by_first before o (f ∷ fs) b e =
 pub first_by_none : (before : ℕ → ℕ → Bool) (P : ℕ → Type 0) (fs : List ℕ) → first_by before fs ≡ None → AllByRecursion P fs
 first_by_none before P [] e = tt
 first_by_none before P (f ∷ fs) e = absurd cc
-
--- one more member, after a first one
-first_from_more : (before : ℕ → ℕ → Bool) (best : ℕ) (fs : List ℕ) (f : ℕ) → first_from before best (fs ++ f ∷ []) ≡ first_of before (Some (first_from before best fs)) f
-first_from_more before best [] f = refl
-first_from_more before best (g ∷ fs) f = first_from_more before (cond (before g best) g best) fs f
-
--- one more member
-pub first_by_more : (before : ℕ → ℕ → Bool) (fs : List ℕ) (f : ℕ) → first_by before (fs ++ f ∷ []) ≡ Some (first_of before (first_by before fs) f)
-first_by_more before [] f = refl
-first_by_more before (g ∷ fs) f = ap Some (first_from_more before g fs f)

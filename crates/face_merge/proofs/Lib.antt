@@ -7,8 +7,16 @@ pub mod Terms
 pub mod Sums
 pub mod Arcs
 pub mod Scan
-pub mod Next
 pub mod Start
 pub mod Loop
 pub mod Relabelled
 pub mod Reached
+pub mod Linked
+pub mod Joined
+pub mod Queued
+pub mod Linking
+pub mod Slots
+pub mod Held
+pub mod Taken
+pub mod Best
+pub mod Begun

@@ -9,7 +9,8 @@ use Rattle.tgap_model.specs.declared.base.Rules.{Rules}
 use Rattle.tgap_model.specs.declared.merge.MergeStep.{MergeStep}
 use Rattle.tgap_model.specs.declared.merge.LabelledArc.{LabelledArc}
 use Rattle.tgap_model.specs.History.{is_between, class_of, relabel_arc, classes_after, IsNextStep, AreSteps, AreNumbered, IsNumberedStep}
-use Rattle.face_merge.specs.Merging.{MergeState, IsLabelled, IsMeasured, IsMerging, after}
+use Rattle.face_merge.specs.Measures.{IsMeasured}
+use Rattle.face_merge.specs.Merging.{MergeState, IsLabelled, IsMerging, after}
 use Rattle.face_merge.proofs.Neighbours.{is_pair, between_labels}
 use Rattle.face_merge.proofs.Steps.{step_less}
 

@@ -78,7 +78,7 @@ pub record IsReached (m : MergeState) (areas : List ℤ) (steps : List MergeStep
   pub next : AreSteps m.rules m.classes m.arcs steps
 
 -- before the first step
-pub reached_begin : (m : BaseMap) (areas : List ℤ) → IsMerging (begin m) → AreAreas (begin m) areas → IsReached (begin m) areas (history_of m)
+pub reached_begin : (m : BaseMap) (areas : List ℤ) → IsMerging (begin m) → AreAreas (length m.classes) (map labelled m.arcs) areas → IsReached (begin m) areas (history_of m)
 reached_begin m areas known is = record {
   known = known;
   count = is.count;

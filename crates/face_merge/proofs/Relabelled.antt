@@ -50,7 +50,7 @@ share_made n l w m g z differ made below = chosen (cases_eq g l) (cases_eq g w)
         omega (arith, ints, share_none z (cond ((g == l) || (g == w)) m g) m other, share_none z g l a, share_none z g w b)
 
 -- a label is any other face after the step where it was this face before
-kept_before : (l w m f g : ℕ) → f ≢ l → f ≢ w → f ≢ m → (cond ((g == l) || (g == w)) m g == f) ≡ (g == f)
+pub kept_before : (l w m f g : ℕ) → f ≢ l → f ≢ w → f ≢ m → (cond ((g == l) || (g == w)) m g == f) ≡ (g == f)
 kept_before l w m f g a b d = grind (arith, nat_tests)
 
 -- ---- one arc

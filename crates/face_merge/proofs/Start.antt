@@ -1,5 +1,5 @@
 -- What a base map gives to its merging: its points are within the limits, its rules have their form, its labels are faces.
-use Rattle.std.proofs.Common.{◌≡◌, ◌<◌, ◌≤◌, ℕ, ◌+◌, ◌*◌, true, length, map, sym, subst, arith}
+use Rattle.std.proofs.Common.{◌≡◌, ◌<◌, ◌≤◌, ℕ, ◌+◌, ◌*◌, true, length, get_or, map, sym, subst, arith}
 use Rattle.std.specs.Prelude.{IsTrue}
 use Rattle.std.specs.List.{All}
 use Rattle.std.proofs.lemmas.Nat.{mul-add-lt}
@@ -14,7 +14,9 @@ use Rattle.tgap_model.specs.Bounds.{IsNear}
 use Rattle.tgap_model.specs.History.{is_shared, labelled, history_of, AreNumbered}
 use Rattle.tgap_model.proofs.BaseFacts.{ArcFacts, rules_facts, base_facts, classes_below, each_arc}
 use Rattle.tgap_model.proofs.Points.{near_point}
-use Rattle.face_merge.specs.Merging.{IsLabelled, IsMeasured, IsMerging, begin}
+use Rattle.face_merge.specs.Measures.{IsMeasured}
+use Rattle.face_merge.specs.Merging.{IsLabelled, IsMerging, begin}
+use Rattle.face_merge.proofs.Terms.{measured_arc}
 use Rattle.face_merge.proofs.Steps.{history_is}
 use Rattle.face_merge.proofs.Numbers.{steps_numbered}
 
@@ -58,15 +60,20 @@ base_labelled m h =
     All-map (IsLabelled (length m.classes)) labelled m.arcs
     (All-weaker (λ a. ArcFacts (length m.classes) a) (λ a. IsLabelled (length m.classes) (labelled a)) (labels_within (length m.classes)) m.arcs (each_arc m (base_facts m h)))
 
+-- the measures fit
+pub base_measured : (m : BaseMap) → IsTrue (is_base m) → All IsMeasured (map labelled m.arcs)
+base_measured m h =
+    All-map IsMeasured labelled m.arcs (λ k d p. measured_arc (get_or m.arcs k d) (base_near m h k d p) (base_short m h k d p))
+
 -- what is known as the merging begins
-pub merging_start : (m : BaseMap) → IsTrue (is_base m) → All IsMeasured (map labelled m.arcs) → IsMerging (begin m)
-merging_start m h measured =
+pub merging_start : (m : BaseMap) → IsTrue (is_base m) → IsMerging (begin m)
+merging_start m h =
     let parts = base_facts m h in
     record {
       rules_hold = parts.rules;
       classed = classes_below m parts;
       labelled = base_labelled m h;
-      measured = measured;
+      measured = base_measured m h;
       few_arcs = omega (arith, parts.few_arcs, length-map m.arcs labelled);
       few_faces = omega (arith, parts.few_faces, parts.few_arcs, length-map m.arcs labelled, count_by-le-length is_shared (map labelled m.arcs));
     }

@@ -36,7 +36,7 @@ second_neighbour P arcs f g ps e =
     neighbours_has P arcs f g ps parts.0 parts.1
 
 -- a step is its three numbers
-same_step : (s t : MergeStep) → s.loser ≡ t.loser → s.winner ≡ t.winner → s.made ≡ t.made → s ≡ t
+pub same_step : (s t : MergeStep) → s.loser ≡ t.loser → s.winner ≡ t.winner → s.made ≡ t.made → s ≡ t
 same_step s t a b d =
     let make : ℕ → ℕ → ℕ → MergeStep = λ (x y z : ℕ). record { loser = x; winner = y; made = z } in
     let e : make s.loser s.winner s.made ≡ make t.loser t.winner t.made = cc in

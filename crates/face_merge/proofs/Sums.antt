@@ -11,8 +11,8 @@ use Rattle.tgap_model.specs.declared.merge.LabelledArc.{LabelledArc}
 use Rattle.tgap_model.specs.declared.limits.TheConstants.{MAX_ARCS}
 use Rattle.tgap_model.specs.Bounds.{max_arc_area, max_area}
 use Rattle.tgap_model.specs.History.{area_part, area_of}
-use Rattle.face_merge.specs.Merging.{IsMeasured}
-use Rattle.face_merge.specs.Choice.{added}
+use Rattle.face_merge.specs.Measures.{IsMeasured}
+use Rattle.face_merge.specs.Areas.{added}
 
 -- ---- how large an area gets
 
@@ -98,7 +98,7 @@ areas_next xs arcs i d f p l r h =
 -- ---- numbers as the code hands them over
 
 -- an area times a weight fits
-weighted_fits : (a : ℤ) (n : ℕ) → unsigned_abs a ≤ max_area → n < 2 ^ 32 → FitsSigned w128 (a *ℤ pos n)
+pub weighted_fits : (a : ℤ) (n : ℕ) → unsigned_abs a ≤ max_area → n < 2 ^ 32 → FitsSigned w128 (a *ℤ pos n)
 weighted_fits a n la ln =
     let size : unsigned_abs (pos n) ≤ 2 ^ 32 = omega (arith, ints) in
     fits_signed_mul w128 a (pos n) max_area (2 ^ 32) la size (omega arith)

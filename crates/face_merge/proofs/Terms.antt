@@ -2,8 +2,14 @@
 use Rattle.std.proofs.Common.{◌≡◌, ◌<◌, ◌≤◌, ℕ, zero, suc, ◌+◌, ◌-◌, ◌*◌, ℤ, pos, ◌+ℤ◌, ◌-ℤ◌, ◌*ℤ◌, unsigned_abs, FitsSigned, to_z, of_z, List, [], ◌∷◌, length, get_or, drop, refl, ◌∙◌, ap, arith}
 use Rattle.std.specs.Int.{w64, w128}
 use Rattle.std.proofs.lemmas.Int.{ints, unsigned_abs-mul}
+use Rattle.std.specs.List.{All, AllByRecursion}
+use Rattle.std.proofs.lemmas.List.Elements.{recursion_from_All}
+use Rattle.tgap_model.specs.declared.base.BaseArc.{BaseArc}
 use Rattle.tgap_model.specs.declared.geometry.Point.{Point}
-use Rattle.tgap_model.specs.Bounds.{max_coordinate, max_product, max_shoelace, max_area}
+use Rattle.tgap_model.specs.declared.limits.TheConstants.{MAX_POINTS}
+use Rattle.tgap_model.specs.History.{labelled}
+use Rattle.face_merge.specs.Measures.{IsMeasured}
+use Rattle.tgap_model.specs.Bounds.{max_coordinate, max_product, max_shoelace, max_length, max_area, IsNear}
 use Rattle.tgap_model.specs.Point.{shoelace, shoelace_term, path_length, segment_length}
 
 -- a coordinate within the limits, as the code hands it over
@@ -112,3 +118,46 @@ shoelace_end xs i s p q h = omega (arith, ints, shoelace_last xs (i - 1) (omega 
 -- the whole length
 pub path_end : (xs : List Point) (i : ℕ) (s : ℕ) → 1 ≤ i → length xs ≤ i → s + path_length (drop (i - 1) xs) ≡ path_length xs → s ≡ path_length xs
 path_end xs i s p q h = omega (arith, path_last xs (i - 1) (omega arith))
+
+-- ---- how large the measures get
+
+-- a shoelace term
+term_size : (a b : Point) → IsNear a → IsNear b → unsigned_abs (shoelace_term a b) ≤ max_shoelace
+term_size a b p q =
+    difference_size (a.x *ℤ b.y) (b.x *ℤ a.y) (product_size a.x b.y (a.x *ℤ b.y) p.x q.y refl) (product_size b.x a.y (b.x *ℤ a.y) q.x p.y refl)
+
+-- the length of a segment
+segment_size : (a b : Point) → IsNear a → IsNear b → segment_length a b ≤ max_length
+segment_size a b p q = bounded a.x a.y b.x b.y p.x p.y q.x q.y
+  where
+    bounded : (ax ay bx by : ℤ) → unsigned_abs ax ≤ max_coordinate → unsigned_abs ay ≤ max_coordinate → unsigned_abs bx ≤ max_coordinate → unsigned_abs by ≤ max_coordinate
+        → unsigned_abs (bx -ℤ ax) + unsigned_abs (by -ℤ ay) ≤ max_length
+    bounded ax ay bx by p q r s = omega (arith, ints)
+
+-- the shoelace sum of a row of points
+shoelace_size : (xs : List Point) → AllByRecursion IsNear xs → unsigned_abs (shoelace xs) ≤ length xs * max_shoelace
+shoelace_size [] near = omega (arith, ints)
+shoelace_size (x ∷ []) near = omega (arith, ints)
+shoelace_size (x ∷ y ∷ xs) near =
+    let here = term_size x y near.0 near.1.0 in
+    let rest = shoelace_size (y ∷ xs) near.1 in
+    let more : unsigned_abs (shoelace_term x y +ℤ shoelace (y ∷ xs)) ≤ max_shoelace + length (y ∷ xs) * max_shoelace =
+    sum_size (shoelace_term x y) (shoelace (y ∷ xs)) max_shoelace (length (y ∷ xs) * max_shoelace) here rest in
+    omega (arith, more)
+
+-- its length
+path_size : (xs : List Point) → AllByRecursion IsNear xs → path_length xs ≤ length xs * max_length
+path_size [] near = omega arith
+path_size (x ∷ []) near = omega arith
+path_size (x ∷ y ∷ xs) near =
+    let here = segment_size x y near.0 near.1.0 in
+    let rest = path_size (y ∷ xs) near.1 in
+    omega (arith, here, rest)
+
+-- the measures of an arc
+pub measured_arc : (a : BaseArc) → All IsNear a.points → length a.points ≤ MAX_POINTS → IsMeasured (labelled a)
+measured_arc a near short =
+    let each = recursion_from_All IsNear a.points near in
+    let area = shoelace_size a.points each in
+    let extent = path_size a.points each in
+    record { area = omega (arith, area); extent = omega (arith, extent) }

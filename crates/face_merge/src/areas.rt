@@ -1,14 +1,44 @@
-//! The areas of the faces that the steps of a history take.
+//! The areas of the faces of a base map, and of those that the steps of a history take.
 
-ghost use Rattle.std.specs.Prelude.{◌≡◌, ◌≤◌, ◌<◌, pos, unsigned_abs, length, slice_index_or, All, IfOk};
+ghost use Rattle.std.specs.Prelude.{◌≡◌, ◌≤◌, ◌<◌, pos, unsigned_abs, length, map, slice_index_or, All, IfOk, IsTrue};
+ghost use Rattle.tgap_model.specs.declared.limits.TheConstants.{MAX_ARCS, MAX_FACES};
+ghost use Rattle.tgap_model.specs.Base.{is_base};
 ghost use Rattle.tgap_model.specs.Bounds.{max_area};
-ghost use Rattle.tgap_model.specs.History.{history_of};
+ghost use Rattle.tgap_model.specs.History.{history_of, labelled};
 ghost use Rattle.tgap_model.specs.Merged.{merged};
-ghost use Rattle.face_merge.specs.Areas.{joined_area, lost_areas};
+ghost use Rattle.face_merge.specs.Areas.{added, joined_area, lost_areas};
+ghost use Rattle.face_merge.specs.Measures.{IsMeasured};
+ghost use Rattle.face_merge.specs.Merging.{AreAreas, IsLabelled};
 
-use crate::merging::Merging;
+use crate::measures::{labelled_arcs, measures_of};
 use std::alloc::Global;
-use tgap_model::{Base, List, Memory, MergeStep};
+use tgap_model::{Base, LabelledArc, List, Memory, MergeStep};
+
+/// Adds a part to the area of a face.
+fn add(areas: &mut Vec<i128>, face: u32, part: i128)
+    requires within { face < length areas.old.items }
+    requires area { unsigned_abs (slice_index_or areas.old.items face (pos 0)) ≤ max_area }
+    requires part { unsigned_abs part ≤ max_area }
+    ensures { areas.new.items ≡ added areas.old.items face part }
+{
+    areas[face as usize] += part;
+}
+
+/// Twice the area of each face, by its number.
+pub fn areas_of(alloc: Global, faces: usize, arcs: &[LabelledArc]) -> Result<Vec<i128>, Memory>
+    requires faces { faces ≤ MAX_FACES }
+    requires labelled { All (IsLabelled faces) arcs.now }
+    requires measured { All IsMeasured arcs.now }
+    requires few { length arcs.now ≤ MAX_ARCS }
+    ensures { IfOk result (λ areas. AreAreas faces arcs.now areas.items) }
+{
+    let mut areas = vec![in alloc; 0i128; faces + 1]?;
+    for arc in arcs {
+        add(&mut areas, arc.left, arc.area);
+        add(&mut areas, arc.right, -arc.area);
+    }
+    Ok(areas)
+}
 
 /// Twice the area of the face that a step makes: that of its loser and that of its winner together.
 fn joined(areas: &[i128], step: &MergeStep) -> i128
@@ -19,6 +49,17 @@ fn joined(areas: &[i128], step: &MergeStep) -> i128
     ensures { result ≡ joined_area areas.now step.now }
 {
     areas[step.loser as usize] + areas[step.winner as usize]
+}
+
+/// Twice the area of each face of a base map, by its number.
+fn base_areas(alloc: Global, base: &Base) -> Result<Vec<i128>, Memory>
+    ensures areas { IfOk result (λ areas. AreAreas (length base.now.classes) (map labelled base.now.arcs) areas.items) }
+    ensures base { IfOk result (λ _. IsTrue (is_base base.now)) }
+{
+    let arcs = base.arcs().as_slice();
+    let measures = measures_of(alloc, arcs)?;
+    let labelled = labelled_arcs(alloc, arcs, measures.as_slice())?;
+    areas_of(alloc, base.classes().len(), &labelled)
 }
 
 /// Twice the area of the face that each step takes, in the order of the steps: of its loser, as that face is just
@@ -32,8 +73,7 @@ pub fn lost_areas(alloc: Global, base: &Base, steps: &[MergeStep]) -> Result<Lis
     ensures exact { IfOk result (λ areas. areas ≡ lost_areas (merged base.now)) }
     ensures small { IfOk result (λ areas. All (λ area. unsigned_abs area ≤ max_area) areas) }
 {
-    let merging = Merging::of(alloc, base)?;
-    let mut areas = merging.areas(alloc)?;
+    let mut areas = base_areas(alloc, base)?;
     let mut lost = List::with_capacity(alloc, steps.len())?;
     for step in steps {
         lost.push(areas[step.loser as usize])?;

@@ -1,120 +1,107 @@
-//! A map while it is merged: the classes of its faces so far, and its arcs with their present labels.
+//! A map while it is merged. Each live face stands in a slot, at first that of its number; a new face takes the slot of
+//! the loser or the winner. So the links of one of the two stay where they are.
 
-ghost use Rattle.std.specs.Prelude.{◌≡◌, ◌<◌, ◌*◌, ◌^◌, map, length, Some, IfOk, OnOk, OnErr, IsTrue};
-ghost use Rattle.tgap_model.specs.Base.{is_base};
-ghost use Rattle.tgap_model.specs.History.{relabel as relabelled, relabel_arc, class_of};
-ghost use Rattle.face_merge.specs.Merging.{IsFace, begin, after, next_of};
+ghost use Rattle.std.specs.Prelude.{◌≡◌, ◌≢◌, ◌≤◌, ◌<◌, ◌*ℤ◌, ◌+ℤ◌, pos, unsigned_abs, length, slice_index, IfOk, MatchOption, None, Some};
+ghost use Rattle.tgap_model.specs.Bounds.{max_area};
+ghost use Rattle.tgap_model.specs.History.{class_of, area_of};
+ghost use Rattle.face_merge.specs.Merging.{importance_of, next_of};
+ghost use Rattle.face_merge.specs.Running.{IsRunning, IsLive, IsNextPair, state_of, number_in};
 
-mod loser;
+mod start;
+mod step;
 mod winner;
 
-use crate::measure::labelled_arcs;
+use crate::links::{Link, Links};
+use crate::queue::Queue;
 use std::alloc::Global;
-use std::marker::Model;
-use tgap_model::{Base, LabelledArc, Memory, MergeStep, Rules};
+use tgap_model::{Base, List, Memory, MergeStep, Rules};
 
-/// A map while it is merged. The class of face f stands at place f - 1.
+/// A map while it is merged, after the steps so far. The class of face f stands at place f - 1; the number of the face
+/// in a slot is 0 where there is none.
 #[derive(Drop)]
 pub struct Merging<'a> {
-    rules: &'a Rules,
+    base: &'a Base,
+    steps: List<MergeStep>,
     classes: Vec<u32>,
-    arcs: Vec<LabelledArc>,
+    numbers: Vec<u32>,
+    areas: Vec<i128>,
+    links: Links,
+    queue: Queue,
 }
 
-impl<'a> Model for Merging<'a> {
-    ghost use Rattle.face_merge.specs.Merging.{MergeState, IsMerging};
-
-    ghost Value = { MergeState };
-
-    ghost view = { λ m. record { rules = m.rules.now; classes = m.classes.items; arcs = m.arcs.items } };
-
-    ghost invariant = { λ m. IsMerging (record { rules = m.rules.now; classes = m.classes.items; arcs = m.arcs.items }) };
+/// A live face.
+#[derive(Clone, Copy)]
+struct Face {
+    number: u32,
+    class: u32,
+    area: i128,
+    importance: i128,
 }
 
-/// The label that a label becomes by a step.
-fn relabel(label: u32, step: MergeStep) -> u32
-    ensures { result ≡ relabelled step label }
+/// Two faces that are to be merged, by their slots, with the links of the loser.
+#[derive(Drop)]
+pub struct Pair {
+    loser: u32,
+    winner: u32,
+    links: Vec<Link>,
+}
+
+/// The importance of a face: twice its area times the weight of its class.
+fn importance(rules: &Rules, class: u32, area: i128) -> i128
+    requires class { class < length rules.now.weights }
+    requires area { unsigned_abs area ≤ max_area }
+    ensures { result ≡ area *ℤ pos (slice_index rules.now.weights class) }
 {
-    if label == step.loser || label == step.winner {
-        step.made
-    } else {
-        label
-    }
-}
-
-/// Gives each arc its labels after a step.
-fn relabel_arcs(arcs: &mut [LabelledArc], step: MergeStep)
-    ensures { arcs.new ≡ map (relabel_arc step) arcs.old }
-{
-    for arc in arcs.iter_mut() {
-        arc.left = relabel(arc.left, step);
-        arc.right = relabel(arc.right, step);
-    }
-}
-
-/// The classes of the faces, with room for the face of each step: there are fewer steps than faces.
-fn classes_with_room(alloc: Global, classes: &[u32]) -> Result<Vec<u32>, Memory>
-    requires { 2 * length classes.now < 2 ^ 32 }
-    ensures { IfOk result (λ found. found.items ≡ classes.now) }
-{
-    let mut found = Vec::with_capacity(alloc, 2 * classes.len())?;
-    found.extend_from_slice(classes)?;
-    Ok(found)
+    area * i128::from(rules.weights.as_slice()[class as usize])
 }
 
 impl<'a> Merging<'a> {
-    /// A base map before its first step.
-    pub fn of(alloc: Global, base: &'a Base) -> Result<Merging<'a>, Memory>
-        ensures value { IfOk result (λ merging. merging ≡ begin base.now) }
-        ensures base { IfOk result (λ _. IsTrue (is_base base.now)) }
+    /// The steps so far.
+    pub fn into_steps(self) -> List<MergeStep>
+        ensures { result ≡ self.entry.steps }
     {
-        let rules = base.rules();
-        let classes = classes_with_room(alloc, base.classes().as_slice())?;
-        let arcs = labelled_arcs(alloc, base.arcs().as_slice())?;
-        Ok(Merging {
-            rules,
-            classes,
-            arcs,
-        })
+        self.steps
     }
 
-    /// The class of a face.
-    fn class(&self, face: u32) -> u32
-        requires { IsFace self.now face }
-        ensures value { result ≡ class_of self.now.classes face }
-        ensures below { result < length self.now.rules.weights }
+    /// The face in a slot.
+    fn face(&self, slot: u32) -> Face
+        requires running { IsRunning self.now }
+        requires live { IsLive self.now slot }
+        ensures number { result.number ≡ number_in self.now slot }
+        ensures class { result.class ≡ class_of (state_of self.now).classes (number_in self.now slot) }
+        ensures below { result.class < length (state_of self.now).rules.weights }
+        ensures area { result.area ≡ area_of (state_of self.now).arcs (number_in self.now slot) }
+        ensures small { unsigned_abs result.area ≤ max_area }
+        ensures importance { result.importance ≡ importance_of (state_of self.now) (number_in self.now slot) }
     {
-        self.classes[face as usize - 1]
+        let number = self.numbers[slot as usize];
+        let class = self.classes[number as usize - 1];
+        let area = self.areas[slot as usize];
+        let importance = importance(self.base.rules(), class, area);
+        Face {
+            number,
+            class,
+            area,
+            importance,
+        }
     }
 
-    /// The next step; none where no two faces are neighbours.
-    pub fn next_step(&self, alloc: Global) -> Result<Option<MergeStep>, Memory>
-        ensures { IfOk result (λ step. step ≡ next_of self.now) }
+    /// The next two faces to be merged; none where no two faces are neighbours.
+    pub fn next_pair(&self, alloc: Global) -> Result<Option<Pair>, Memory>
+        requires { IsRunning self.now }
+        ensures { IfOk result (λ next. MatchOption next (next_of (state_of self.now) ≡ None) (IsNextPair self.now)) }
     {
-        let areas = self.areas(alloc)?;
-        let Some(loser) = self.find_loser(&areas) else {
+        let Some(loser) = self.queue.first() else {
             return Ok(None);
         };
-        let shared = self.shared_lengths(alloc, loser)?;
-        let Some(winner) = self.find_winner(&shared) else {
+        let links = self.links.of(alloc, loser)?;
+        let Some(best) = self.best_link(loser, &links) else {
             return Ok(None);
         };
-        Ok(Some(MergeStep {
+        Ok(Some(Pair {
             loser,
-            winner,
-            made: self.classes.len() as u32 + 1,
+            winner: best.slot,
+            links,
         }))
-    }
-
-    /// Takes the next step: the new face has the class of the winner, and its number where the loser or the winner was.
-    pub fn take_step(&mut self, step: MergeStep) -> Result<(), Memory>
-        requires { next_of self.old ≡ Some step }
-        ensures ok { OnOk result (self.new ≡ after step self.old) }
-        ensures err { OnErr result (self.new ≡ self.old) }
-    {
-        let class = self.class(step.winner);
-        self.classes.push(class)?;
-        relabel_arcs(self.arcs.as_mut_slice(), step);
-        Ok(())
     }
 }

@@ -1,100 +1,67 @@
 //! The winner: the neighbour of the loser that takes it best.
 
-ghost use Rattle.std.specs.Prelude.{◌≡◌, length, IfOk, IfSome};
-ghost use Rattle.face_merge.specs.Merging.{IsFace, AreShared, score_of, is_winner_before, winner_of};
-ghost use Rattle.face_merge.specs.Choice.{neighbour_at, first_of};
+ghost use Rattle.std.specs.Prelude.{◌≡◌, ◌||◌, ◌&&◌, ◌==◌, nat_lt, length, MatchOption, IfSome};
+ghost use Rattle.std.specs.List.{All};
+ghost use Rattle.tgap_model.specs.History.{class_of};
+ghost use Rattle.face_merge.specs.Merging.{score_of};
+ghost use Rattle.face_merge.specs.Running.{IsRunning, IsLive, IsLinkOf, IsBestLink, IsBetterLink, state_of, number_in};
 
-use super::Merging;
-use super::loser::shared;
-use std::alloc::Global;
-use tgap_model::{LabelledArc, Memory};
+use super::{Face, Merging};
+use crate::links::Link;
 
-/// The length that a loser shares with each face, by its number.
-#[derive(Drop)]
-pub struct SharedLengths {
-    loser: u32,
-    lengths: Vec<u64>,
-}
-
-/// The face across the arc from this one; none where the arc is not shared or has this face at neither side.
-fn neighbour(arc: &LabelledArc, face: u32) -> Option<u32>
-    ensures { result ≡ neighbour_at face arc.now }
+/// Whether a face of this score and number wins before another: its score is greater, or the same with the smaller
+/// number.
+fn wins_first(score: u128, number: u32, other_score: u128, other_number: u32) -> bool
+    ensures { result ≡ (nat_lt other_score score || ((score == other_score) && nat_lt number other_number)) }
 {
-    if !shared(arc) {
-        return None;
-    }
-    if arc.left == face {
-        Some(arc.right)
-    } else if arc.right == face {
-        Some(arc.left)
-    } else {
-        None
-    }
+    score > other_score || score == other_score && number < other_number
 }
 
 impl Merging<'_> {
-    /// The length that the loser shares with each face.
-    pub fn shared_lengths(&self, alloc: Global, loser: u32) -> Result<SharedLengths, Memory>
-        requires { IsFace self.now loser }
-        ensures shared { IfOk result (AreShared self.now) }
-        ensures loser { IfOk result (λ shared. shared.loser ≡ loser) }
-    {
-        let faces = self.classes.len();
-        let arcs = self.arcs.as_slice();
-        let mut lengths = vec![in alloc; 0u64; faces + 1]?;
-        for arc in arcs {
-            if arc.left == loser {
-                lengths[arc.right as usize] += arc.extent;
-            } else if arc.right == loser {
-                lengths[arc.left as usize] += arc.extent;
-            }
-        }
-        Ok(SharedLengths { loser, lengths })
-    }
-
     /// The score of a neighbour of the loser: their compatibility, the loser's class first, times the length they share.
-    fn score(&self, shared: &SharedLengths, face: u32) -> u128
-        requires shared { AreShared self.now shared.now }
-        requires face { IsFace self.now face }
-        ensures { result ≡ score_of self.now shared.now.loser face }
+    fn score(&self, loser: Face, link: Link) -> u128
+        requires running { IsRunning self.now }
+        requires loser { loser.class ≡ class_of (state_of self.now).classes loser.number }
+        requires link { IsLinkOf self.now loser.number link }
+        ensures { result ≡ score_of (state_of self.now) loser.number (number_in self.now link.slot) }
     {
-        let row = self.class(shared.loser) as usize * self.rules.weights.len();
-        let column = self.class(face) as usize;
-        let compatibility = self.rules.compat.as_slice()[row + column];
-        u128::from(compatibility) * u128::from(shared.lengths[face as usize])
+        let rules = self.base.rules();
+        let winner = self.face(link.slot);
+        let row = loser.class as usize * rules.weights.len();
+        let column = winner.class as usize;
+        let compatibility = rules.compat.as_slice()[row + column];
+        u128::from(compatibility) * u128::from(link.length)
     }
 
-    /// Of the winner so far and one more neighbour of the loser, the one that wins first.
-    fn first_winner(&self, shared: &SharedLengths, winner: Option<u32>, face: u32) -> u32
-        requires shared { AreShared self.now shared.now }
-        requires face { IsFace self.now face }
-        requires winner { IfSome winner (IsFace self.now) }
-        ensures value { result ≡ first_of (is_winner_before self.now shared.now.loser) winner face }
-        ensures face { IsFace self.now result }
+    /// Of the best link so far and one more link of the loser, the one whose face wins first.
+    fn better(&self, loser: Face, best: Option<Link>, link: Link) -> Link
+        requires running { IsRunning self.now }
+        requires loser { loser.class ≡ class_of (state_of self.now).classes loser.number }
+        requires link { IsLinkOf self.now loser.number link }
+        requires best { IfSome best (IsLinkOf self.now loser.number) }
+        ensures { IsBetterLink self.now loser.number best link result }
     {
-        let Some(best) = winner else { return face };
-        let new = self.score(shared, face);
-        let old = self.score(shared, best);
-        if new > old || new == old && face < best {
-            face
-        } else {
-            best
-        }
+        let Some(best) = best else { return link };
+        let new = self.score(loser, link);
+        let old = self.score(loser, best);
+        let number = self.numbers[link.slot as usize];
+        let best_number = self.numbers[best.slot as usize];
+        let wins = wins_first(new, number, old, best_number);
+        if wins { link } else { best }
     }
 
-    /// The winner: of the neighbours of the loser, the one of the greatest score, and of such the one with the least number.
-    pub fn find_winner(&self, shared: &SharedLengths) -> Option<u32>
-        requires { AreShared self.now shared.now }
-        ensures value { result ≡ winner_of self.now shared.now.loser }
-        ensures face { IfSome result (IsFace self.now) }
+    /// Of the links of the loser, the one whose face has the greatest score, and of such the one with the least number.
+    pub fn best_link(&self, loser: u32, links: &[Link]) -> Option<Link>
+        requires running { IsRunning self.now }
+        requires live { IsLive self.now loser }
+        requires links { All (IsLinkOf self.now (number_in self.now loser)) links.now }
+        ensures { MatchOption result (length links.now ≡ 0) (IsBestLink self.now (number_in self.now loser) links.now) }
     {
-        let arcs = self.arcs.as_slice();
-        let mut winner = None;
-        for arc in arcs {
-            if let Some(face) = neighbour(arc, shared.loser) {
-                winner = Some(self.first_winner(shared, winner, face));
-            }
+        let loser = self.face(loser);
+        let mut best = None;
+        for link in links {
+            best = Some(self.better(loser, best, *link));
         }
-        winner
+        best
     }
 }

@@ -1,21 +1,22 @@
 -- The loser and the winner of each step are faces whose areas are at hand, and the new face gets their sum.
-use Rattle.std.proofs.Common.{arith, ◌≡◌, ◌≤◌, ◌+◌, ◌∙◌, All, unsigned_abs, sym, ap, subst, ℤ, List, [], ◌∷◌, ◌++◌, pos, drop, slice_index_or}
+use Rattle.std.proofs.Common.{arith, ◌≡◌, ◌≤◌, ◌+◌, ◌∙◌, All, unsigned_abs, sym, ap, subst, ℤ, List, [], ◌∷◌, ◌++◌, pos, drop, length, map, slice_index_or}
 use Rattle.std.proofs.lemmas.List.{get_or_default}
 use Rattle.std.proofs.lemmas.List.Elements.{All-nil, All-cons, All-append}
 use Rattle.tgap_model.specs.Bounds.{max_area}
 use Rattle.tgap_model.specs.Merged.{MergedMap}
 use Rattle.face_merge.specs.Areas.{joined_area}
-use Rattle.face_merge.specs.Merging.{MergeState, IsMerging, AreAreas, begin}
+use Rattle.face_merge.specs.Merging.{IsMerging, AreAreas, begin}
 use Rattle.face_merge.proofs.Sums.{face_area_is, joined_is}
 use Rattle.face_merge.proofs.Reached.{IsReached, IsReady, state_at, no_step, reached_begin, ready_at, reached_more, lost_more}
+use Rattle.tgap_model.specs.History.{labelled}
+use Rattle.face_merge.proofs.Start.{merging_start}
 use Rattle.face_merge.proofs.areas.lost_areas.Goals as goal
 
 pub loop-step-init : goal.loop-step-init
 loop-step-init c =
     let m = c.args.base.now in
-    let known : IsMerging (begin m) = subst IsMerging (c.merging.view_is ∙ c.in_ok-merging.ensures.value) c.merging.invariant in
-    let areas : AreAreas (begin m) c.in_ok-areas.areas.items =
-    subst (λ (s : MergeState). AreAreas s c.in_ok-areas.areas.items) c.in_ok-merging.ensures.value c.in_ok-areas.ensures in
+    let known : IsMerging (begin m) = merging_start m c.in_ok-areas.ensures.base in
+    let areas : AreAreas (length m.classes) (map labelled m.arcs) c.in_ok-areas.areas.items = c.in_ok-areas.ensures.areas in
     record {
       told = c.in_ok-lost.ensures;
       small = subst (All (λ area. unsigned_abs area ≤ max_area)) (sym c.in_ok-lost.ensures) (All-nil (λ (area : ℤ). unsigned_abs area ≤ max_area));

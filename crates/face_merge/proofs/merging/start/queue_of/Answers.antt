@@ -1,0 +1,81 @@
+-- One more face, with its importance, where it has a link.
+use Rattle.std.proofs.Common.{◌≡◌, ◌<◌, ◌≤◌, ◌+◌, ◌-◌, ◌*ℤ◌, ◌∙◌, refl, ap, sym, subst, arith, ℕ, ℤ, pos, unsigned_abs, List, length, map, get_or, slice_index, to_z, of_z}
+use Rattle.std.specs.Int.{w128}
+use Rattle.std.proofs.lemmas.List.Elements.{All-get_or}
+use Rattle.tgap_model.specs.declared.base.Rules.{Rules}
+use Rattle.tgap_model.specs.Bounds.{max_area}
+use Rattle.tgap_model.specs.History.{area_of, class_of, labelled}
+use Rattle.tgap_model.proofs.BaseFacts.{base_facts}
+use Rattle.face_merge.specs.Links.{length_at}
+use Rattle.face_merge.specs.Merging.{begin, importance_of}
+use Rattle.face_merge.specs.Queue.{waits}
+use Rattle.face_merge.specs.Running.{IsQueueBelow}
+use Rattle.face_merge.proofs.Start.{merging_start}
+use Rattle.face_merge.proofs.Sums.{area_small, face_area_is}
+use Rattle.face_merge.proofs.Held.{importance_back}
+use Rattle.face_merge.proofs.Begun.{no_queue, queue_more}
+use Rattle.face_merge.proofs.merging.start.queue_of.Goals as goal
+
+-- the area of the face, as it is handed over
+area_is : (c : goal.After-importance-arg-1) → (c.loop-slot.slot ≤ length c.args.base.now.classes)
+    × (to_z w128 (of_z w128 (get_or c.args.areas.now c.loop-slot.slot (pos 0))) ≡ area_of (map labelled c.args.base.now.arcs) c.loop-slot.slot)
+area_is c =
+    let m = c.args.base.now in
+    let known = merging_start m c.classes.ensures.base in
+    let below : c.loop-slot.slot ≤ length m.classes = omega (arith, c.loop-slot-test.true, c.requires.areas.count) in (
+      below,
+      face_area_is (area_of (map labelled m.arcs) c.loop-slot.slot) (get_or c.args.areas.now c.loop-slot.slot (pos 0))
+          (area_small c.loop-slot.slot (map labelled m.arcs) known.measured known.few_arcs) (c.requires.areas.value c.loop-slot.slot below),
+    )
+
+-- its class
+class_is : (c : goal.After-importance-arg-1) → get_or c.as_slice-classes.result.now (c.loop-slot.slot - 1) 0 ≡ class_of c.args.base.now.classes c.loop-slot.slot
+class_is c = ap (λ (ks : List ℕ). get_or ks (c.loop-slot.slot - 1) 0) (c.as_slice-classes.ensures ∙ c.classes.ensures.value)
+
+pub importance-importance-requires-clause-class : goal.importance-importance-requires-clause-class
+importance-importance-requires-clause-class c =
+    let m = c.args.base.now in
+    let known = merging_start m c.classes.ensures.base in
+    let inside : c.loop-slot.slot - 1 < length m.classes = omega (arith, (area_is c).0, c.loop-slot.auto.slot) in
+    let below : class_of m.classes c.loop-slot.slot < length m.rules.weights = All-get_or (λ (k : ℕ). k < length m.rules.weights) m.classes (c.loop-slot.slot - 1) 0 inside known.classed in
+    omega (arith, below, class_is c, ap (λ (r : Rules). length r.weights) c.rules.ensures.value)
+
+pub importance-importance-requires-clause-area : goal.importance-importance-requires-clause-area
+importance-importance-requires-clause-area c =
+    let m = c.args.base.now in
+    let known = merging_start m c.classes.ensures.base in
+    subst (λ (z : ℤ). unsigned_abs z ≤ max_area) (sym (area_is c).1) (area_small c.loop-slot.slot (map labelled m.arcs) known.measured known.few_arcs)
+
+pub overflow_cast-slot : goal.overflow_cast-slot
+overflow_cast-slot c = omega (arith, c.loop-slot-test.true, c.requires.areas.count, (base_facts c.args.base.now c.classes.ensures.base).few_faces)
+
+pub overflow_cast-slot-in-loop-slot : goal.overflow_cast-slot-in-loop-slot
+overflow_cast-slot-in-loop-slot c = omega (arith, c.loop-slot-test.true, c.requires.areas.count, (base_facts c.args.base.now c.classes.ensures.base).few_faces)
+
+pub wait-requires : goal.wait-requires
+wait-requires c = omega (arith, c.loop-slot-test.true, c.requires.areas.count, (base_facts c.args.base.now c.classes.ensures.base).few_faces)
+
+pub loop-slot-init : goal.loop-slot-init
+loop-slot-init c = no_queue (begin c.args.base.now) (waits c.new-queue.result) c.new-queue.ensures
+
+pub loop-slot-preserved : goal.loop-slot-preserved
+loop-slot-preserved c =
+    let m = c.args.base.now in
+    let known = merging_start m c.classes.ensures.base in
+    let k = c.loop-slot.slot in
+    let below : k ≤ length m.classes = omega (arith, c.loop-slot-test.true, c.requires.areas.count) in
+    let area = face_area_is (area_of (map labelled m.arcs) k) (get_or c.args.areas.now k (pos 0)) (area_small k (map labelled m.arcs) known.measured known.few_arcs) (c.requires.areas.value k below) in
+    let class = ap (λ (ks : List ℕ). get_or ks (k - 1) 0) (c.as_slice-classes.ensures ∙ c.classes.ensures.value) in
+    let value : c.importance-importance.result ≡ importance_of (begin m) k =
+    c.importance-importance.ensures ∙ importance_same _ _ c.rules.result.now m.rules _ _ area c.rules.ensures.value class in
+    queue_more (begin m) k (waits c.loop-slot.queue) (waits c.wait.new.queue) (length_at c.args.links.now) (to_z w128 (of_z w128 c.importance-importance.result))
+    c.loop-slot.invariant c.requires.links (importance_back (begin m) k c.importance-importance.result known value)
+    c.in_ok-wait.ensures.added c.in_ok-wait.ensures.kept c.in_ok-wait.ensures.only
+  where
+    importance_same : (a b : ℤ) (r s : Rules) (j k : ℕ) → a ≡ b → r ≡ s → j ≡ k → a *ℤ pos (slice_index r.weights j) ≡ b *ℤ pos (slice_index s.weights k)
+    importance_same a b r s j k p q e = rw (p, q, e) refl
+
+pub returns : goal.returns
+returns c =
+    let end : c.loop-slot.slot ≡ length c.args.base.now.classes + 1 = omega (arith, c.loop-slot-test.false, c.loop-slot.auto.slot-end, c.requires.areas.count) in
+    subst (λ (k : ℕ). IsQueueBelow (begin c.args.base.now) k (waits c.loop-slot.queue)) end c.loop-slot.invariant

@@ -1,0 +1,158 @@
+//! The links between faces in slots: which are neighbours, and the length that they share.
+
+ghost use Rattle.std.specs.Prelude.{◌≡◌, ◌≢◌, ◌≤◌, ◌+◌, ◌<◌, ◌^◌, ℕ, None, length, map, unwrap_or, IfOk, IfSome, OnOk, IsSome};
+ghost use Rattle.std.specs.Bool.{OnTrue, OnFalse};
+ghost use Rattle.std.specs.List.{All};
+ghost use Rattle.tgap_model.specs.declared.limits.TheConstants.{MAX_ARCS};
+ghost use Rattle.tgap_model.specs.History.{is_shared};
+ghost use Rattle.face_merge.specs.Linking.{link_of};
+ghost use Rattle.face_merge.specs.Measures.{IsMeasured};
+ghost use Rattle.face_merge.specs.Links.{AreLinksOf, length_at, has_pair, with_length, without, with_arc, with_more, joined, ArePaired, Fit, IsPassed};
+
+use std::alloc::Global;
+use std::collections::BTreeMap;
+use tgap_model::{LabelledArc, Memory};
+
+/// Whether two different faces, neither of them the outside, have the arc between them.
+fn shared(arc: &LabelledArc) -> bool
+    ensures { result ≡ is_shared arc.now }
+{
+    arc.left != 0 && arc.right != 0 && arc.left != arc.right
+}
+
+/// A neighbour of a face: its slot, and the length that the two share.
+#[derive(Clone, Copy, Drop)]
+pub struct Link {
+    pub slot: u32,
+    pub length: u64,
+}
+
+/// The length that each face shares with each neighbour, by the slots of both.
+#[derive(Drop)]
+pub struct Links {
+    lengths: BTreeMap<(u32, u32), u64>,
+}
+
+impl Links {
+    /// No links.
+    pub fn new(alloc: Global) -> Links
+        ensures { (s t : ℕ) → length_at result s t ≡ None }
+    {
+        Links {
+            lengths: BTreeMap::new(alloc),
+        }
+    }
+
+    /// The links between the faces of a base map, each in the slot of its number.
+    pub fn between(alloc: Global, arcs: &[LabelledArc]) -> Result<Links, Memory>
+        requires measured { All IsMeasured arcs.now }
+        requires few { length arcs.now ≤ MAX_ARCS }
+        ensures { IfOk result (λ links. (f g : ℕ) → length_at links f g ≡ link_of arcs.now f g) }
+    {
+        let mut links = Links::new(alloc);
+        for arc in arcs {
+            links.add_arc(arc)?;
+        }
+        Ok(links)
+    }
+
+    /// Adds an arc to the links of the two faces at its sides, where it is shared.
+    fn add_arc(&mut self, arc: &LabelledArc) -> Result<(), Memory>
+        requires paired { ArePaired (length_at self.old) }
+        requires room { unwrap_or (length_at self.old arc.now.left arc.now.right) 0 + arc.now.extent < 2 ^ 64 }
+        ensures { OnOk result ((s t : ℕ) → length_at self.new s t ≡ with_arc (length_at self.old) arc.now s t) }
+    {
+        if shared(arc) {
+            self.add(arc.left, arc.right, arc.extent)?;
+            self.add(arc.right, arc.left, arc.extent)?;
+        }
+        Ok(())
+    }
+
+    /// Adds to the length that a face shares with another, at the side of the first.
+    pub fn add(&mut self, slot: u32, other: u32, length: u64) -> Result<(), Memory>
+        requires { unwrap_or (length_at self.old slot other) 0 + length < 2 ^ 64 }
+        ensures { OnOk result ((s t : ℕ) → length_at self.new s t ≡ with_more (length_at self.old) slot other length s t) }
+    {
+        let old = self.lengths.get(&(slot, other)).copied().unwrap_or(0);
+        self.lengths.insert((slot, other), old + length)?;
+        Ok(())
+    }
+
+    /// Takes away the link of a face with another, at the side of the first.
+    fn remove(&mut self, slot: u32, other: u32)
+        ensures { (s t : ℕ) → length_at self.new s t ≡ without (length_at self.old) slot other s t }
+    {
+        self.lengths.remove(&(slot, other));
+    }
+
+    /// Moves the link of a face with this neighbour to another face, where it has one. A link of the two is lost.
+    fn pass(&mut self, from: u32, to: u32, other: u32) -> Result<(), Memory>
+        requires apart { from ≢ to }
+        requires paired { ArePaired (length_at self.old) }
+        requires fit { Fit (joined (length_at self.old) from to) }
+        ensures { OnOk result (IsPassed from to other (length_at self.old) (length_at self.new)) }
+    {
+        let Some(length) = self.lengths.get(&(from, other)).copied() else {
+            return Ok(());
+        };
+        self.remove(from, other);
+        self.remove(other, from);
+        if other != to {
+            self.add(to, other, length)?;
+            self.add(other, to, length)?;
+        }
+        Ok(())
+    }
+
+    /// Moves the links of a face, which are these, to another.
+    pub fn join(&mut self, from: u32, to: u32, links: &[Link]) -> Result<(), Memory>
+        requires apart { from ≢ to }
+        requires links { AreLinksOf (length_at self.old) from links.now }
+        requires paired { ArePaired (length_at self.old) }
+        requires fit { Fit (joined (length_at self.old) from to) }
+        ensures { OnOk result ((s t : ℕ) → length_at self.new s t ≡ joined (length_at self.old) from to s t) }
+    {
+        for link in links {
+            self.pass(from, to, link.slot)?;
+        }
+        Ok(())
+    }
+
+    /// The links of a face.
+    pub fn of(&self, alloc: Global, slot: u32) -> Result<Vec<Link>, Memory>
+        requires { slot + 1 < 2 ^ 32 }
+        ensures { IfOk result (λ links. AreLinksOf (length_at self.now) slot links.items) }
+    {
+        let mut links = Vec::new(alloc);
+        for (slots, length) in self.lengths.range((slot, 0)..(slot + 1, 0)) {
+            links.push(Link {
+                slot: slots.1,
+                length: *length,
+            })?;
+        }
+        Ok(links)
+    }
+
+    /// Whether a face has a link.
+    pub fn any(&self, slot: u32) -> bool
+        requires { slot + 1 < 2 ^ 32 }
+        ensures some { OnTrue result ((t : ℕ) × IsSome (length_at self.now slot t)) }
+        ensures none { OnFalse result ((t : ℕ) → length_at self.now slot t ≡ None) }
+    {
+        self.lengths
+            .range((slot, 0)..(slot + 1, 0))
+            .next()
+            .is_some()
+    }
+
+    /// Whether a face has more links than this.
+    pub fn exceed(&self, slot: u32, count: usize) -> bool
+        requires { slot + 1 < 2 ^ 32 }
+    {
+        self.lengths
+            .range((slot, 0)..(slot + 1, 0))
+            .nth(count)
+            .is_some()
+    }
+}
