@@ -2,6 +2,7 @@ pub mod Heights
 pub mod Boxes
 pub mod Outside
 pub mod Small
-pub mod Swept
-pub mod RowSteps
 pub mod Removed
+pub mod NearPlaces
+pub mod Unswept
+pub mod Swept

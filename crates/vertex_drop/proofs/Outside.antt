@@ -1,19 +1,19 @@
 -- A triangle is clear of what lies outside its box.
-use Rattle.std.proofs.Common.{◌≡◌, inl, inr, ◌<◌, ◌+◌, ℕ, true, Bool, ◌&&◌, ◌||◌, ℤ, ◌<ℤ◌, ◌≤ℤ◌, int_lt, List, [], ◌∷◌, drop, length, get_or, All, refl, sym, ap, ◌∙◌, arith}
+use Rattle.std.proofs.Common.{◌≡◌, inl, inr, true, false, Bool, ◌&&◌, ◌||◌, ℤ, ◌<ℤ◌, ◌≤ℤ◌, int_lt, int_le, List, [], ◌∷◌, ◌++◌, if◌then◌else◌, All, refl, sym, subst, arith}
 use Rattle.std.specs.List.{list_all}
-use Rattle.std.proofs.lemmas.Int.{ints}
-use Rattle.std.proofs.lemmas.Bool.{or_left, or_right, and_from}
-use Rattle.std.proofs.lemmas.List.{at_drop_more}
-use Rattle.std.proofs.lemmas.List.Elements.{All-head, All-tail}
-use Rattle.lemmas.proofs.Signs.{Decides-int_lt}
+use Rattle.std.specs.Int.{int_min, int_max}
+use Rattle.std.proofs.lemmas.Int.{ints, int_min_is, int_max_is}
+use Rattle.std.proofs.lemmas.Bool.{or_left, or_right, and_from, and_cases}
+use Rattle.std.proofs.lemmas.List.Elements.{All-head, All-tail, All-nil, All-cons, All-append, All-weaker}
+use Rattle.lemmas.proofs.Signs.{Decides-int_lt, int_le-false}
 use Rattle.tgap_model.specs.declared.geometry.Point.{Point}
 use Rattle.tgap_model.specs.declared.geometry.Seg.{Seg}
+use Rattle.tgap_model.specs.declared.geometry.Window.{Window}
 use Rattle.tgap_model.specs.Clear.{is_clear}
-use Rattle.tgap_model.specs.Removals.{path}
-use Rattle.vertex_drop.specs.declared.bounds.Bounds.{Bounds}
 use Rattle.vertex_drop.specs.declared.triangle.Triangle.{Triangle}
+use Rattle.grid_index.specs.Boxes.{overlap, meets, segment_box}
 use Rattle.vertex_drop.specs.Boxes.{are_less, are_greater, is_off}
-use Rattle.vertex_drop.specs.Rows.{IsHeld}
+use Rattle.vertex_drop.specs.Held.{IsHeld, IsHeldSegment}
 use Rattle.vertex_drop.specs.Outside.{AreRangesApart, AreApart, AreBeyond, IsOutside, IsTriangle}
 use Rattle.vertex_drop.proofs.Boxes.{off_is_clear}
 
@@ -47,14 +47,14 @@ outside_is_off t s i h =
     let v = are_greater t.a.y t.b.y t.c.y s.a.y s.b.y in
     elim h [
       | inl x ↦ or_left (p || q || u) v (or_left (p || q) u (elim x [
-        | inl l ↦ or_right p q (greater t.a.x t.b.x t.c.x t.bounds.left s.a.x s.b.x i.held_a.left i.held_b.left i.held_c.left l.0 l.1)
-        | inr r ↦ or_left p q (less t.a.x t.b.x t.c.x t.bounds.right s.a.x s.b.x i.held_a.right i.held_b.right i.held_c.right r.0 r.1)
+        | inl l ↦ or_right p q (greater t.a.x t.b.x t.c.x t.bounds.x0 s.a.x s.b.x i.held_a.left i.held_b.left i.held_c.left l.0 l.1)
+        | inr r ↦ or_left p q (less t.a.x t.b.x t.c.x t.bounds.x1 s.a.x s.b.x i.held_a.right i.held_b.right i.held_c.right r.0 r.1)
       ]))
       | inr y ↦ elim y [
-        | inl l ↦ or_right (p || q || u) v (greater t.a.y t.b.y t.c.y t.bounds.low s.a.y s.b.y i.held_a.low i.held_b.low i.held_c.low l.0 l.1)
+        | inl l ↦ or_right (p || q || u) v (greater t.a.y t.b.y t.c.y t.bounds.y0 s.a.y s.b.y i.held_a.low i.held_b.low i.held_c.low l.0 l.1)
         | inr r ↦
             or_left (p || q || u) v (or_right (p || q) u
-            (less t.a.y t.b.y t.c.y t.bounds.high s.a.y s.b.y i.held_a.high i.held_b.high i.held_c.high r.0 r.1))
+            (less t.a.y t.b.y t.c.y t.bounds.y1 s.a.y s.b.y i.held_a.high i.held_b.high i.held_c.high r.0 r.1))
       ]
     ]
 
@@ -68,35 +68,45 @@ ranges_beyond a b l h low high la ha lb hb (inl k) = inl (omega (arith, ints), o
 ranges_beyond a b l h low high la ha lb hb (inr k) = inr (omega (arith, ints), omega (arith, ints))
 
 -- a segment in a box is outside a box that is apart
-apart_is_outside : (b t : Bounds) (s : Seg) → IsHeld b s.a → IsHeld b s.b → AreApart b t → IsOutside t s
-apart_is_outside b t s h k (inl x) = inl (ranges_beyond s.a.x s.b.x b.left b.right t.left t.right h.left h.right k.left k.right x)
-apart_is_outside b t s h k (inr y) = inr (ranges_beyond s.a.y s.b.y b.low b.high t.low t.high h.low h.high k.low k.high y)
+apart_is_outside : (b t : Window) (s : Seg) → IsHeld b s.a → IsHeld b s.b → AreApart b t → IsOutside t s
+apart_is_outside b t s h k (inl x) = inl (ranges_beyond s.a.x s.b.x b.x0 b.x1 t.x0 t.x1 h.left h.right k.left k.right x)
+apart_is_outside b t s h k (inr y) = inr (ranges_beyond s.a.y s.b.y b.y0 b.y1 t.y0 t.y1 h.low h.high k.low k.high y)
 
--- so a triangle is clear of each segment of points in a box that is apart from its own
-pub apart_is_clear : (t : Triangle) (b : Bounds) (points : List Point) → IsTriangle t → AreApart b t.bounds → All (IsHeld b) points
-    → list_all (is_clear t.a t.b t.c) (path points) ≡ true
+-- so a triangle is clear of each segment in a box that is apart from its own
+pub apart_is_clear : (t : Triangle) (b : Window) (segments : List Seg) → IsTriangle t → AreApart b t.bounds → All (IsHeldSegment b) segments
+    → list_all (is_clear t.a t.b t.c) segments ≡ true
 apart_is_clear t b [] i h k = refl
-apart_is_clear t b (p ∷ []) i h k = refl
-apart_is_clear t b (p ∷ q ∷ points) i h k =
-    let rest = All-tail (IsHeld b) p (q ∷ points) k in
-    let s : Seg = record { a = p; b = q } in
-    and_from _ _ (outside_is_clear t s i (apart_is_outside b t.bounds s (All-head (IsHeld b) p (q ∷ points) k) (All-head (IsHeld b) q points rest) h))
-    (apart_is_clear t b (q ∷ points) i h rest)
+apart_is_clear t b (s ∷ segments) i h k =
+    let first = All-head (IsHeldSegment b) s segments k in
+    and_from _ _ (outside_is_clear t s i (apart_is_outside b t.bounds s first.held_a first.held_b h))
+    (apart_is_clear t b segments i h (All-tail (IsHeldSegment b) s segments k))
 
--- ---- the segments of points, one after the other
+-- a box that holds what another one holds, and a segment more
+pub held_more : (b d : Window) (s : Seg) (segments after : List Seg) (ok : Bool) → after ≡ (if ok then segments ++ s ∷ [] else segments)
+    → ((p : Point) → IsHeld b p → IsHeld d p) → IsHeldSegment d s → All (IsHeldSegment b) segments → All (IsHeldSegment d) after
+held_more b d s segments after ok e wider new old =
+    subst (All (IsHeldSegment d)) (sym e) (by ok)
+  where
+    all : All (IsHeldSegment d) segments
+    all = All-weaker (IsHeldSegment b) (IsHeldSegment d) (λ t h. record { near = h.near; held_a = wider t.a h.held_a; held_b = wider t.b h.held_b }) segments old
 
--- where a test holds of a segment, it holds of all from there on where it does of all after it
-all_path : (Seg → Bool) → List Point → Bool
-all_path p points = list_all p (path points)
+    by : (x : Bool) → All (IsHeldSegment d) (if x then segments ++ s ∷ [] else segments)
+    by true = All-append (IsHeldSegment d) segments (s ∷ []) all (All-cons (IsHeldSegment d) s [] new (All-nil (IsHeldSegment d)))
+    by false = all
 
-pub segment_passed : (p : Seg → Bool) (points : List Point) (j : ℕ) (d : Point) → j + 1 < length points
-    → p (record { a = get_or points j d; b = get_or points (j + 1) d }) ≡ true → list_all p (path (drop (j + 1) points)) ≡ list_all p (path (drop j points))
-unfolding all_path
-segment_passed p points j d lt e =
-    let x = get_or points j d in
-    let y = get_or points (j + 1) d in
-    let rest = drop (j + 1 + 1) points in
-    at_drop_more (all_path p) points (j + 1) d lt
-    ∙ ap (λ (b : Bool). b && all_path p (y ∷ rest)) (sym e)
-    ∙ sym (at_drop_more (λ (l : List Point). all_path p (x ∷ l)) points (j + 1) d lt)
-    ∙ sym (at_drop_more (all_path p) points j d (omega (arith, lt)))
+-- ---- boxes that do not meet
+
+-- numbers of which the least and the greatest have no number in common with a range are beyond it
+apart_numbers : (a b low high : ℤ) → overlap low high (int_min a b) (int_max a b) ≡ false → AreBeyond a b low high
+apart_numbers a b low high h = elim (and_cases (int_le low (int_max a b)) (int_le (int_min a b) high) h) [
+  | inl e ↦ let over = int_le-false low (int_max a b) e in inl (omega (arith, ints, over, int_max_is a b), omega (arith, ints, over, int_max_is a b))
+  | inr e ↦ let under = int_le-false (int_min a b) high e in inr (omega (arith, ints, under, int_min_is a b), omega (arith, ints, under, int_min_is a b))
+]
+
+-- so a triangle is clear of a segment whose box does not meet its own
+pub far_is_clear : (t : Triangle) (s : Seg) → IsTriangle t → meets t.bounds (segment_box s.a s.b) ≡ false → is_clear t.a t.b t.c s ≡ true
+far_is_clear t s i h =
+    outside_is_clear t s i (elim (and_cases (overlap t.bounds.x0 t.bounds.x1 (int_min s.a.x s.b.x) (int_max s.a.x s.b.x)) (overlap t.bounds.y0 t.bounds.y1 (int_min s.a.y s.b.y) (int_max s.a.y s.b.y)) h) [
+      | inl e ↦ inl (apart_numbers s.a.x s.b.x t.bounds.x0 t.bounds.x1 e)
+      | inr e ↦ inr (apart_numbers s.a.y s.b.y t.bounds.y0 t.bounds.y1 e)
+    ])

@@ -1,122 +1,250 @@
--- The sweep of the definition is that by what was kept so far.
-use Rattle.std.proofs.Common.{◌≡◌, ◌<◌, ◌≤◌, ◌+◌, ◌-◌, ◌==◌, ℕ, ℤ, Bool, true, false, not, List, [], ◌∷◌, ◌++◌, drop, length, get_or, All, refl, sym, ap, ◌∙◌, subst, arith}
+-- The sweep depends on the segments that a triangle is tested against, and not on their order; and one vertex, and one edge, more.
+use Rattle.std.proofs.Common.{◌≡◌, ◌<◌, ◌≤◌, ◌+◌, ◌==◌, ℕ, ℤ, pos, ◌*◌, int_le, Bool, true, false, ◌&&◌, ◌||◌, List, [], ◌∷◌, ◌++◌, take, drop, length, get_or, if◌then◌else◌, All, refl, sym, ap, ◌∙◌, subst, arith}
+use Rattle.std.specs.List.{flat_map, list_all}
+use Rattle.std.proofs.lemmas.Bool.{eq-eqb, ne_eqb}
 use Rattle.std.proofs.lemmas.Grind.{flat_map-append}
-use Rattle.std.proofs.lemmas.List.{append-nil, append_assoc, length_push, at_drop_more, at_drop_all}
-use Rattle.std.proofs.lemmas.Bool.{ne_eqb}
-use Rattle.std.proofs.Math.Seq.{get_or-append_seam}
-use Rattle.std.proofs.lemmas.List.Elements.{All-head, All-tail, All-cons, All-nil, All-append}
+use Rattle.std.proofs.lemmas.List.{append-nil, append_assoc, at_drop_more, at_drop_all, drop_all, take_more}
+use Rattle.std.proofs.lemmas.List.Folds.{list_all-append}
 use Rattle.tgap_model.specs.declared.geometry.Point.{Point}
 use Rattle.tgap_model.specs.declared.geometry.Seg.{Seg}
 use Rattle.tgap_model.specs.declared.slice.Edge.{Edge}
-use Rattle.tgap_model.specs.Removals.{path, is_removable, Swept, sweep_from, sweep_points, sweep_edges, live_segments, has_side}
-use Rattle.vertex_drop.specs.Rows.{IsNearPoint}
-use Rattle.vertex_drop.specs.Sweep.{goes, sweep_on, sweep_rest}
+use Rattle.tgap_model.specs.Point.{area2}
+use Rattle.tgap_model.specs.Clear.{is_clear}
+use Rattle.tgap_model.specs.Removals.{path, is_removable, Swept, sweep, sweep_from, sweep_points, sweep_edges, live_segments, has_side}
+use Rattle.vertex_drop.specs.declared.removable.Rule.{Rule}
+use Rattle.vertex_drop.specs.declared.near.Stand.{Stand}
+use Rattle.vertex_drop.specs.Held.{IsNearPoint}
+use Rattle.vertex_drop.specs.Left.{left_segments, unswept_path, other_segments}
+use Rattle.vertex_drop.specs.Sweep.{sweep_after, swept_edge, IsEdgeSwept}
+use Rattle.vertex_drop.proofs.Unswept.{Ascend, left_around}
 
--- one point more makes one segment more
-path_more : (front : List Point) (a b : Point) → path ((front ++ a ∷ []) ++ b ∷ []) ≡ path (front ++ a ∷ []) ++ record { a = a; b = b } ∷ []
-path_more [] a b = refl
-path_more (p ∷ []) a b = refl
-path_more (p ∷ q ∷ front) a b = ap (λ (rest : List Seg). record { a = p; b = q } ∷ rest) (path_more (q ∷ front) a b)
+-- ---- lists of segments that every test finds alike
 
--- the last point of those that were kept
-count_more : (front : List Point) (a : Point) → length (front ++ a ∷ []) ≡ length front + 1
-count_more front a = length_push front a
+abbrev pub AreAlike : List Seg → List Seg → Type 0
+AreAlike xs ys = (p : Seg → Bool) → list_all p xs ≡ list_all p ys
 
-last_is : (front : List Point) (a d : Point) → get_or (front ++ a ∷ []) (length (front ++ a ∷ []) - 1) d ≡ a
-last_is front a d =
-    let e : length (front ++ a ∷ []) - 1 ≡ length front = omega (arith, count_more front a) in
-    ap (λ (i : ℕ). get_or (front ++ a ∷ []) i d) e ∙ get_or-append_seam front a [] d
+turned : (x y : Bool) → (x && y) ≡ (y && x)
+turned true true = refl
+turned true false = refl
+turned false true = refl
+turned false false = refl
 
-not_empty : (front : List Point) (a : Point) → not (length (front ++ a ∷ []) == 0) ≡ true
-not_empty front a = ap not (ne_eqb (length (front ++ a ∷ [])) 0 (λ e. absurd (omega (arith, e, count_more front a))))
+second_last : (x y z : Bool) → ((x && y) && z) ≡ ((x && z) && y)
+second_last true y z = turned y z
+second_last false y z = refl
 
-module _ (ratio : ℕ) (area : ℤ) (others : List Seg) where
-  abbrev on : List Point → List Point → Swept
-  on kept points = sweep_on ratio area others kept points
+first_inside : (k u p a : Bool) → (k && (u && (p && a))) ≡ (((u && a) && k) && p)
+first_inside true true p a = turned p a ∙ ap (λ (b : Bool). b && p) (turned true a)
+first_inside true false p a = refl
+first_inside false u p a = ap (λ (b : Bool). b && p) (turned false (u && a))
 
-  -- ---- one point
+-- the last two of three lists change places
+alike_turned : (xs ys zs : List Seg) → AreAlike ((xs ++ ys) ++ zs) ((xs ++ zs) ++ ys)
+alike_turned xs ys zs p =
+    apart xs ys zs ∙ second_last (list_all p xs) (list_all p ys) (list_all p zs) ∙ sym (apart xs zs ys)
+  where
+    apart : (us vs ws : List Seg) → list_all p ((us ++ vs) ++ ws) ≡ ((list_all p us && list_all p vs) && list_all p ws)
+    apart us vs ws = list_all-append p (us ++ vs) ws ∙ ap (λ (b : Bool). b && list_all p ws) (list_all-append p us vs)
 
-  pub on_gone : (kept : List Point) (b : Point) (points : List Point) → goes ratio area others kept b points ≡ true
-      → sweep_on ratio area others kept (b ∷ points)
-      ≡ record { kept = (sweep_on ratio area others kept points).kept; gone = b ∷ (sweep_on ratio area others kept points).gone }
-  on_gone kept b points e = rw (sweep_on, e) refl
+-- the first of four lists goes before the third one, which goes to the end
+alike_inside : (ks us ps zs : List Seg) → AreAlike (ks ++ (us ++ (ps ++ zs))) (((us ++ zs) ++ ks) ++ ps)
+alike_inside ks us ps zs p =
+    list_all-append p ks (us ++ (ps ++ zs))
+    ∙ ap (λ (b : Bool). list_all p ks && b) (list_all-append p us (ps ++ zs) ∙ ap (λ (b : Bool). list_all p us && b) (list_all-append p ps zs))
+    ∙ first_inside (list_all p ks) (list_all p us) (list_all p ps) (list_all p zs)
+    ∙ sym (list_all-append p ((us ++ zs) ++ ks) ps ∙ ap (λ (b : Bool). b && list_all p ps) (list_all-append p (us ++ zs) ks
+    ∙ ap (λ (b : Bool). b && list_all p ks) (list_all-append p us zs)))
 
-  pub on_kept : (kept : List Point) (b : Point) (points : List Point) → goes ratio area others kept b points ≡ false
-      → sweep_on ratio area others kept (b ∷ points)
-      ≡ record { kept = b ∷ (sweep_on ratio area others (kept ++ b ∷ []) points).kept; gone = (sweep_on ratio area others (kept ++ b ∷ []) points).gone }
-  on_kept kept b points e = rw (sweep_on, e) refl
+-- the same segments come after both
+alike_both : (xs ys zs : List Seg) → AreAlike xs ys → AreAlike (xs ++ zs) (ys ++ zs)
+alike_both xs ys zs h p = list_all-append p xs zs ∙ ap (λ (b : Bool). b && list_all p zs) (h p) ∙ sym (list_all-append p ys zs)
 
-  from_gone : (done : List Seg) (a b c : Point) (points : List Point) → is_removable ratio area (others ++ done ++ path (c ∷ points)) a b c ≡ true
+alike_more : (xs ys us vs zs : List Seg) → AreAlike (xs ++ ys) (us ++ vs) → AreAlike (xs ++ (ys ++ zs)) (us ++ (vs ++ zs))
+alike_more xs ys us vs zs h p =
+    ap (list_all p) (sym (append_assoc xs ys zs)) ∙ alike_both (xs ++ ys) (us ++ vs) zs h p ∙ ap (list_all p) (append_assoc us vs zs)
+
+module _ (ratio : ℕ) (area : ℤ) where
+  pub removable_alike : (xs ys : List Seg) (a b c : Point) → AreAlike xs ys → is_removable ratio area xs a b c ≡ is_removable ratio area ys a b c
+  unfolding is_removable
+  removable_alike xs ys a b c h = ap (λ (t : Bool). (area2 a b c == 0) || (int_le (pos (ratio * area2 a b c)) area && t)) (h (is_clear a b c))
+
+  from_gone : (others done : List Seg) (a b c : Point) (points : List Point) → is_removable ratio area (others ++ done ++ path (c ∷ points)) a b c ≡ true
       → sweep_from ratio area others done a (b ∷ c ∷ points)
       ≡ record { kept = (sweep_from ratio area others done a (c ∷ points)).kept; gone = b ∷ (sweep_from ratio area others done a (c ∷ points)).gone }
-  from_gone done a b c points e = rw (sweep_from, e) refl
+  from_gone others done a b c points e = rw (sweep_from, e) refl
 
-  from_kept : (done : List Seg) (a b c : Point) (points : List Point) → is_removable ratio area (others ++ done ++ path (c ∷ points)) a b c ≡ false
+  from_kept : (others done : List Seg) (a b c : Point) (points : List Point) → is_removable ratio area (others ++ done ++ path (c ∷ points)) a b c ≡ false
       → sweep_from ratio area others done a (b ∷ c ∷ points)
       ≡ record {
         kept = a ∷ (sweep_from ratio area others (done ++ record { a = a; b = b } ∷ []) b (c ∷ points)).kept;
         gone = (sweep_from ratio area others (done ++ record { a = a; b = b } ∷ []) b (c ∷ points)).gone;
       }
-  from_kept done a b c points e = rw (sweep_from, e) refl
+  from_kept others done a b c points e = rw (sweep_from, e) refl
 
-  goes_is : (front : List Point) (a b c : Point) (points : List Point)
-      → goes ratio area others (front ++ a ∷ []) b (c ∷ points) ≡ is_removable ratio area (others ++ path (front ++ a ∷ []) ++ path (c ∷ points)) a b c
-  goes_is front a b c points = rw (not_empty front a, last_is front a b) refl
+  -- a sweep among segments that are alike
+  from_alike : (others done others' done' : List Seg) (a : Point) (points : List Point) → AreAlike (others ++ done) (others' ++ done')
+      → sweep_from ratio area others done a points ≡ sweep_from ratio area others' done' a points
+  from_alike others done others' done' a [] h = refl
+  from_alike others done others' done' a (b ∷ []) h = refl
+  from_alike others done others' done' a (b ∷ c ∷ points) h =
+      by (is_removable ratio area (others ++ done ++ path (c ∷ points)) a b c) refl
+      (from_alike others done others' done' a (c ∷ points) h)
+      (from_alike others (done ++ s ∷ []) others' (done' ++ s ∷ []) b (c ∷ points) (alike_more others done others' done' (s ∷ []) h))
+    where
+      s : Seg
+      s = record { a = a; b = b }
 
-  -- ---- a row
+      same : is_removable ratio area (others ++ done ++ path (c ∷ points)) a b c ≡ is_removable ratio area (others' ++ done' ++ path (c ∷ points)) a b c
+      same =
+          removable_alike (others ++ done ++ path (c ∷ points)) (others' ++ done' ++ path (c ∷ points)) a b c
+          (alike_both (others ++ done) (others' ++ done') (path (c ∷ points)) h)
 
-  -- the last point that is kept, before what is left of those that follow
-  abbrev after : Point → Swept → Swept
-  after a s = record { kept = a ∷ s.kept; gone = s.gone }
+      by : (r : Bool) → is_removable ratio area (others ++ done ++ path (c ∷ points)) a b c ≡ r
+          → sweep_from ratio area others done a (c ∷ points) ≡ sweep_from ratio area others' done' a (c ∷ points)
+          → sweep_from ratio area others (done ++ s ∷ []) b (c ∷ points) ≡ sweep_from ratio area others' (done' ++ s ∷ []) b (c ∷ points)
+          → sweep_from ratio area others done a (b ∷ c ∷ points) ≡ sweep_from ratio area others' done' a (b ∷ c ∷ points)
+      by true e k l =
+          from_gone others done a b c points e ∙ ap (λ (t : Swept). record { kept = t.kept; gone = b ∷ t.gone }) k
+          ∙ sym (from_gone others' done' a b c points (sym same ∙ e))
+      by false e k l =
+          from_kept others done a b c points e ∙ ap (λ (t : Swept). record { kept = a ∷ t.kept; gone = t.gone }) l
+          ∙ sym (from_kept others' done' a b c points (sym same ∙ e))
 
-  step : (front : List Point) (a b c : Point) (points : List Point) (r : Bool)
-      → is_removable ratio area (others ++ path (front ++ a ∷ []) ++ path (c ∷ points)) a b c ≡ r
-      → sweep_from ratio area others (path (front ++ a ∷ [])) a (c ∷ points) ≡ after a (on (front ++ a ∷ []) (c ∷ points))
-      → sweep_from ratio area others (path ((front ++ a ∷ []) ++ b ∷ [])) b (c ∷ points) ≡ after b (on ((front ++ a ∷ []) ++ b ∷ []) (c ∷ points))
-      → sweep_from ratio area others (path (front ++ a ∷ [])) a (b ∷ c ∷ points) ≡ after a (on (front ++ a ∷ []) (b ∷ c ∷ points))
-  step front a b c points true e h k =
-      let kept = front ++ a ∷ [] in
-      from_gone (path kept) a b c points e ∙ ap (λ (s : Swept). record { kept = s.kept; gone = b ∷ s.gone }) h
-      ∙ sym (ap (after a) (on_gone kept b (c ∷ points) (goes_is front a b c points ∙ e)))
-  step front a b c points false e h k =
-      let kept = front ++ a ∷ [] in
-      from_kept (path kept) a b c points e
-      ∙ ap (λ (done : List Seg). after a (sweep_from ratio area others done b (c ∷ points))) (sym (path_more front a b))
-      ∙ ap (after a) k ∙ sym (ap (after a) (on_kept kept b (c ∷ points) (goes_is front a b c points ∙ e)))
+  -- what was kept before is one of the others
+  after_alike : (others kept others' : List Seg) (points : List Point) → AreAlike (others ++ kept) others'
+      → sweep_after ratio area others kept points ≡ sweep_points ratio area others' points
+  after_alike others kept others' [] h = refl
+  after_alike others kept others' (a ∷ points) h =
+      from_alike others kept others' [] a points (λ p. h p ∙ ap (list_all p) (sym (append-nil others')))
 
-  swept_from : (front : List Point) (a : Point) (points : List Point)
-      → sweep_from ratio area others (path (front ++ a ∷ [])) a points ≡ after a (on (front ++ a ∷ []) points)
-  swept_from front a [] = refl
-  swept_from front a (b ∷ []) = refl
-  swept_from front a (b ∷ c ∷ points) =
-      step front a b c points _ refl (swept_from front a (c ∷ points)) (swept_from (front ++ a ∷ []) b (c ∷ points))
+  points_alike : (others others' : List Seg) (points : List Point) → AreAlike others others'
+      → sweep_points ratio area others points ≡ sweep_points ratio area others' points
+  points_alike others others' [] h = refl
+  points_alike others others' (a ∷ points) h =
+      from_alike others [] others' [] a points (λ p. ap (list_all p) (append-nil others) ∙ h p ∙ ap (list_all p) (sym (append-nil others')))
 
-  first_stays : (a : Point) (points : List Point) → goes ratio area others [] a points ≡ false
-  first_stays a [] = refl
-  first_stays a (c ∷ points) = refl
+  -- ---- one vertex
 
-  pub swept_points : (points : List Point) → sweep_points ratio area others points ≡ sweep_on ratio area others [] points
-  swept_points [] = refl
-  swept_points (a ∷ points) = swept_from [] a points ∙ sym (on_kept [] a points (first_stays a points))
+  -- what is left of the points from b on begins with b
+  begins : (others done : List Seg) (a b : Point) (points : List Point)
+      → path (a ∷ (sweep_from ratio area others done b points).kept) ≡ record { a = a; b = b } ∷ path (sweep_from ratio area others done b points).kept
+  begins others done a b [] = refl
+  begins others done a b (x ∷ []) = refl
+  begins others done a b (x ∷ y ∷ points) =
+      by (is_removable ratio area (others ++ done ++ path (y ∷ points)) b x y) refl (begins others done a b (y ∷ points))
+    where
+      by : (r : Bool) → is_removable ratio area (others ++ done ++ path (y ∷ points)) b x y ≡ r
+          → path (a ∷ (sweep_from ratio area others done b (y ∷ points)).kept) ≡ record { a = a; b = b } ∷ path (sweep_from ratio area others done b (y ∷ points)).kept
+          → path (a ∷ (sweep_from ratio area others done b (x ∷ y ∷ points)).kept) ≡ record { a = a; b = b } ∷ path (sweep_from ratio area others done b (x ∷ y ∷ points)).kept
+      by true e h =
+          subst (λ (t : Swept). path (a ∷ t.kept) ≡ record { a = a; b = b } ∷ path t.kept) (sym (from_gone others done b x y points e)) h
+      by false e h =
+          subst (λ (t : Swept). path (a ∷ t.kept) ≡ record { a = a; b = b } ∷ path t.kept) (sym (from_kept others done b x y points e)) refl
 
-  -- ---- what is left are points of the row
+  module _ (others : List Seg) (points : List Point) (first : List Seg) (before : List Point) where
+    -- What was kept and removed so far, and what is of the points from a place on, is what is kept and removed of all points, where
+    -- `first` was kept before the edge and `before` removed. The last point that is kept is a.
+    pub record IsSweeping (kept : List Seg) (gone : List Point) (a : Point) (place : ℕ) : Type 0 where
+      pub left : kept ++ path (sweep_from ratio area others kept a (drop place points)).kept ≡ first ++ path (sweep_after ratio area others first points).kept
+      pub removed : gone ++ (sweep_from ratio area others kept a (drop place points)).gone ≡ before ++ (sweep_after ratio area others first points).gone
+      pub near : IsNearPoint a
 
-  module _ (P : Point → Type 0) where
-    all_step : (kept : List Point) (b : Point) (points : List Point) (r : Bool) → goes ratio area others kept b points ≡ r → P b
-        → All P (on kept points).kept → All P (on (kept ++ b ∷ []) points).kept → All P (on kept (b ∷ points)).kept
-    all_step kept b points true e p h k = subst (λ (s : Swept). All P s.kept) (sym (on_gone kept b points e)) h
-    all_step kept b points false e p h k = subst (λ (s : Swept). All P s.kept) (sym (on_kept kept b points e)) (All-cons P b _ p k)
+    pub sweep_begins : (d : Point) → 0 < length points → All IsNearPoint points → IsSweeping first before (get_or points 0 d) 1
+    sweep_begins d lt near =
+        let all : sweep_after ratio area others first points ≡ sweep_from ratio area others first (get_or points 0 d) (drop 1 points) =
+        at_drop_more (sweep_after ratio area others first) points 0 d lt in
+        record {
+          left = ap (λ (t : Swept). first ++ path t.kept) (sym all);
+          removed = ap (λ (t : Swept). before ++ t.gone) (sym all);
+          near = near 0 d lt;
+        }
 
-    all_on : (kept points : List Point) → All P points → All P (on kept points).kept
-    all_on kept [] h = All-nil P
-    all_on kept (b ∷ points) h =
-        let rest = All-tail P b points h in
-        all_step kept b points _ refl (All-head P b points h) (all_on kept points rest) (all_on (kept ++ b ∷ []) points rest)
+    module _ (kept : List Seg) (gone : List Point) (a : Point) (place : ℕ) (d : Point) (short : place + 1 < length points) where
+      abbrev b : Point
+      b = get_or points place d
 
-    pub all_left : (points : List Point) → All P points → All P (sweep_points ratio area others points).kept
-    all_left points h = subst (λ (s : Swept). All P s.kept) (sym (swept_points points)) (all_on [] points h)
+      abbrev c : Point
+      c = get_or points (place + 1) d
 
--- ---- all rows
+      abbrev rest : List Point
+      rest = drop (place + 1) points
+
+      abbrev s : Seg
+      s = record { a = a; b = b }
+
+      -- the points from the place on are b, c and others
+      ahead : (Y : Type 0) (f : List Point → Y) → f (drop place points) ≡ f (b ∷ c ∷ drop (place + 1 + 1) points)
+      ahead Y f = at_drop_more f points place d (omega arith) ∙ at_drop_more (λ (l : List Point). f (b ∷ l)) points (place + 1) d short
+
+      next : (Y : Type 0) (f : List Point → Y) → f (c ∷ drop (place + 1 + 1) points) ≡ f rest
+      next Y f = sym (at_drop_more f points (place + 1) d short)
+
+      pub vertex_gone : is_removable ratio area (others ++ kept ++ path rest) a b c ≡ true → IsSweeping kept gone a place → IsSweeping kept (gone ++ b ∷ []) a (place + 1)
+      vertex_gone e h =
+          let t = sweep_from ratio area others kept a rest in
+          let now : sweep_from ratio area others kept a (drop place points) ≡ record { kept = t.kept; gone = b ∷ t.gone } =
+          ahead Swept (sweep_from ratio area others kept a)
+          ∙ from_gone others kept a b c (drop (place + 1 + 1) points) (next Bool (λ (l : List Point). is_removable ratio area (others ++ kept ++ path l) a b c) ∙ e)
+          ∙ next Swept (λ (l : List Point). let u = sweep_from ratio area others kept a l in record { kept = u.kept; gone = b ∷ u.gone }) in
+          record {
+            left = ap (λ (u : Swept). kept ++ path u.kept) (sym now) ∙ h.left;
+            removed = append_assoc gone (b ∷ []) t.gone ∙ ap (λ (u : Swept). gone ++ u.gone) (sym now) ∙ h.removed;
+            near = h.near;
+          }
+
+      pub vertex_kept : is_removable ratio area (others ++ kept ++ path rest) a b c ≡ false → All IsNearPoint points → IsSweeping kept gone a place
+          → IsSweeping (kept ++ s ∷ []) gone b (place + 1)
+      vertex_kept e near h =
+          let t = sweep_from ratio area others (kept ++ s ∷ []) b rest in
+          let now : sweep_from ratio area others kept a (drop place points) ≡ record { kept = a ∷ t.kept; gone = t.gone } =
+          ahead Swept (sweep_from ratio area others kept a)
+          ∙ from_kept others kept a b c (drop (place + 1 + 1) points) (next Bool (λ (l : List Point). is_removable ratio area (others ++ kept ++ path l) a b c) ∙ e)
+          ∙ next Swept (λ (l : List Point). let u = sweep_from ratio area others (kept ++ s ∷ []) b l in record { kept = a ∷ u.kept; gone = u.gone }) in
+          record {
+            left =
+                append_assoc kept (s ∷ []) (path t.kept) ∙ ap (λ (l : List Seg). kept ++ l) (sym (begins others (kept ++ s ∷ []) a b rest))
+                ∙ ap (λ (u : Swept). kept ++ path u.kept) (sym now) ∙ h.left;
+            removed = ap (λ (u : Swept). gone ++ u.gone) (sym now) ∙ h.removed;
+            near = near place d (omega arith);
+          }
+
+    -- the last point stays
+    pub sweep_ends : (kept : List Seg) (gone : List Point) (a : Point) (place : ℕ) (d : Point) → place + 1 ≡ length points → IsSweeping kept gone a place
+        → (kept ++ record { a = a; b = get_or points place d } ∷ [] ≡ first ++ path (sweep_after ratio area others first points).kept)
+        × (gone ≡ before ++ (sweep_after ratio area others first points).gone)
+    sweep_ends kept gone a place d all h =
+        let b = get_or points place d in
+        let now : sweep_from ratio area others kept a (drop place points) ≡ record { kept = a ∷ b ∷ []; gone = [] } =
+        at_drop_more (sweep_from ratio area others kept a) points place d (omega arith)
+        ∙ ap (λ (l : List Point). sweep_from ratio area others kept a (b ∷ l)) (drop_all (place + 1) points (omega arith)) in (
+          ap (λ (u : Swept). kept ++ path u.kept) (sym now) ∙ h.left,
+          sym (append-nil gone) ∙ ap (λ (u : Swept). gone ++ u.gone) (sym now) ∙ h.removed,
+        )
+
+  -- what is tested where a sweep stands at a vertex of edge number i is what the definition tests
+  pub stand_alike : (at : Stand) (edges : List Edge) (i : ℕ) (d : Edge) (kept : List Seg) (a b c : Point) → Ascend edges → i < length edges
+      → (get_or edges i d).key ≡ at.key
+      → is_removable ratio area (kept ++ left_segments at edges) a b c
+      ≡ is_removable ratio area (other_segments at.made i edges ++ kept ++ path (drop (at.place + 1) (get_or edges i d).points)) a b c
+  stand_alike at edges i d kept a b c up short same =
+      let before = flat_map (unswept_path at.made) (take i edges) in
+      let rest = path (drop (at.place + 1) (get_or edges i d).points) in
+      let later = live_segments (drop (i + 1) edges) in
+      ap (λ (l : List Seg). is_removable ratio area (kept ++ l) a b c) (left_around at edges i d up short same)
+      ∙ removable_alike (kept ++ (before ++ (rest ++ later))) (((before ++ later) ++ kept) ++ rest) a b c (alike_inside kept before rest later)
+
+-- ---- all edges
+
+-- what is removed of these edges, where `before` has the segments of the edges before them
+abbrev sweep_rest : ℕ → ℤ → ℕ → List Seg → List Edge → List Point
+sweep_rest ratio area made before [] = []
+sweep_rest ratio area made before (e ∷ edges) =
+    elim (has_side made e) [
+      | true ↦
+          let s = sweep_points ratio area (before ++ live_segments edges) e.points in
+          s.gone ++ sweep_rest ratio area made (before ++ path s.kept) edges
+      | false ↦ sweep_rest ratio area made (before ++ path e.points) edges
+    ]
 
 -- the segments of one edge more
 live_more : (before : List Edge) (e : Edge) → live_segments (before ++ e ∷ []) ≡ live_segments before ++ path e.points
@@ -163,46 +291,94 @@ module _ (ratio : ℕ) (area : ℤ) (made : ℕ) where
   swept_edges before [] = refl
   swept_edges before (e ∷ edges) = edge_step before e edges _ refl (λ x. swept_edges (before ++ x ∷ []) edges)
 
--- ---- one place of a row
+  rest_alike : (before before' : List Seg) (edges : List Edge) → AreAlike before before' → sweep_rest ratio area made before edges ≡ sweep_rest ratio area made before' edges
+  rest_alike before before' [] h = refl
+  rest_alike before before' (e ∷ edges) h =
+      by (has_side made e) refl (λ ys. rest_alike (before ++ ys) (before' ++ ys) edges (alike_both before before' ys h))
+    where
+      same : sweep_points ratio area (before ++ live_segments edges) e.points ≡ sweep_points ratio area (before' ++ live_segments edges) e.points
+      same =
+          points_alike ratio area (before ++ live_segments edges) (before' ++ live_segments edges) e.points
+          (alike_both before before' (live_segments edges) h)
 
-module _ (ratio : ℕ) (area : ℤ) (others : List Seg) (points first : List Point) where
-  -- What was kept and removed so far, and what is of the points from a place on, is what is kept and removed of all points.
-  -- `first` was removed before the row.
-  abbrev pub IsSweeping : List Point → List Point → ℕ → Type 0
-  IsSweeping kept gone place =
-      (kept ++ (sweep_on ratio area others kept (drop place points)).kept ≡ (sweep_on ratio area others [] points).kept)
-      × (gone ++ (sweep_on ratio area others kept (drop place points)).gone ≡ first ++ (sweep_on ratio area others [] points).gone)
-      × All IsNearPoint kept
+      by : (r : Bool) → has_side made e ≡ r
+          → ((ys : List Seg) → sweep_rest ratio area made (before ++ ys) edges ≡ sweep_rest ratio area made (before' ++ ys) edges)
+          → sweep_rest ratio area made before (e ∷ edges) ≡ sweep_rest ratio area made before' (e ∷ edges)
+      by true side rest =
+          let t = sweep_points ratio area (before ++ live_segments edges) e.points in
+          rest_swept before e edges side
+          ∙ ap (λ (l : List Point). t.gone ++ l) (rest (path t.kept))
+          ∙ ap (λ (u : Swept). u.gone ++ sweep_rest ratio area made (before' ++ path u.kept) edges) same
+          ∙ sym (rest_swept before' e edges side)
+      by false side rest = rest_passed before e edges side ∙ rest (path e.points) ∙ sym (rest_passed before' e edges side)
 
-  pub place_gone : (kept gone : List Point) (place : ℕ) (d : Point) → place < length points
-      → goes ratio area others kept (get_or points place d) (drop (place + 1) points) ≡ true
-      → IsSweeping kept gone place → IsSweeping kept (gone ++ get_or points place d ∷ []) (place + 1)
-  place_gone kept gone place d lt e s =
-      let b = get_or points place d in
-      let rest = drop (place + 1) points in
-      let now = at_drop_more (sweep_on ratio area others kept) points place d lt ∙ on_gone ratio area others kept b rest e in (
-        ap (λ (t : Swept). kept ++ t.kept) (sym now) ∙ s.0,
-        append_assoc gone (b ∷ []) _ ∙ ap (λ (t : Swept). gone ++ t.gone) (sym now) ∙ s.1,
-        s.2,
-      )
+-- ---- one edge
 
-  pub place_kept : (kept gone : List Point) (place : ℕ) (d : Point) → place < length points → All IsNearPoint points
-      → goes ratio area others kept (get_or points place d) (drop (place + 1) points) ≡ false
-      → IsSweeping kept gone place → IsSweeping (kept ++ get_or points place d ∷ []) gone (place + 1)
-  place_kept kept gone place d lt near e s =
-      let b = get_or points place d in
-      let rest = drop (place + 1) points in
-      let now = at_drop_more (sweep_on ratio area others kept) points place d lt ∙ on_kept ratio area others kept b rest e in (
-        append_assoc kept (b ∷ []) _ ∙ ap (λ (t : Swept). kept ++ t.kept) (sym now) ∙ s.0,
-        ap (λ (t : Swept). gone ++ t.gone) (sym now) ∙ s.1,
-        All-append IsNearPoint kept (b ∷ []) s.2 (All-cons IsNearPoint b [] (near place d lt) (All-nil IsNearPoint)),
-      )
+module _ (rule : Rule) (made : ℕ) (edges : List Edge) where
+  -- What was removed so far, and what is of the edges from number i on, is what is removed of all.
+  abbrev pub IsGoing : List Seg → List Point → ℕ → Type 0
+  IsGoing kept gone i =
+      gone ++ sweep_rest rule.ratio rule.area made (flat_map (unswept_path made) (take i edges) ++ kept) (drop i edges)
+      ≡ sweep_rest rule.ratio rule.area made [] edges
 
-  pub places_done : (kept gone : List Point) (place : ℕ) → length points ≤ place → IsSweeping kept gone place
-      → (kept ≡ (sweep_points ratio area others points).kept) × (gone ≡ first ++ (sweep_points ratio area others points).gone)
-  places_done kept gone place le s =
-      let none = at_drop_all (sweep_on ratio area others kept) points place le in
-      let all = sym (swept_points ratio area others points) in (
-        sym (append-nil kept) ∙ ap (λ (t : Swept). kept ++ t.kept) (sym none) ∙ s.0 ∙ ap (λ (t : Swept). t.kept) all,
-        sym (append-nil gone) ∙ ap (λ (t : Swept). gone ++ t.gone) (sym none) ∙ s.1 ∙ ap (λ (t : Swept). first ++ t.gone) all,
-      )
+  -- the segments of one edge more that is not swept
+  unswept_more : (i : ℕ) (d : Edge) → i < length edges
+      → flat_map (unswept_path made) (take (i + 1) edges) ≡ flat_map (unswept_path made) (take i edges) ++ unswept_path made (get_or edges i d)
+  unswept_more i d lt =
+      ap (flat_map (unswept_path made)) (take_more edges i d lt) ∙ flat_map-append (unswept_path made) (take i edges) (get_or edges i d ∷ [])
+      ∙ ap (λ (l : List Seg). flat_map (unswept_path made) (take i edges) ++ l) (append-nil (unswept_path made (get_or edges i d)))
+
+  -- an edge that does not border the face
+  pub edge_passed : (kept : List Seg) (gone : List Point) (i : ℕ) (d : Edge) → i < length edges → has_side made (get_or edges i d) ≡ false
+      → IsGoing kept gone i → IsGoing kept gone (i + 1)
+  edge_passed kept gone i d lt h s =
+      let e = get_or edges i d in
+      let rest = drop (i + 1) edges in
+      let before = flat_map (unswept_path made) (take i edges) in
+      let more : flat_map (unswept_path made) (take (i + 1) edges) ≡ before ++ path e.points =
+      unswept_more i d lt ∙ ap (λ (b : Bool). before ++ (if b then [] else path e.points)) h in
+      ap (λ (l : List Seg). gone ++ sweep_rest rule.ratio rule.area made (l ++ kept) rest) more
+      ∙ ap (λ (l : List Point). gone ++ l)
+      (rest_alike rule.ratio rule.area made ((before ++ path e.points) ++ kept) ((before ++ kept) ++ path e.points) rest (alike_turned before (path e.points) kept)
+      ∙ sym (at_drop_more (sweep_rest rule.ratio rule.area made (before ++ kept)) edges i d lt ∙ rest_passed rule.ratio rule.area made (before ++ kept) e rest h))
+      ∙ s
+
+  -- an edge that borders it
+  pub edge_swept : (kept all_kept : List Seg) (gone all_gone : List Point) (i : ℕ) (d : Edge) → i < length edges → has_side made (get_or edges i d) ≡ true
+      → IsEdgeSwept rule made edges i d kept all_kept gone all_gone → IsGoing kept gone i → IsGoing all_kept all_gone (i + 1)
+  edge_swept kept all_kept gone all_gone i d lt h w s =
+      let e = get_or edges i d in
+      let rest = drop (i + 1) edges in
+      let before = flat_map (unswept_path made) (take i edges) in
+      let t = swept_edge rule made edges i d kept in
+      let same : t ≡ sweep_points rule.ratio rule.area ((before ++ kept) ++ live_segments rest) e.points =
+      after_alike rule.ratio rule.area (before ++ live_segments rest) kept ((before ++ kept) ++ live_segments rest) e.points
+      (alike_turned before (live_segments rest) kept) in
+      let more : flat_map (unswept_path made) (take (i + 1) edges) ≡ before =
+      unswept_more i d lt ∙ ap (λ (b : Bool). before ++ (if b then [] else path e.points)) h ∙ append-nil before in
+      let removed : IsGoing (kept ++ path t.kept) (gone ++ t.gone) (i + 1) =
+      ap (λ (l : List Seg). (gone ++ t.gone) ++ sweep_rest rule.ratio rule.area made (l ++ (kept ++ path t.kept)) rest) more
+      ∙ ap (λ (l : List Seg). (gone ++ t.gone) ++ sweep_rest rule.ratio rule.area made l rest) (sym (append_assoc before kept (path t.kept)))
+      ∙ append_assoc gone t.gone (sweep_rest rule.ratio rule.area made ((before ++ kept) ++ path t.kept) rest)
+      ∙ ap (λ (u : Swept). gone ++ (u.gone ++ sweep_rest rule.ratio rule.area made ((before ++ kept) ++ path u.kept) rest)) same
+      ∙ ap (λ (l : List Point). gone ++ l)
+      (sym (at_drop_more (sweep_rest rule.ratio rule.area made (before ++ kept)) edges i d lt ∙ rest_swept rule.ratio rule.area made (before ++ kept) e rest h))
+      ∙ s in
+      subst (λ (l : List Seg). IsGoing l all_gone (i + 1)) (sym w.left) (subst (λ (l : List Point). IsGoing (kept ++ path t.kept) l (i + 1)) (sym w.removed) removed)
+
+  pub all_swept : (kept : List Seg) (gone : List Point) (i : ℕ) → length edges ≤ i → IsGoing kept gone i → gone ≡ sweep_edges rule.ratio rule.area made [] edges
+  all_swept kept gone i le s =
+      sym (append-nil gone)
+      ∙ ap (λ (l : List Point). gone ++ l)
+      (sym (at_drop_all (sweep_rest rule.ratio rule.area made (flat_map (unswept_path made) (take i edges) ++ kept)) edges i le))
+      ∙ s ∙ sym (swept_edges rule.ratio rule.area made [] edges)
+
+-- ---- a step
+
+pub sweep_none : (ratio : ℕ) (area : ℤ) (made : ℕ) (live : List Edge) → ratio ≡ 0 → sweep ratio area made live ≡ []
+unfolding sweep
+sweep_none ratio area made live e = ap (λ (b : Bool). if b then [] else sweep_edges ratio area made [] live) (eq-eqb ratio 0 e)
+
+pub sweep_all : (ratio : ℕ) (area : ℤ) (made : ℕ) (live : List Edge) → ¬ (ratio ≡ 0) → sweep ratio area made live ≡ sweep_edges ratio area made [] live
+unfolding sweep
+sweep_all ratio area made live n = ap (λ (b : Bool). if b then [] else sweep_edges ratio area made [] live) (ne_eqb ratio 0 n)

@@ -1,4 +1,5 @@
 pub mod Boxes
-pub mod Rows
+pub mod Held
 pub mod Outside
+pub mod Left
 pub mod Sweep

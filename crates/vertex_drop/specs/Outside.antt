@@ -1,26 +1,26 @@
 -- Boxes that are apart from one another and from segments.
 use Rattle.std.specs.Prelude.{ℤ, pos, ◌<ℤ◌, ◌≢◌, ◌⊎◌}
 use Rattle.tgap_model.specs.declared.geometry.Seg.{Seg}
+use Rattle.tgap_model.specs.declared.geometry.Window.{Window}
 use Rattle.tgap_model.specs.Point.{cross}
-use Rattle.vertex_drop.specs.declared.bounds.Bounds.{Bounds}
 use Rattle.vertex_drop.specs.declared.triangle.Triangle.{Triangle}
-use Rattle.vertex_drop.specs.Rows.{IsNearPoint, IsHeld}
+use Rattle.vertex_drop.specs.Held.{IsNearPoint, IsHeld}
 
 -- the numbers from a to b are less than those from c to d, or greater
 abbrev pub AreRangesApart : ℤ → ℤ → ℤ → ℤ → Type 0
 AreRangesApart a b c d = (b <ℤ c) ⊎ (d <ℤ a)
 
 -- the boxes are apart along an axis
-abbrev pub AreApart : Bounds → Bounds → Type 0
-AreApart s t = AreRangesApart s.left s.right t.left t.right ⊎ AreRangesApart s.low s.high t.low t.high
+abbrev pub AreApart : Window → Window → Type 0
+AreApart s t = AreRangesApart s.x0 s.x1 t.x0 t.x1 ⊎ AreRangesApart s.y0 s.y1 t.y0 t.y1
 
 -- both numbers are less than those from low to high, or greater
 abbrev pub AreBeyond : ℤ → ℤ → ℤ → ℤ → Type 0
 AreBeyond a b low high = ((a <ℤ low) × (b <ℤ low)) ⊎ ((high <ℤ a) × (high <ℤ b))
 
 -- both ends of the segment are on one side of the box
-abbrev pub IsOutside : Bounds → Seg → Type 0
-IsOutside b s = AreBeyond s.a.x s.b.x b.left b.right ⊎ AreBeyond s.a.y s.b.y b.low b.high
+abbrev pub IsOutside : Window → Seg → Type 0
+IsOutside b s = AreBeyond s.a.x s.b.x b.x0 b.x1 ⊎ AreBeyond s.a.y s.b.y b.y0 b.y1
 
 -- the corners are within the limits and not on one line, and the box holds them
 pub record IsTriangle (t : Triangle) : Type 0 where

@@ -1,10 +1,12 @@
 //! Which vertices a step of the history removes out of the edges that border its new face. It stands on `tgap_model`, whose
-//! `Removals` defines them, and on the predicates of `grid_geo`.
+//! `Removals` defines them, on the predicates of `grid_geo`, and on the look-up of segments of `grid_index`.
 #![tactic(auto)]
 
 mod bounds;
+mod chunk;
+mod kept;
+mod near;
 mod removable;
-mod row;
 mod steps;
 #[cfg(test)]
 mod tests;

@@ -1,21 +1,23 @@
 //! Whether a vertex can be removed.
 
-ghost use Rattle.std.specs.Prelude.{◌≡◌, ◌≢◌, ◌<◌, ◌≤◌, ◌*◌, ◌++◌, ℕ, pos, int_le, unsigned_abs, ◌+◌, drop, get_or, length, All};
+ghost use Rattle.std.specs.Prelude.{◌≡◌, ◌≢◌, ◌<◌, ◌≤◌, ◌*◌, ◌^◌, ◌++◌, ℕ, pos, int_le, unsigned_abs, ◌+◌, IfOk};
 ghost use Rattle.std.specs.List.{list_all};
 ghost use Rattle.tgap_model.specs.Bounds.{max_cross};
 ghost use Rattle.tgap_model.specs.Point.{cross};
 ghost use Rattle.tgap_model.specs.Clear.{is_clear};
-ghost use Rattle.tgap_model.specs.Removals.{path, is_removable};
-ghost use Rattle.tgap_model.specs.declared.geometry.Point.{Point as Place};
-ghost use Rattle.vertex_drop.specs.Rows.{IsNearPoint, IsRow, other_segments};
-ghost use Rattle.vertex_drop.specs.Sweep.{goes};
+ghost use Rattle.tgap_model.specs.Removals.{is_removable};
+ghost use Rattle.vertex_drop.specs.Held.{IsNearPoint};
+ghost use Rattle.vertex_drop.specs.Left.{left_segments};
 ghost use Rattle.vertex_drop.specs.Outside.{IsTriangle};
 
 use crate::bounds::bounds_of;
-use crate::row::Row;
-use crate::triangle::{Triangle, are_rows_clear, is_path_clear};
+use crate::kept::Kept;
+use crate::near::{Stand, is_clear_of_left};
+use crate::triangle::Triangle;
 use grid_geo::area2;
-use tgap_model::Point;
+use grid_index::Live;
+use std::alloc::Global;
+use tgap_model::{Memory, Point};
 
 /// When a triangle is small enough: the ratio times twice its area is at most `area`.
 #[derive(Clone, Copy, Debug)]
@@ -32,34 +34,12 @@ fn is_small(rule: Rule, area: i128) -> bool
     i128::from(rule.ratio) * area <= rule.area
 }
 
-/// Whether the triangle is clear of each segment of these rows but that at place `i`.
-fn are_others_clear(t: &Triangle, rows: &[Row], i: usize) -> bool
-    requires triangle { IsTriangle t.now }
-    requires rows { All IsRow rows.now }
-    requires place { i < length rows.now }
-    ensures { result ≡ list_all (is_clear t.now.a t.now.b t.now.c) (other_segments i rows.now) }
-{
-    are_rows_clear(t, &rows[..i]) && are_rows_clear(t, &rows[i + 1..])
-}
-
-/// Whether the triangle is clear of each segment of the other rows, of the points that are kept and of those that follow.
-fn is_clear_of_all(t: &Triangle, rows: &[Row], i: usize, kept: &[Point], rest: &[Point]) -> bool
-    requires triangle { IsTriangle t.now }
-    requires rows { All IsRow rows.now }
-    requires place { i < length rows.now }
-    requires kept { All IsNearPoint kept.now }
-    requires rest { All IsNearPoint rest.now }
-    ensures { result ≡ list_all (is_clear t.now.a t.now.b t.now.c) (other_segments i rows.now ++ path kept.now ++ path rest.now) }
-{
-    is_path_clear(t, kept) && is_path_clear(t, rest) && are_others_clear(t, rows, i)
-}
-
 /// Three points in a row of points.
 #[derive(Clone, Copy, Debug)]
-struct Corner {
-    a: Point,
-    b: Point,
-    c: Point,
+pub struct Corner {
+    pub a: Point,
+    pub b: Point,
+    pub c: Point,
 }
 
 /// The triangle of three points that are not on one line.
@@ -82,55 +62,45 @@ fn triangle_of(corner: Corner) -> Triangle
     }
 }
 
-/// Whether the vertex of a corner is removed, where these points before it are kept, and these follow it.
-fn is_removable(
+/// Whether the triangle is clear of each segment that was kept and of each that the sweep has not come to.
+fn is_clear_of_all(
+    alloc: Global,
+    t: &Triangle,
+    at: Stand,
+    live: &Live,
+    kept: &Kept,
+) -> Result<bool, Memory>
+    requires triangle { IsTriangle t.now }
+    requires at { at.place + 1 < 2 ^ 32 }
+    ensures { IfOk result (λ clear. clear ≡ list_all (is_clear t.now.a t.now.b t.now.c) (kept.now ++ left_segments at live.now)) }
+{
+    if !kept.is_clear_of(t) {
+        return Ok(false);
+    }
+    is_clear_of_left(alloc, t, at, live)
+}
+
+/// Whether the vertex of a corner is removed, at which the sweep stands, where these segments were kept so far.
+pub fn is_removable(
+    alloc: Global,
     rule: Rule,
     corner: Corner,
-    rows: &[Row],
-    i: usize,
-    kept: &[Point],
-    rest: &[Point],
-) -> bool
+    at: Stand,
+    live: &Live,
+    kept: &Kept,
+) -> Result<bool, Memory>
     requires a { IsNearPoint corner.a }
     requires b { IsNearPoint corner.b }
     requires c { IsNearPoint corner.c }
-    requires rows { All IsRow rows.now }
-    requires place { i < length rows.now }
-    requires kept { All IsNearPoint kept.now }
-    requires rest { All IsNearPoint rest.now }
-    ensures { result ≡ is_removable rule.ratio rule.area (other_segments i rows.now ++ path kept.now ++ path rest.now) corner.a corner.b corner.c }
+    requires at { at.place + 1 < 2 ^ 32 }
+    ensures { IfOk result (λ removed. removed ≡ is_removable rule.ratio rule.area (kept.now ++ left_segments at live.now) corner.a corner.b corner.c) }
 {
     let area = area2(corner.a, corner.b, corner.c);
     if area == 0 {
-        return true;
+        return Ok(true);
     }
-    is_small(rule, area) && is_clear_of_all(&triangle_of(corner), rows, i, kept, rest)
-}
-
-/// Whether the point at a place of a row is removed, where these points before it are kept. The first and the last one are
-/// not.
-pub fn goes(
-    rule: Rule,
-    rows: &[Row],
-    i: usize,
-    kept: &[Point],
-    points: &[Point],
-    place: usize,
-) -> bool
-    requires rows { All IsRow rows.now }
-    requires row { i < length rows.now }
-    requires kept { All IsNearPoint kept.now }
-    requires points { All IsNearPoint points.now }
-    requires place { place < length points.now }
-    ensures { (d : Place) → result ≡ goes rule.ratio rule.area (other_segments i rows.now) kept.now (get_or points.now place d) (drop (place + 1) points.now) }
-{
-    if kept.is_empty() || place + 1 == points.len() {
-        return false;
+    if !is_small(rule, area) {
+        return Ok(false);
     }
-    let corner = Corner {
-        a: kept[kept.len() - 1],
-        b: points[place],
-        c: points[place + 1],
-    };
-    is_removable(rule, corner, rows, i, kept, &points[place + 1..])
+    is_clear_of_all(alloc, &triangle_of(corner), at, live, kept)
 }

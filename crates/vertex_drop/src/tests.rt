@@ -1,9 +1,11 @@
 //! A spike of an edge, with and without a ring in it, and other edges that a step may sweep.
 
-ghost use Rattle.std.specs.Prelude.{IfOk, IsTrue, All};
-ghost use Rattle.tgap_model.specs.Base.{in_limits};
+ghost use Rattle.std.specs.Prelude.{◌≡◌, ◌<◌, IfOk, All};
+ghost use Rattle.grid_index.specs.Live.{IsLiveEdge};
+ghost use Rattle.vertex_drop.specs.Held.{IsNearPoint};
 
 use crate::sweep;
+use grid_index::Live;
 use std::alloc::Global;
 use std::test::Fail;
 use tgap_model::{Edge, List, Memory, Point, Removal};
@@ -18,7 +20,7 @@ const FAR_RING: [(u8, u8); 4] = [(14, 2), (16, 2), (15, 4), (14, 2)];
 
 /// The points with these coordinates.
 fn points_of(alloc: Global, coordinates: &[(u8, u8)]) -> Result<List<Point>, Memory>
-    ensures { IfOk result (λ points. All (λ p. IsTrue (in_limits p)) points) }
+    ensures { IfOk result (λ points. All IsNearPoint points) }
 {
     let mut points = List::new(alloc);
     for (x, y) in coordinates {
@@ -30,16 +32,33 @@ fn points_of(alloc: Global, coordinates: &[(u8, u8)]) -> Result<List<Point>, Mem
     Ok(points)
 }
 
-/// An edge with face 1 at its right.
+/// An edge with face 1 at its right. Only an edge with a segment can be live.
 fn edge_of(alloc: Global, key: u32, left: u32, coordinates: &[(u8, u8)]) -> Result<Edge, Memory>
-    ensures { IfOk result (λ edge. All (λ p. IsTrue (in_limits p)) edge.points) }
+    ensures key { IfOk result (λ edge. edge.key ≡ key) }
+    ensures live { IfOk result IsLiveEdge }
 {
+    let points = points_of(alloc, coordinates)?;
+    if points.len() < 2 || 100 < points.len() {
+        return Err(Memory);
+    }
     Ok(Edge {
         key,
         left,
         right: 1,
-        points: points_of(alloc, coordinates)?,
+        points,
     })
+}
+
+/// Two live edges in order of key.
+fn live_of(alloc: Global, first: Edge, second: Edge) -> Result<Live, Memory>
+    requires order { first.key < second.key }
+    requires first { IsLiveEdge first }
+    requires second { IsLiveEdge second }
+{
+    let mut edges = List::new(alloc);
+    edges.push(first)?;
+    edges.push(second)?;
+    Live::of(alloc, &edges)
 }
 
 /// What step 5 removes of two edges, of which the first has face `left` at its left and the second face 2. The step makes
@@ -52,9 +71,9 @@ fn removed(
     ratio: u32,
     loser_area: i128,
 ) -> Result<List<Removal>, Memory> {
-    let mut live = List::new(alloc);
-    live.push(edge_of(alloc, 0, left, first)?)?;
-    live.push(edge_of(alloc, 1, 2, second)?)?;
+    let one = edge_of(alloc, 0, left, first)?;
+    let other = edge_of(alloc, 1, 2, second)?;
+    let live = live_of(alloc, one, other)?;
     sweep(alloc, &live, 9, loser_area, ratio, 5)
 }
 

@@ -2,7 +2,7 @@ use Rattle.std.proofs.Common.{All, subst, List}
 use Rattle.std.proofs.lemmas.List.{take_all}
 use Rattle.std.proofs.lemmas.List.Elements.{All-more}
 use Rattle.tgap_model.specs.declared.geometry.Point.{Point}
-use Rattle.vertex_drop.specs.Rows.{IsHeld}
+use Rattle.vertex_drop.specs.Held.{IsHeld}
 use Rattle.vertex_drop.proofs.bounds.bounds_of.Goals as goal
 
 pub loop-point-preserved : goal.loop-point-preserved

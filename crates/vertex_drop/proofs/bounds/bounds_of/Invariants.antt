@@ -1,6 +1,6 @@
 -- the box holds the points so far
 use Rattle.std.proofs.Common.{take, All}
-use Rattle.vertex_drop.specs.Rows.{IsHeld}
+use Rattle.vertex_drop.specs.Held.{IsHeld}
 use Rattle.vertex_drop.proofs.bounds.bounds_of.Given as goal
 
 abbrev pub invariant-loop-point : goal.invariant-loop-point

@@ -1,6 +1,10 @@
-use Rattle.std.proofs.Common.{◌≤◌, ℤ, unsigned_abs, sym, subst}
+use Rattle.std.proofs.Common.{◌≡◌, ◌≤◌, ◌++◌, ℤ, Bool, unsigned_abs, sym, ◌∙◌, subst}
+use Rattle.std.specs.List.{list_all}
+use Rattle.std.proofs.lemmas.Result.{IfOk-weaker}
 use Rattle.tgap_model.specs.Bounds.{max_cross}
 use Rattle.tgap_model.specs.Point.{area2}
+use Rattle.tgap_model.specs.Clear.{is_clear}
+use Rattle.vertex_drop.specs.Left.{left_segments}
 use Rattle.vertex_drop.proofs.Small.{area_small, wide_area, area_of_zero, not_zero}
 use Rattle.vertex_drop.proofs.Removed.{removed_flat, kept_large, removed_clear}
 use Rattle.vertex_drop.proofs.removable.is_removable.Goals as goal
@@ -20,19 +24,25 @@ is_small-requires c =
     let small = area_small t.a t.b t.c r.a r.b r.c in
     subst (λ (z : ℤ). unsigned_abs z ≤ max_cross) (sym (wide_area c.area2-area.result (area2 t.a t.b t.c) c.area2-area.ensures small)) small
 
-pub returns-then-is_small : goal.returns-then-is_small
-returns-then-is_small c =
+pub returns-then-not-is_small : goal.returns-then-not-is_small
+returns-then-not-is_small c =
     let t = c.args.corner in
     let r = c.requires in
     let small = area_small t.a t.b t.c r.a r.b r.c in
-    removed_clear c.args.rule.ratio c.args.rule.area _ t.a t.b t.c (not_zero c.area2-area.result (area2 t.a t.b t.c) c.area2-area.ensures c.if-area-eq0.false)
-    (c.is_small.ensures (area2 t.a t.b t.c) (wide_area c.area2-area.result (area2 t.a t.b t.c) c.area2-area.ensures small)) c.if-is_small.true
-    (rw (sym c.triangle_of.ensures.a, sym c.triangle_of.ensures.b, sym c.triangle_of.ensures.c) c.is_clear_of_all.ensures)
+    sym c.if-not-is_small.true
+    ∙ kept_large c.args.rule.ratio c.args.rule.area _ t.a t.b t.c (not_zero c.area2-area.result (area2 t.a t.b t.c) c.area2-area.ensures c.if-area-eq0.false)
+    (c.is_small.ensures (area2 t.a t.b t.c) (wide_area c.area2-area.result (area2 t.a t.b t.c) c.area2-area.ensures small)) c.if-not-is_small.true
 
-pub returns-else-is_small : goal.returns-else-is_small
-returns-else-is_small c =
+pub returns : goal.returns
+returns c =
     let t = c.args.corner in
     let r = c.requires in
+    let u = c.triangle_of.result in
+    let others = c.args.kept.now ++ left_segments c.args.at c.args.live.now in
     let small = area_small t.a t.b t.c r.a r.b r.c in
-    kept_large c.args.rule.ratio c.args.rule.area _ t.a t.b t.c (not_zero c.area2-area.result (area2 t.a t.b t.c) c.area2-area.ensures c.if-area-eq0.false)
-    (c.is_small.ensures (area2 t.a t.b t.c) (wide_area c.area2-area.result (area2 t.a t.b t.c) c.area2-area.ensures small)) c.if-is_small.false
+    IfOk-weaker c.is_clear_of_all.result (λ (clear : Bool). clear ≡ list_all (is_clear u.a u.b u.c) others) _
+    (λ clear e.
+    removed_clear c.args.rule.ratio c.args.rule.area others t.a t.b t.c (not_zero c.area2-area.result (area2 t.a t.b t.c) c.area2-area.ensures c.if-area-eq0.false)
+    (c.is_small.ensures (area2 t.a t.b t.c) (wide_area c.area2-area.result (area2 t.a t.b t.c) c.area2-area.ensures small)) c.if-not-is_small.false
+    (rw (sym c.triangle_of.ensures.a, sym c.triangle_of.ensures.b, sym c.triangle_of.ensures.c) e))
+    c.is_clear_of_all.ensures

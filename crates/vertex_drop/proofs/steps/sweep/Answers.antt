@@ -1,11 +1,10 @@
-use Rattle.std.proofs.Common.{◌≡◌, ℤ, List, [], map, to_z, of_z, IfOk, sym, ap, ◌∙◌, subst}
+use Rattle.std.proofs.Common.{◌≡◌, ℤ, List, [], map, IfOk, sym, ap, ◌∙◌, subst}
 use Rattle.tgap_model.specs.declared.geometry.Point.{Point}
 use Rattle.std.specs.Int.{w128}
 use Rattle.std.proofs.lemmas.Int.{to_z-of_z}
-use Rattle.tgap_model.specs.declared.slice.Edge.{Edge}
 use Rattle.tgap_model.specs.Removals.{sweep_edges}
 use Rattle.tgap_model.specs.declared.slice.Removal.{Removal}
-use Rattle.vertex_drop.proofs.RowSteps.{sweep_none, sweep_all}
+use Rattle.vertex_drop.proofs.Swept.{sweep_none, sweep_all}
 use Rattle.vertex_drop.proofs.steps.sweep.Goals as goal
 
 pub returns-then-ratio-eq0 : goal.returns-then-ratio-eq0
@@ -20,7 +19,6 @@ returns c =
     let live = c.args.live.now in
     let removed =
     c.deref.ensures.value ∙ c.in_ok-gone.ensures
-    ∙ ap (λ (l : List Edge). sweep_edges c.args.ratio (to_z w128 (of_z w128 c.args.loser_area)) c.args.made [] l) c.as_slice.ensures
     ∙ ap (λ (z : ℤ). sweep_edges c.args.ratio z c.args.made [] live) area
     ∙ sym (sweep_all c.args.ratio c.args.loser_area c.args.made live c.if-ratio-eq0.false) in
     subst (λ (l : List Point).
