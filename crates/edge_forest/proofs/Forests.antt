@@ -1,5 +1,5 @@
 -- What is known of a forest, from its growth.
-use Rattle.std.proofs.Common.{◌≡◌, ◌≢◌, inl, inr, ℕ, ◌+◌, ◌<◌, ◌≤◌, ◌^◌, ◌==◌, ◌&&◌, nat_le, nat_lt, Bool, true, false, cond, List, [], ◌∷◌, map, filter, length, get_or, Contains, refl, sym, ap, ap₂, ◌∙◌, subst, arith}
+use Rattle.std.proofs.Common.{◌≡◌, ◌≢◌, inl, inr, ℕ, ◌+◌, ◌-◌, ◌<◌, ◌≤◌, ◌^◌, ◌==◌, ◌&&◌, nat_le, nat_lt, Bool, true, false, cond, List, [], ◌∷◌, map, filter, length, get_or, Contains, refl, sym, ap, ap₂, ◌∙◌, subst, arith}
 use Rattle.std.specs.List.{All, range_with_len}
 use Rattle.std.proofs.lemmas.Bool.{cases_eq, and_parts, eqb-true, leb-true, lt-ltb, true≢false}
 use Rattle.std.proofs.lemmas.List.{length-map, get_or-map}
@@ -134,7 +134,7 @@ step_known made closed g t w f view done k l =
 
 -- ---- at the end of the history
 
-module _ (made : ℕ) (g g' : Growth) (t : PointSteps) (w : IsForest (forest_of made false g t)) (few : length g.edges.items < 2 ^ 32) (all : made ≡ length (history_of g.base)) (less : made + 1 < never)
+module _ (made : ℕ) (g g' : Growth) (t : PointSteps) (w : IsForest (forest_of made false g t)) (few : length g.edges.items < 2 ^ 32 - 1) (all : made ≡ length (history_of g.base)) (less : made + 1 < never)
     (base : g'.base ≡ g.base) (edges : g'.edges.items ≡ map (closed_edge (made + 1)) g.edges.items) where
   abbrev old : List ForestEdge
   old = g.edges.items

@@ -22,6 +22,8 @@ use Rattle.edge_forest.proofs.Attached.{new_links, new_key, new_row, row_stays}
 use Rattle.edge_forest.proofs.Nets.{some_same, none_some, read_within, set_reads}
 use Rattle.edge_forest.proofs.Chains.{set_chains, push_chains, chains_count}
 use Rattle.edge_forest.proofs.AliveSame.{IsLonger, longer_chains}
+use Rattle.edge_forest.specs.Continued.{AreContinued}
+use Rattle.edge_forest.proofs.Continued.{continued}
 
 -- the chain of the parts is the attached chain
 parts_attached : (chains : List Chain) (m : Meeting)
@@ -398,3 +400,23 @@ module _ (k : ℕ) (g : Growth) (w : IsStored k g) (places : List ℕ) (m : Meet
       (ended k (edge_at (set g.edges.items m.one.id (ended k (edge_at g.edges.items m.one.id))) m.other.id))
       ++ record { key = m.key; low = k; high = never; left = m.one.left; right = m.one.right; parts = meeting_parts m } ∷ []
   edges_by one two three parts e1 e2 ep e3 = rw (sym e1, sym e2, sym ep) e3
+
+  -- the edges go on
+  pub join_continued : (edges' : List ForestEdge)
+      → edges' ≡ set (set g.edges.items m.one.id (ended k (edge_at g.edges.items m.one.id))) m.other.id
+      (ended k (edge_at (set g.edges.items m.one.id (ended k (edge_at g.edges.items m.one.id))) m.other.id))
+      ++ record { key = m.key; low = k; high = never; left = m.one.left; right = m.one.right; parts = meeting_parts m } ∷ []
+      → AreContinued g.edges.items edges'
+  join_continued edges' e = rw e (record {
+    count = omega (arith, new_length);
+    each = λ i l. continued k less old new i (elim (kept i l) [
+      | inl u ↦ inr (
+        elim u.0 [
+          | inl s ↦ ap (λ (n : ℕ). (edge_at old n).high) s ∙ of_one.high
+          | inr s ↦ ap (λ (n : ℕ). (edge_at old n).high) s ∙ of_other.high
+        ],
+        u.1,
+      )
+      | inr u ↦ inl u.2
+    ]) (old_chain i l);
+  })

@@ -6,11 +6,11 @@ mod Nets
 mod Numbering
 mod InOrder
 mod Tables
-mod Walks
-mod WalkedArcs
+pub mod Walks
+pub mod WalkedArcs
 mod AliveNumbers
 mod Chains
-mod AliveSame
+pub mod AliveSame
 mod NodeJoins
 mod JoinStored
 mod Limits
@@ -18,6 +18,7 @@ mod Counting
 mod InTurn
 mod SettledKeys
 mod EndedEdges
+mod Continued
 mod FewSteps
 mod Settled
 mod Touched
@@ -30,5 +31,5 @@ mod StepJoints
 mod StartJoints
 mod Steps
 mod Few
-mod Forests
-mod RemovedPoints
+pub mod Forests
+pub mod RemovedPoints

@@ -1,5 +1,5 @@
 -- What a forest keeps of its growth.
-use Rattle.std.specs.Prelude.{◌≡◌, ◌<◌, ◌≤◌, ◌^◌, ℕ, Bool, true, false, ◌==◌, length, Contains, if◌then◌else◌}
+use Rattle.std.specs.Prelude.{◌≡◌, ◌<◌, ◌≤◌, ◌-◌, ◌^◌, ℕ, Bool, true, false, ◌==◌, length, Contains, if◌then◌else◌}
 use Rattle.tgap_model.specs.declared.geometry.Point.{Point}
 use Rattle.tgap_model.specs.History.{history_of}
 use Rattle.edge_forest.specs.declared.edge.ForestEdge.{ForestEdge}
@@ -16,7 +16,7 @@ forest_of made closed g t = record { base = g.base; made = made; closed = closed
 -- none has a later step than the last one.
 pub record IsKept (made : ℕ) (closed : Bool) (g : Growth) (t : PointSteps) : Type 0 where
   pub forest : IsForest (forest_of made closed g t)
-  pub few : length g.edges.items < 2 ^ 32
+  pub few : length g.edges.items < 2 ^ 32 - 1
   pub growing : closed ≡ false → IsAtRest made g × IsFew g
   pub done : closed ≡ true → made ≡ length (history_of g.base)
   pub listed : (p : Point) → Contains (arc_points g.base.arcs) p → Contains t.points p

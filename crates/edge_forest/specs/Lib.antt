@@ -11,3 +11,4 @@ pub mod Growth
 pub mod Start
 pub mod Settle
 pub mod Kept
+pub mod Continued

@@ -1,6 +1,6 @@
 //! The forest of edges.
 
-ghost use Rattle.std.specs.Prelude.{◌≡◌, ◌≢◌, ◌<◌, ◌≤◌, ◌+◌, ◌==◌, ◌&&◌, ◌||◌, ℕ, true, false, not, nat_le, map, filter, length, Contains, AllPairs, IfOk, OnOk, OnErr, if◌then◌else◌};
+ghost use Rattle.std.specs.Prelude.{◌≡◌, ◌≢◌, ◌<◌, ◌≤◌, ◌+◌, ◌-◌, ◌^◌, ◌==◌, ◌&&◌, ◌||◌, ℕ, true, false, not, nat_le, map, filter, length, Contains, AllPairs, IfOk, OnOk, OnErr, if◌then◌else◌};
 ghost use Rattle.std.specs.List.{All, list_any};
 ghost use Rattle.std.specs.Vec.{vec_len};
 ghost use Rattle.tgap_model.specs.Base.{same_point};
@@ -8,6 +8,7 @@ ghost use Rattle.tgap_model.specs.Merged.{merged, step_number};
 ghost use Rattle.tgap_model.specs.Chains.{chain_points, chains_at};
 ghost use Rattle.edge_forest.specs.Edges.{IsForestEdge, edge_at, chain_of, alive_edges};
 ghost use Rattle.edge_forest.specs.Forest.{IsForest, last_step, never, is_gone};
+ghost use Rattle.edge_forest.specs.Continued.{AreContinued};
 ghost use Rattle.edge_forest.specs.Kept.{closed_edge};
 ghost use Rattle.edge_forest.specs.Removed.{arc_points};
 
@@ -35,6 +36,7 @@ pub struct Forest {
 
 impl Model for Forest {
     ghost use Rattle.edge_forest.specs.Forest.{EdgeForest};
+    ghost use Rattle.edge_forest.specs.Continued.{AreContinued};
     ghost use Rattle.edge_forest.specs.Kept.{IsKept};
 
     ghost Value = { EdgeForest };
@@ -105,7 +107,8 @@ impl Forest {
     }
 
     /// The next step of the history: the edges between its loser and its winner end, and the others are joined at the
-    /// nodes whose degree became two. On want of memory nothing changes.
+    /// nodes whose degree became two. An edge that was there keeps its number, its labels and its parts. On want of memory
+    /// nothing changes.
     pub fn merge(&mut self, alloc: Global, step: &MergeStep) -> Result<(), Memory>
         requires open { self.old.closed ≡ false }
         requires more { self.old.made < last_step self.old }
@@ -113,6 +116,7 @@ impl Forest {
         ensures base { OnOk result (self.new.base ≡ self.old.base) }
         ensures made { OnOk result (self.new.made ≡ self.old.made + 1) }
         ensures closed { OnOk result (self.new.closed ≡ false) }
+        ensures continued { OnOk result (AreContinued self.old.edges self.new.edges) }
         ensures gone { OnOk result ((k : ℕ) (p : Point) → is_gone self.new k p ≡ is_gone self.old k p) }
         ensures err { OnErr result (self.new ≡ self.old) }
     {
@@ -155,6 +159,14 @@ impl Forest {
         give_up(alloc, &mut self.growth);
         self.closed = true;
         Ok(())
+    }
+
+    /// The number of edges so far, those that have ended among them. They have the numbers from 0 on.
+    pub fn count(&self) -> u32
+        ensures value { result ≡ length self.now.edges }
+        ensures few { length self.now.edges < 2 ^ 32 - 1 }
+    {
+        self.growth.edges.len() as u32
     }
 
     /// An edge.

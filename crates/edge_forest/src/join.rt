@@ -4,6 +4,7 @@ ghost use Rattle.std.specs.Prelude.{◌≡◌, false, ◌<◌, ◌≤◌, ◌+�
 ghost use Rattle.std.specs.Vec.{vec_capacity, vec_len};
 ghost use Rattle.edge_forest.specs.Edges.{edge_at};
 ghost use Rattle.edge_forest.specs.Forest.{never};
+ghost use Rattle.edge_forest.specs.Continued.{AreContinued};
 ghost use Rattle.edge_forest.specs.Growth.{IsStored, IsJoinedAt, meeting_parts, ended};
 
 use crate::edge::{ForestEdge, Part};
@@ -60,6 +61,7 @@ pub fn join(growth: &mut Growth, node: u32, low: u32, room: Vec<Part>)
     requires few { length growth.old.edges.items < 2 ^ 32 - 1 }
     ensures stored { IsStored low growth.new }
     ensures joined { IsJoinedAt growth.old node growth.new }
+    ensures continued { AreContinued growth.old.edges.items growth.new.edges.items }
     ensures capacity { vec_capacity growth.new.edges ≡ vec_capacity growth.old.edges }
     ensures count { vec_len growth.new.edges ≤ vec_len growth.old.edges + 1 }
 {

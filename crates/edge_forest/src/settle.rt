@@ -8,6 +8,7 @@ ghost use Rattle.edge_forest.specs.declared.net.Current.{Current};
 ghost use Rattle.edge_forest.specs.Forest.{never};
 ghost use Rattle.edge_forest.specs.Net.{IsNet, row_at};
 ghost use Rattle.edge_forest.specs.Growth.{IsAtRest, IsStored, IsSettled, keys_at, keys_of_both, is_row_between, relabel_row, row_after};
+ghost use Rattle.edge_forest.specs.Continued.{AreContinued};
 ghost use Rattle.edge_forest.specs.Settle.{edges_after, nodes_after, is_ending, IsSettling};
 
 use crate::growth::Growth;
@@ -163,6 +164,7 @@ pub fn settle(
     requires room { (touched.old.items ≡ []) × (2 * count_by (is_ending step.now growth.old.net.rows.items) keys ≤ vec_capacity touched.old) }
     ensures stored { IsStored low growth.new }
     ensures settled { IsSettled step.now growth.old growth.new touched.new.items }
+    ensures continued { AreContinued growth.old.edges.items growth.new.edges.items }
     ensures count { length touched.new.items ≤ 2 * count_by (is_ending step.now growth.old.net.rows.items) keys }
     ensures edges_capacity { vec_capacity growth.new.edges ≡ vec_capacity growth.old.edges }
     ensures edges_count { vec_len growth.new.edges ≡ vec_len growth.old.edges }

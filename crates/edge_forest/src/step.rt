@@ -5,6 +5,7 @@ ghost use Rattle.std.specs.List.{All};
 ghost use Rattle.std.specs.Vec.{vec_capacity};
 ghost use Rattle.tgap_model.specs.History.{history_of};
 ghost use Rattle.tgap_model.specs.Merged.{merged, step_number};
+ghost use Rattle.edge_forest.specs.Continued.{AreContinued};
 ghost use Rattle.edge_forest.specs.Growth.{IsAtRest, IsFew, IsKeptAs, has_row, keys_of_both};
 
 use crate::edge::Part;
@@ -85,6 +86,7 @@ pub fn make_step(
     ensures rest { OnOk result (IsAtRest low growth.new) }
     ensures few { OnOk result (IsFew growth.new) }
     ensures base { OnOk result (growth.new.base ≡ growth.old.base) }
+    ensures continued { OnOk result (AreContinued growth.old.edges.items growth.new.edges.items) }
     ensures err { OnErr result (IsKeptAs growth.old growth.new) }
 {
     let keys = keys_at_both(alloc, growth, step)?;

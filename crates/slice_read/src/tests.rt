@@ -77,7 +77,7 @@ fn built_squares<R: Threads + Sync>(rt: &R, alloc: Global) -> Result<Option<Buil
     let Some(checked) = checked_squares(rt, alloc)? else {
         return Ok(None);
     };
-    Ok(Some(build(alloc, checked)?))
+    Ok(Some(build(rt, alloc, checked)?))
 }
 
 /// Whether the edge has this key, these faces and these points.

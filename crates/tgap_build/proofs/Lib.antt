@@ -3,3 +3,14 @@ pub mod Sides
 pub mod Removed
 pub mod Swept
 pub mod Lost
+pub mod KeyedEdges
+pub mod EachLive
+pub mod Alive
+pub mod Numbers
+pub mod Behind
+pub mod StepEdges
+pub mod Taken
+pub mod Run
+pub mod Losing
+pub mod PointSets
+pub mod Hulls

@@ -8,7 +8,7 @@ use Rattle.tgap_model.specs.Partition.{IsPartition, base_segments}
 use Rattle.tgap_model.specs.History.{history_of}
 use Rattle.tgap_model.specs.Merged.{merged, step_number}
 use Rattle.tgap_model.specs.Chains.{arc_number, chain_points, chains_at}
-use Rattle.tgap_model.specs.Removals.{edge_of, edges_of, sweep, removals_to}
+use Rattle.tgap_model.specs.Removals.{edge_of, edges_of, sweep}
 use Rattle.map_laws.proofs.ChainMembers.{all_among}
 use Rattle.map_laws.proofs.Lists.{all_members, kept_among, map_among}
 use Rattle.removal_laws.specs.Trace.{edges_before_sweep, step_area}
@@ -17,9 +17,8 @@ use Rattle.slice_laws.proofs.BaseParts.{base_arc}
 use Rattle.slice_laws.proofs.Coverage.{number_among}
 use Rattle.edge_forest.specs.Forest.{EdgeForest, is_gone}
 use Rattle.edge_forest.specs.Removed.{arc_points}
-use Rattle.edge_forest.specs.Edges.{chain_of}
 use Rattle.step_laws.proofs.StepRemovals.{chain_point, step_list, swept_is, step_apart, step_fresh, step_point}
-use Rattle.tgap_build.specs.Built.{AreGone, HasRemoved}
+use Rattle.tgap_build.specs.Built.{HasRemoved}
 
 -- the points of the edges of a map are within its limits
 pub near_points : (m : BaseMap) → is_base m ≡ true → (k : ℕ) (removals : List Removal) (edges : List Edge)
@@ -35,18 +34,8 @@ near_points m base k removals edges is =
     all_among in_limits (arc_number m.arcs place.0).points p (base_arc m base (arc_number m.arcs place.0) (number_among m.arcs place.0 place.1)).in_limits place.2))))
 
 module _ (f : EdgeForest) (k : ℕ) (base : is_base f.base ≡ true) (planar : IsPartition (base_segments f.base)) (some : 0 < k)
-    (within : k ≤ length (history_of f.base)) (before : HasRemoved f (k - 1)) (ids : List ℕ) (live : List Edge)
-    (read : (removals : List Removal) → AreGone f k removals → live ≡ edges_of (merged f.base) k removals (map (chain_of f.edges) ids))
-    (chains : map (chain_of f.edges) ids ≡ chains_at (merged f.base) k) where
-  -- the edges that are read are those before the sweep
-  pub live_is : live ≡ edges_before_sweep (merged f.base) k
-  live_is =
-      read (removals_to (merged f.base) (k - 1)) (before.later k (omega arith))
-      ∙ ap (edges_of (merged f.base) k (removals_to (merged f.base) (k - 1))) chains
-
-  pub live_near : All (λ e. All (λ p. IsTrue (in_limits p)) e.points) live
-  live_near = near_points f.base base k (removals_to (merged f.base) (k - 1)) live live_is
-
+    (within : k ≤ length (history_of f.base)) (before : HasRemoved f (k - 1)) (live : List Edge)
+    (live_is : live ≡ edges_before_sweep (merged f.base) k) where
   module _ (ratio made : ℕ) (area : ℤ) (list : List Removal) (ratio_is : ratio ≡ f.base.rules.ratio) (made_is : made ≡ (step_number (merged f.base) k).made)
       (area_is : area ≡ step_area (merged f.base) k)
       (swept : list ≡ map (λ p. record { point = p; step = k }) (sweep ratio area made live)) where

@@ -9,16 +9,17 @@ ghost use Rattle.face_tree.specs.Tree.{face_history};
 ghost use Rattle.edge_forest.specs.Forest.{last_step};
 ghost use Rattle.tgap_build.specs.Built.{HasRemoved, IsBuilt};
 
+use crate::boxed::BoxedForest;
 use edge_forest::Forest;
 use face_tree::FaceTree;
 use std::marker::Model;
 use tgap_model::Base;
 
-/// A checked map, its tree of faces and its forest of edges.
+/// A checked map, its tree of faces, and its forest of edges with their boxes.
 #[derive(Debug, Drop)]
 pub struct Built {
     tree: FaceTree,
-    forest: Forest,
+    boxed: BoxedForest,
 }
 
 impl Model for Built {
@@ -27,18 +28,18 @@ impl Model for Built {
 
     ghost Value = { BaseMap };
 
-    ghost view = { λ b. b.forest.base };
+    ghost view = { λ b. b.boxed.base };
 
-    ghost invariant = { λ b. IsBuilt b.tree b.forest };
+    ghost invariant = { λ b. IsBuilt b.tree b.boxed };
 }
 
 impl Built {
     /// The tree and the forest of one map, together.
-    pub(crate) fn of(tree: FaceTree, forest: Forest) -> Built
-        requires { IsBuilt tree forest }
-        ensures { result ≡ forest.base }
+    pub(crate) fn of(tree: FaceTree, boxed: BoxedForest) -> Built
+        requires { IsBuilt tree boxed }
+        ensures { result ≡ boxed.base }
     {
-        Built { tree, forest }
+        Built { tree, boxed }
     }
 
     /// The base map: a planar partition.
@@ -47,7 +48,7 @@ impl Built {
         ensures base { IsTrue (is_base self.now) }
         ensures partition { IsPartition (base_segments self.now) }
     {
-        self.forest.base()
+        self.boxed.forest().base()
     }
 
     /// The tree of its faces, by its merge history.
@@ -64,7 +65,17 @@ impl Built {
         ensures made { result.now.made ≡ last_step result.now }
         ensures removed { HasRemoved result.now (last_step result.now) }
     {
-        &self.forest
+        self.boxed.forest()
+    }
+
+    /// The same forest, with the bounding boxes of its edges.
+    pub fn boxed(&self) -> &BoxedForest
+        ensures base { result.now.base ≡ self.now }
+        ensures closed { result.now.closed ≡ true }
+        ensures made { result.now.made ≡ last_step result.now }
+        ensures removed { HasRemoved result.now (last_step result.now) }
+    {
+        &self.boxed
     }
 
     /// The number of steps of its merge history.

@@ -1,6 +1,6 @@
 //! Edges of the forest as they are after some steps.
 
-ghost use Rattle.std.specs.Prelude.{◌≡◌, ◌≤◌, ◌<◌, List, length, map, All, IfOk, IsTrue};
+ghost use Rattle.std.specs.Prelude.{◌≡◌, ◌≤◌, ◌<◌, ◌++◌, List, length, map, All, IfOk, OnOk, IsTrue};
 ghost use Rattle.tgap_model.specs.declared.slice.Removal.{Removal};
 ghost use Rattle.tgap_model.specs.Base.{is_base};
 ghost use Rattle.tgap_model.specs.History.{history_of};
@@ -35,6 +35,29 @@ fn edge_at(alloc: Global, tree: &FaceTree, forest: &Forest, id: u32, k: u32) -> 
     })
 }
 
+/// Appends these edges of the forest, as they are after k steps, less the vertices that were removed by then.
+pub fn push_edges(
+    alloc: Global,
+    tree: &FaceTree,
+    forest: &Forest,
+    ids: &[u32],
+    k: u32,
+    edges: &mut List<Edge>,
+) -> Result<(), Memory>
+    requires base { IsTrue (is_base forest.now.base) }
+    requires history { tree.now ≡ face_history (merged forest.now.base) }
+    requires within { All (λ id. id < length forest.now.edges) ids.now }
+    requires low { All (λ id. (edge_at forest.now.edges id).low ≤ k) ids.now }
+    requires step { k ≤ length (history_of forest.now.base) }
+    ensures { (removals : List Removal) → AreGone forest.now k removals
+        → OnOk result (edges.new ≡ edges.old ++ edges_of (merged forest.now.base) k removals (map (chain_of forest.now.edges) ids.now)) }
+{
+    for id in ids {
+        edges.push(edge_at(alloc, tree, forest, *id, k)?)?;
+    }
+    Ok(())
+}
+
 /// These edges of the forest, as they are after k steps, less the vertices that were removed by then.
 pub fn edges_of(
     alloc: Global,
@@ -52,8 +75,6 @@ pub fn edges_of(
         → IfOk result (λ edges. edges ≡ edges_of (merged forest.now.base) k removals (map (chain_of forest.now.edges) ids.now)) }
 {
     let mut edges = List::new(alloc);
-    for id in ids {
-        edges.push(edge_at(alloc, tree, forest, *id, k)?)?;
-    }
+    push_edges(alloc, tree, forest, ids, k, &mut edges)?;
     Ok(edges)
 }

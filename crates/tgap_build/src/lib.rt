@@ -1,62 +1,125 @@
 //! A map made ready to be read at every scale: a checked base map, with its tree of faces and its forest of edges, out of
-//! which each step removes its vertices. It stands on `face_merge` for the merge history, on `face_tree`, `edge_forest` and
-//! `vertex_drop`.
+//! which each step removes its vertices. It stands on `face_merge` for the merge history, on `face_tree`, `edge_forest`,
+//! `vertex_drop` and `grid_index`.
 #![tactic(auto)]
 
-ghost use Rattle.std.specs.Prelude.{◌≡◌, true, IfOk};
-ghost use Rattle.tgap_model.specs.History.{history_of};
+ghost use Rattle.std.specs.Prelude.{◌≡◌, false, true, IfOk, OnOk};
+ghost use Rattle.tgap_model.specs.History.{history_of as whole_history};
 ghost use Rattle.tgap_model.specs.Merged.{merged};
 ghost use Rattle.face_tree.specs.Tree.{face_history};
-ghost use Rattle.edge_forest.specs.Forest.{last_step};
+ghost use Rattle.edge_forest.specs.Forest.{IsForest, last_step};
 ghost use Rattle.tgap_build.specs.Built.{HasRemoved};
 
+mod boxed;
+mod boxes;
 mod built;
 mod edges;
+mod live_edges;
+mod measures;
+mod point_set;
 mod removal;
 
+pub use boxed::BoxedForest;
 pub use built::Built;
 use edge_forest::Forest;
 pub use edges::edges_of;
-use face_merge::{history, lost_areas};
+use face_merge::{history_of, lost_areas};
 use face_tree::FaceTree;
-use removal::remove_vertices;
+use live_edges::LiveEdges;
+use measures::measures_of;
+use removal::make_step;
 use std::alloc::Global;
+use std::thread::Threads;
 use tgap_model::{Checked, Memory, MergeStep};
 
-/// The edges of a map after all these steps, which are those of its history, with what the steps remove.
+/// Makes all steps in a forest whose rules remove no vertex.
+fn merge_all(alloc: Global, forest: &mut Forest, steps: &[MergeStep]) -> Result<(), Memory>
+    requires open { forest.old.closed ≡ false }
+    requires made { forest.old.made ≡ 0 }
+    requires steps { steps.now ≡ whole_history forest.old.base }
+    requires ratio { forest.old.base.rules.ratio ≡ 0 }
+    requires removed { HasRemoved forest.old 0 }
+    ensures base { OnOk result (forest.new.base ≡ forest.old.base) }
+    ensures made { OnOk result (forest.new.made ≡ last_step forest.old) }
+    ensures open { OnOk result (forest.new.closed ≡ false) }
+    ensures removed { OnOk result (HasRemoved forest.new (last_step forest.old)) }
+{
+    for step in steps {
+        forest.merge(alloc, step)?;
+    }
+    Ok(())
+}
+
+/// Makes all steps in a forest, and takes out what they remove.
+fn sweep_all(
+    alloc: Global,
+    tree: &FaceTree,
+    forest: &mut Forest,
+    steps: &[MergeStep],
+) -> Result<(), Memory>
+    requires forest { IsForest forest.old }
+    requires open { forest.old.closed ≡ false }
+    requires made { forest.old.made ≡ 0 }
+    requires steps { steps.now ≡ whole_history forest.old.base }
+    requires tree { tree.now ≡ face_history (merged forest.old.base) }
+    requires removed { HasRemoved forest.old 0 }
+    ensures base { OnOk result (forest.new.base ≡ forest.old.base) }
+    ensures made { OnOk result (forest.new.made ≡ last_step forest.old) }
+    ensures open { OnOk result (forest.new.closed ≡ false) }
+    ensures removed { OnOk result (HasRemoved forest.new (last_step forest.old)) }
+{
+    let areas = lost_areas(alloc, forest.base(), steps)?;
+    let areas = areas.as_slice();
+    let mut live = LiveEdges::of(alloc, tree, forest)?;
+    for i in 0..steps.len() {
+        make_step(
+            alloc,
+            tree,
+            forest,
+            &mut live,
+            &steps[i],
+            areas[i],
+            i as u32 + 1,
+        )?;
+    }
+    Ok(())
+}
+
+/// The edges of a map after all these steps, which are those of its history, with what the steps remove. With ratio 0 no step
+/// removes a vertex, and no edge is looked at.
 fn forest_of(
     alloc: Global,
     checked: &Checked,
     tree: &FaceTree,
     steps: &[MergeStep],
 ) -> Result<Forest, Memory>
-    requires steps { steps.now ≡ history_of checked.now }
+    requires steps { steps.now ≡ whole_history checked.now }
     requires tree { tree.now ≡ face_history (merged checked.now) }
     ensures base { IfOk result (λ forest. forest.base ≡ checked.now) }
     ensures closed { IfOk result (λ forest. forest.closed ≡ true) }
     ensures made { IfOk result (λ forest. forest.made ≡ last_step forest) }
     ensures removed { IfOk result (λ forest. HasRemoved forest (last_step forest)) }
 {
-    let areas = lost_areas(alloc, checked.base(), steps)?;
-    let areas = areas.as_slice();
     let mut forest = Forest::of_base(alloc, checked)?;
-    for i in 0..steps.len() {
-        let step = &steps[i];
-        forest.merge(alloc, step)?;
-        remove_vertices(alloc, tree, &mut forest, step, areas[i], i as u32 + 1)?;
+    let ratio = forest.base().rules().ratio;
+    if ratio == 0 {
+        merge_all(alloc, &mut forest, steps)?;
+    } else {
+        sweep_all(alloc, tree, &mut forest, steps)?;
     }
     forest.close(alloc)?;
     Ok(forest)
 }
 
-/// A checked map with its merge history, which is made here, as the tree of its faces and the forest of its edges. It
-/// fails on want of memory alone.
-pub fn build(alloc: Global, checked: Checked) -> Result<Built, Memory>
+/// A checked map with its merge history, which is made here, as the tree of its faces and the forest of its edges, with
+/// their boxes. It fails on want of memory alone.
+pub fn build<R: Threads + Sync>(rt: &R, alloc: Global, checked: Checked) -> Result<Built, Memory>
     // It is the same map.
     ensures { IfOk result (λ built. built ≡ checked) }
 {
-    let steps = history(alloc, checked.base())?;
+    let measures = measures_of(rt, alloc, checked.base())?;
+    let steps = history_of(alloc, checked.base(), &measures)?;
     let tree = FaceTree::of(alloc, checked.base(), &steps)?;
     let forest = forest_of(alloc, &checked, &tree, steps.as_slice())?;
-    Ok(Built::of(tree, forest))
+    Ok(Built::of(tree, BoxedForest::of(alloc, forest)?))
 }

@@ -1,6 +1,6 @@
 use Rattle.std.proofs.Common.{refl, ◌∙◌}
 use Rattle.edge_forest.proofs.Limits.{rows_small, places_within}
-use Rattle.edge_forest.proofs.JoinStored.{one_there, other_there_once, join_stored, joined_at, rows_by, edges_by}
+use Rattle.edge_forest.proofs.JoinStored.{one_there, other_there_once, join_stored, joined_at, join_continued, rows_by, edges_by}
 use Rattle.edge_forest.proofs.join.join.Goals as goal
 
 pub meeting-requires-clause-places : goal.meeting-requires-clause-places
@@ -28,5 +28,11 @@ pub returns-clause-joined : goal.returns-clause-joined
 returns-clause-joined c =
     joined_at c.args.low c.args.growth.now c.requires.stored _ c.in-Some.meeting c.in-Some.ensures c.requires.low _ c.args.node refl refl refl
     (rows_by c.args.low c.args.growth.now c.requires.stored _ c.in-Some.meeting c.in-Some.ensures c.requires.low _ _ (c.len-id.ensures ∙ c.args.growth.now.edges.ok.0) c.join.ensures.rows)
+    (edges_by c.args.low c.args.growth.now c.requires.stored _ c.in-Some.meeting c.in-Some.ensures c.requires.low _ _ _ _ c.end_edge.ensures.edges
+    c.end_edge-2.ensures.edges c.joined_parts.ensures c.push_reserved.ensures.items)
+
+pub returns-clause-continued : goal.returns-clause-continued
+returns-clause-continued c =
+    join_continued c.args.low c.args.growth.now c.requires.stored _ c.in-Some.meeting c.in-Some.ensures c.requires.low _
     (edges_by c.args.low c.args.growth.now c.requires.stored _ c.in-Some.meeting c.in-Some.ensures c.requires.low _ _ _ _ c.end_edge.ensures.edges
     c.end_edge-2.ensures.edges c.joined_parts.ensures c.push_reserved.ensures.items)

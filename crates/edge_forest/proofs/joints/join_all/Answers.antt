@@ -1,6 +1,7 @@
 use Rattle.std.proofs.Common.{◌≡◌, ◌≤◌, [], Some, refl, ◌∙◌, arith}
 use Rattle.std.specs.Vec.{vec_capacity}
 use Rattle.std.proofs.lemmas.List.Elements.{All-pop}
+use Rattle.edge_forest.proofs.Continued.{continued_twice}
 use Rattle.edge_forest.proofs.Few.{joined_few, few_small}
 use Rattle.edge_forest.proofs.InTurn.{turn_next, turn_nodes, popped}
 use Rattle.edge_forest.proofs.joints.join_all.Goals as goal
@@ -27,6 +28,7 @@ loop-node-preserved c = record {
   joined =
       turn_next c.args.low c.args.growth.now c.loop-node.growth c.join.new.growth c.args.joints.now c.loop-node.node-index 0 _
       c.loop-node.invariant.joined c.loop-node-test.true refl c.join.ensures.joined c.join.ensures.stored;
+  continued = continued_twice _ _ _ c.loop-node.invariant.continued c.join.ensures.continued;
   rooms = omega (arith, c.loop-node.invariant.rooms, popped c.loop-node.rooms.items c.pop.new.self.items c.in-Some.room c.in-Some.ensures.items);
   empty = (All-pop (λ room. room.items ≡ []) c.loop-node.rooms.items c.pop.new.self.items (Some c.in-Some.room) c.in-Some.ensures.items c.loop-node.invariant.empty).0;
   room = (All-pop (λ room. 2 ≤ vec_capacity room) c.loop-node.rooms.items c.pop.new.self.items (Some c.in-Some.room) c.in-Some.ensures.items c.loop-node.invariant.room).0;

@@ -1,4 +1,5 @@
 -- The step is one of the history, and what its keys leave is what is stored after it.
+use Rattle.edge_forest.proofs.Continued.{ended_continued}
 use Rattle.edge_forest.proofs.Settled.{made_new, step_small, faces_inside, settled, stored}
 use Rattle.edge_forest.proofs.settle.settle.Goals as goal
 
@@ -26,3 +27,9 @@ returns-clause-stored c =
     stored c.args.growth.now c.args.low c.args.step.now c.requires.step.0 c.requires.step.1 c.requires.next c.requires.rest c.args.keys c.requires.keys
     (record c.settle_keys.new.growth { faces = c.list_keys.new.faces }) after.base after.nodes c.settle_keys.new.touched.items (rw c.as_slice.ensures at after.settling) after.net (rw after.faces at lists.count) lists.made
     (rw after.faces at lists.others)
+
+pub returns-clause-continued : goal.returns-clause-continued
+returns-clause-continued c =
+    let after = rw c.as_slice.ensures at c.settle_keys.ensures.settling in
+    ended_continued c.args.low (step_small c.args.growth.now c.args.low c.args.step.now c.requires.step.0 c.requires.step.1 c.requires.next c.requires.rest)
+    c.args.growth.now.edges.items c.settle_keys.new.growth.edges.items after.edge_count after.edges

@@ -3,6 +3,7 @@ use Rattle.std.proofs.Common.{◌≡◌, ◌↔◌, ℕ, List, get_or, Contains,
 use Rattle.edge_forest.specs.declared.growth.Growth.{Growth}
 use Rattle.edge_forest.specs.Growth.{IsJoinedInTurn}
 use Rattle.edge_forest.proofs.Settled.{step_small, faces_inside}
+use Rattle.edge_forest.proofs.Continued.{all_as_before, continued_twice}
 use Rattle.edge_forest.proofs.Few.{settled_few}
 use Rattle.edge_forest.proofs.InTurn.{turn_same}
 use Rattle.edge_forest.proofs.Steps.{joints_within, rest_kept, few_kept, step_made}
@@ -47,3 +48,8 @@ returns-clause-rest c =
 
 pub returns-clause-base : goal.returns-clause-base
 returns-clause-base c = (turn_same c.args.low c.settle.new.growth c.join_all.new.growth _ c.join_all.ensures.joined).0 ∙ c.settle.ensures.settled.base
+
+pub returns-clause-continued : goal.returns-clause-continued
+returns-clause-continued c =
+    continued_twice _ _ _ (all_as_before c.args.growth.now.edges.items _ c.reserve.ensures.items)
+    (continued_twice _ _ _ c.settle.ensures.continued c.join_all.ensures.continued)

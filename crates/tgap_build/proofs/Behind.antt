@@ -1,0 +1,128 @@
+-- When a step was made in the forest, the list is one behind: of its edges those that have not ended are as many of the forest.
+use Rattle.std.proofs.Common.{◌≡◌, inl, inr, ℕ, ◌-◌, ◌<◌, ◌≤◌, Bool, true, false, cond, nat_le, nat_lt, List, [], ◌∷◌, map, filter, length, get_or, IsPermutation, refl, sym, ap, ap₂, ◌∙◌, subst, arith}
+use Rattle.std.specs.List.{range_with_len}
+use Rattle.std.proofs.lemmas.Bool.{and_from, and_parts, le-leb, lt-ltb, ltb-true}
+use Rattle.std.proofs.lemmas.List.Sorted.{IsPermutation-sym, IsPermutation-map}
+use Rattle.lemmas.proofs.Members.{filter_agree_on}
+use Rattle.lemmas.proofs.Permutations.{IsPermutation-filter}
+use Rattle.tgap_model.specs.declared.slice.Edge.{Edge}
+use Rattle.tgap_model.specs.declared.slice.Removal.{Removal}
+use Rattle.tgap_model.specs.Base.{BaseMap}
+use Rattle.tgap_model.specs.Merged.{MergedMap, merged}
+use Rattle.tgap_model.specs.Chains.{Chain}
+use Rattle.tgap_model.specs.Removals.{edge_of}
+use Rattle.map_laws.proofs.ChainMembers.{Among}
+use Rattle.map_laws.proofs.Lists.{all_members, kept_among, map_among, among_range}
+use Rattle.edge_forest.specs.declared.edge.ForestEdge.{ForestEdge}
+use Rattle.edge_forest.specs.Edges.{edge_at, chain_of, is_alive, alive_edges}
+use Rattle.edge_forest.specs.Forest.{EdgeForest, IsForest}
+use Rattle.edge_forest.specs.Continued.{AreContinued}
+use Rattle.tgap_build.specs.Running.{AreRunning, AreBehind, number_of, is_present}
+use Rattle.tgap_build.proofs.Alive.{alive_moved, alive_known, alive_key, edges_alive}
+
+-- a filter of a map
+filter_map : {A B : Type 0} (p : B → Bool) (f : A → B) (xs : List A) → filter p (map f xs) ≡ map f (filter (λ x. p (f x)) xs)
+filter_map p f [] = refl
+filter_map p f (x ∷ xs) = by (p (f x)) (filter_map p f xs)
+  where
+    by : (b : Bool) → filter p (map f xs) ≡ map f (filter (λ x. p (f x)) xs)
+        → cond b (f x ∷ filter p (map f xs)) (filter p (map f xs)) ≡ map f (cond b (x ∷ filter (λ x. p (f x)) xs) (filter (λ x. p (f x)) xs))
+    by true e = ap (λ ys. f x ∷ ys) e
+    by false e = e
+
+-- a filter of a filter that it is stronger than
+filter_stronger : {A : Type 0} (p q : A → Bool) (xs : List A) → ((x : A) → Among x xs → p x ≡ true → q x ≡ true) → filter p (filter q xs) ≡ filter p xs
+filter_stronger p q [] h = refl
+filter_stronger p q (x ∷ xs) h = by (q x) (p x) refl refl (filter_stronger p q xs (λ y m. h y (inr m)))
+  where
+    by : (b c : Bool) → q x ≡ b → p x ≡ c → filter p (filter q xs) ≡ filter p xs → filter p (cond b (x ∷ filter q xs) (filter q xs)) ≡ cond c (x ∷ filter p xs) (filter p xs)
+    by true true u v e = ap (λ (d : Bool). cond d (x ∷ filter p (filter q xs)) (filter p (filter q xs))) v ∙ ap (λ ys. x ∷ ys) e
+    by true false u v e = ap (λ (d : Bool). cond d (x ∷ filter p (filter q xs)) (filter p (filter q xs))) v ∙ e
+    by false true u v e = absurd (let t = h x (inl refl) v in cc)
+    by false false u v e = e
+
+map_agree : {A B : Type 0} (f g : A → B) (xs : List A) → ((x : A) → Among x xs → f x ≡ g x) → map f xs ≡ map g xs
+map_agree f g [] h = refl
+map_agree f g (x ∷ xs) h = ap₂ (λ y ys. y ∷ ys) (h x (inl refl)) (map_agree f g xs (λ y m. h y (inr m)))
+
+module _ (f g : EdgeForest) (wf : IsForest f) (wg : IsForest g) (k : ℕ) (some : 0 < k) (made_f : f.made ≡ k - 1) (same : g.base ≡ f.base)
+    (continued : AreContinued f.edges g.edges) (removals : List Removal) (edges : List Edge) (numbers : List ℕ)
+    (running : AreRunning f (k - 1) removals edges numbers) where
+  abbrev h : MergedMap
+  h = merged f.base
+
+  up_to : k - 1 ≤ f.made
+  up_to = omega (arith, made_f)
+
+  -- what has not ended after the step had not before
+  alive_before : (i : ℕ) → i < length f.edges → is_alive k (edge_at g.edges i) ≡ true → is_alive (k - 1) (edge_at f.edges i) ≡ true
+  alive_before i l a =
+      let high : k < (edge_at g.edges i).high = ltb-true k (edge_at g.edges i).high (and_parts (nat_le (edge_at g.edges i).low k) (nat_lt k (edge_at g.edges i).high) a).1 in
+      and_from (nat_le (edge_at f.edges i).low (k - 1)) (nat_lt (k - 1) (edge_at f.edges i).high)
+      (le-leb (edge_at f.edges i).low (k - 1) (omega (arith, wf.low i l, made_f)))
+      (lt-ltb (k - 1) (edge_at f.edges i).high (omega (arith, high, (continued.each i l).high)))
+
+  key_kept : (i : ℕ) → i < length f.edges → (edge_at g.edges i).key ≡ (edge_at f.edges i).key
+  key_kept i l = ap (λ (e : ForestEdge). e.key) (continued.each i l).same
+
+  -- the number at the key of an edge of the list
+  abbrev edge_by : ℕ → Edge
+  edge_by i = edge_of (merged f.base) (k - 1) removals (chain_of f.edges i)
+
+  number_is : (i : ℕ) → i < length f.edges → is_alive (k - 1) (edge_at f.edges i) ≡ true → number_of numbers (edge_by i) ≡ i
+  number_is i l a = ap (λ (n : ℕ). get_or numbers n 0) (sym (wf.edges i l).key) ∙ running.numbers i l a
+
+  edges_by : edges ≡ map (λ i. edge_of (merged f.base) (k - 1) removals (chain_of f.edges i)) (alive_edges f.edges (k - 1))
+  edges_by = running.edges ∙ sym (edges_alive f wf (k - 1) up_to removals)
+
+  -- ---- what is still there
+
+  abbrev alive_now : ℕ → Bool
+  alive_now i = is_alive k (edge_at g.edges i)
+
+  abbrev all : List ℕ
+  all = range_with_len 0 (length f.edges)
+
+  still_listed : filter (is_present g numbers k) edges ≡ map (λ i. edge_of (merged f.base) (k - 1) removals (chain_of f.edges i)) (filter (λ i. is_alive k (edge_at g.edges i)) (alive_edges f.edges (k - 1)))
+  still_listed =
+      ap (filter (is_present g numbers k)) edges_by
+      ∙ filter_map (is_present g numbers k) edge_by (alive_edges f.edges (k - 1))
+      ∙ ap (map edge_by) (filter_agree_on (λ i. is_present g numbers k (edge_by i)) alive_now (alive_edges f.edges (k - 1))
+      (all_members (λ i. is_present g numbers k (edge_by i) ≡ alive_now i) (alive_edges f.edges (k - 1)) (λ i m.
+      let known = alive_known f wf (k - 1) up_to i m in
+      ap (λ (n : ℕ). is_alive k (edge_at g.edges n)) (number_is i known.0 known.1))))
+
+  in_all : (i : ℕ) → Among i (range_with_len 0 (length f.edges)) → i < length f.edges
+  in_all i m = omega (arith, (among_range 0 (length f.edges) i m).1)
+
+  still_moved : IsPermutation (filter (λ i. is_alive k (edge_at g.edges i)) (range_with_len 0 (length f.edges))) (filter (λ i. is_alive k (edge_at g.edges i)) (alive_edges f.edges (k - 1)))
+  still_moved =
+      subst (λ (is : List ℕ). IsPermutation is (filter alive_now (alive_edges f.edges (k - 1))))
+      (filter_stronger alive_now (λ i. is_alive (k - 1) (edge_at f.edges i)) all (λ i m a. alive_before i (in_all i m) a))
+      (IsPermutation-filter alive_now _ _ (alive_moved f wf (k - 1) up_to))
+
+  same_edges : map (λ i. edge_of (merged f.base) (k - 1) removals (chain_of f.edges i)) (filter (λ i. is_alive k (edge_at g.edges i)) (range_with_len 0 (length f.edges)))
+      ≡ map (λ i. edge_of (merged g.base) (k - 1) removals (chain_of g.edges i)) (filter (λ i. is_alive k (edge_at g.edges i)) (range_with_len 0 (length f.edges)))
+  same_edges = map_agree _ _ (filter alive_now all) (λ i m.
+      let l = in_all i (kept_among alive_now all i m) in
+      ap₂ (λ (b : BaseMap) (c : Chain). edge_of (merged b) (k - 1) removals c) (sym same) (sym (continued.each i l).chain))
+
+  pub are_behind : AreBehind g k (length f.edges) removals edges numbers
+  are_behind = record {
+    room = running.room ∙ ap (λ (m : BaseMap). length m.arcs) (sym same);
+    within = all_members (λ (e : Edge). (e.key < length g.base.arcs) × (number_of numbers e < length g.edges)) edges each_key;
+    still = subst (λ (es : List Edge). IsPermutation es (map (λ i. edge_of (merged g.base) (k - 1) removals (chain_of g.edges i)) (filter alive_now all))) (sym still_listed)
+        (subst (IsPermutation (map edge_by (filter alive_now (alive_edges f.edges (k - 1))))) same_edges
+        (IsPermutation-map edge_by (filter alive_now (alive_edges f.edges (k - 1))) (filter alive_now all)
+        (IsPermutation-sym (filter alive_now all) (filter alive_now (alive_edges f.edges (k - 1))) still_moved)));
+    numbers = λ i l a. ap (λ (n : ℕ). get_or numbers n 0) (key_kept i l) ∙ running.numbers i l (alive_before i l a);
+  }
+    where
+      each_key : (e : Edge) → Among e edges → (e.key < length g.base.arcs) × (number_of numbers e < length g.edges)
+      each_key e m =
+          let i = map_among edge_by (alive_edges f.edges (k - 1)) e (subst (Among e) edges_by m) in
+          let known = alive_known f wf (k - 1) up_to i.0 i.1 in
+          let number = number_is i.0 known.0 known.1 in (
+            omega (arith, alive_key f wf (k - 1) up_to i.0 known.0 known.1, (wf.edges i.0 known.0).key, ap (λ (e : Edge). e.key) i.2, ap (λ (m : BaseMap). length m.arcs) same),
+            omega (arith, number, ap (number_of numbers) i.2, known.0, continued.count),
+          )

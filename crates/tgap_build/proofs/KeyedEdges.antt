@@ -1,0 +1,124 @@
+-- Edges in ascending order of key, some of which go while others come.
+use Rattle.std.proofs.Common.{◌≡◌, ◌≢◌, inl, inr, ℕ, ◌<◌, ◌==◌, Bool, true, false, not, nat_lt, List, [], ◌∷◌, ◌++◌, map, filter, get_or, All, AllPairs, Contains, IsPermutation, refl, sym, ap, ◌∙◌, subst, true≢false, eq-eqb, arith}
+use Rattle.std.specs.Prelude.{⊤}
+use Rattle.std.specs.List.{list_any}
+use Rattle.std.proofs.lemmas.Bool.{lt-ltb, eqb-true, false_from_ne_true}
+use Rattle.std.proofs.lemmas.List.Elements.{All-map}
+use Rattle.std.proofs.lemmas.List.Kept.{AllPairs-cons, AllPairs-filter}
+use Rattle.std.proofs.lemmas.List.Sorted.{IsPermutation-sym, IsPermutation-trans, All-permutation}
+use Rattle.lemmas.specs.Sorting.{is_sorted_by, IsStrictOrderOn}
+use Rattle.lemmas.proofs.Orders.{nat_lt_order, order_by_key}
+use Rattle.lemmas.proofs.Members.{AllPairs-nil, AllPairs-head, AllPairs-tail, related_members, filter_agree_on, Contains-from_map}
+use Rattle.lemmas.proofs.Sorting.{sorted_cons, sorted_permutation, AllPairs-permutation}
+use Rattle.tgap_model.specs.declared.slice.Edge.{Edge}
+use Rattle.map_laws.proofs.ChainMembers.{Among, any_among, filter_among, among_right}
+use Rattle.map_laws.proofs.Lists.{all_members, members_all, any_from, kept_among, among_kept, map_among, among_map}
+use Rattle.removal_laws.proofs.ChainEnds.{contained, among_contained}
+use Rattle.grid_index.specs.Live.{keys, without_keys, AreLive, IsLiveEdge}
+
+-- ---- pairs
+
+pub pairs_mapped : {A B : Type 0} (R : B → B → Type 0) (f : A → B) (xs : List A) → AllPairs (λ x y. R (f x) (f y)) xs → AllPairs R (map f xs)
+pairs_mapped R f [] h = AllPairs-nil R
+pairs_mapped R f (x ∷ xs) h =
+    AllPairs-cons R (f x) (map f xs) (All-map (R (f x)) f xs (AllPairs-head (λ x y. R (f x) (f y)) x xs h))
+    (pairs_mapped R f xs (AllPairs-tail (λ x y. R (f x) (f y)) x xs h))
+
+pairs_across : {A : Type 0} (R : A → A → Type 0) (xs ys : List A) → AllPairs R (xs ++ ys) → (x y : A) → Among x xs → Among y ys → R x y
+pairs_across R [] ys h x y m n = absurd m
+pairs_across R (z ∷ xs) ys h x y (inl e) n = subst (λ w. R w y) e (members_all (R z) (xs ++ ys) y (AllPairs-head R z (xs ++ ys) h) (among_right xs ys y n))
+pairs_across R (z ∷ xs) ys h x y (inr m) n = pairs_across R xs ys (AllPairs-tail R z (xs ++ ys) h) x y m n
+
+pairs_behind : {A : Type 0} (R : A → A → Type 0) (xs ys : List A) → AllPairs R (xs ++ ys) → AllPairs R ys
+pairs_behind R [] ys h = h
+pairs_behind R (x ∷ xs) ys h = pairs_behind R xs ys (AllPairs-tail R x (xs ++ ys) h)
+
+-- ---- ascending edges
+
+abbrev pub Ascend : List Edge → Type 0
+Ascend edges = AllPairs (λ (e f : Edge). e.key < f.key) edges
+
+abbrev by_key : Edge → Edge → Bool
+by_key e f = nat_lt e.key f.key
+
+key_order : IsStrictOrderOn (λ (e : Edge). ⊤) (λ (e f : Edge). nat_lt e.key f.key)
+key_order = order_by_key (λ (e : Edge). e.key) nat_lt_order
+
+sorted_from_pairs : {A : Type 0} (before : A → A → Bool) (xs : List A) → AllPairs (λ x y. before x y ≡ true) xs → is_sorted_by before xs ≡ true
+sorted_from_pairs before [] h = refl
+sorted_from_pairs before (x ∷ xs) h =
+    sorted_cons before x xs (AllPairs-head (λ x y. before x y ≡ true) x xs h) (sorted_from_pairs before xs (AllPairs-tail (λ x y. before x y ≡ true) x xs h))
+
+sorted : (edges : List Edge) → Ascend edges → is_sorted_by (λ (e f : Edge). nat_lt e.key f.key) edges ≡ true
+sorted edges a = sorted_from_pairs (λ (e f : Edge). nat_lt e.key f.key) edges (λ i j d l s. lt-ltb (get_or edges i d).key (get_or edges j d).key (a i j d l s))
+
+-- two such lists of the same edges are one
+pub ascending_same : (xs ys : List Edge) → Ascend xs → Ascend ys → IsPermutation xs ys → xs ≡ ys
+ascending_same xs ys a b moved = sorted_permutation key_order xs ys (λ k d l. tt) (sorted xs a) (sorted ys b) moved
+
+-- one key, one edge
+pub same_key : (edges : List Edge) → Ascend edges → (e f : Edge) → Among e edges → Among f edges → e.key ≡ f.key → e ≡ f
+same_key edges a e f m n k = elim (related_members (λ (x y : Edge). x.key < y.key) edges a e f (contained edges e m) (contained edges f n)) [
+  | inl s ↦ s
+  | inr s ↦ absurd (elim s [ inl l ↦ omega (arith, l, k) | inr l ↦ omega (arith, l, k) ])
+]
+
+-- ---- some go
+
+module _ (edges : List Edge) (a : Ascend edges) (p : Edge → Bool) where
+  -- the keys of those that pass the test tell which do
+  listed : (e : Edge) → Among e edges → list_any (λ k. k == e.key) (keys (filter p edges)) ≡ p e
+  listed e m = by (p e) refl
+    where
+      by : (b : Bool) → p e ≡ b → list_any (λ k. k == e.key) (keys (filter p edges)) ≡ b
+      by true t =
+          any_from (λ k. k == e.key) (keys (filter p edges)) e.key (among_map (λ (f : Edge). f.key) (filter p edges) e (among_kept p edges e m t)) (eq-eqb e.key e.key refl)
+      by false t = false_from_ne_true (list_any (λ k. k == e.key) (keys (filter p edges))) (λ any.
+          let k = any_among (λ k. k == e.key) (keys (filter p edges)) any in
+          let f = map_among (λ (f : Edge). f.key) (filter p edges) k.0 k.1 in
+          let same = same_key edges a f.0 e (kept_among p edges f.0 f.1) m (f.2 ∙ eqb-true k.0 e.key k.2) in
+          true≢false (sym (filter_among p edges f.0 f.1) ∙ ap p same ∙ t))
+
+  pub left_is : without_keys (keys (filter p edges)) edges ≡ filter (λ e. not (p e)) edges
+  left_is =
+      filter_agree_on (λ (e : Edge). not (list_any (λ k. k == e.key) (keys (filter p edges)))) (λ (e : Edge). not (p e)) edges
+      (all_members (λ (e : Edge). not (list_any (λ k. k == e.key) (keys (filter p edges))) ≡ not (p e)) edges (λ e m. ap not (listed e m)))
+
+  pub gone_there : All (Contains (keys edges)) (keys (filter p edges))
+  gone_there = all_members (Contains (keys edges)) (keys (filter p edges)) (λ k m.
+      let e = map_among (λ (f : Edge). f.key) (filter p edges) k m in
+      subst (Contains (keys edges)) e.2 (contained (keys edges) e.0.key (among_map (λ (f : Edge). f.key) edges e.0 (kept_among p edges e.0 e.1))))
+
+  pub gone_apart : AllPairs (λ k l. k ≢ l) (keys (filter p edges))
+  gone_apart =
+      pairs_mapped (λ (k l : ℕ). k ≢ l) (λ (e : Edge). e.key) (filter p edges)
+      (λ i j d l s e. absurd (omega (arith, AllPairs-filter (λ (e f : Edge). e.key < f.key) p edges a i j d l s, e)))
+
+  -- ---- and others come
+
+  module _ (come all : List Edge) (moved : IsPermutation (filter (λ e. not (p e)) edges ++ come) all) (live : AreLive all) where
+    abbrev kept : List Edge
+    kept = filter (λ e. not (p e)) edges
+
+    differ : AllPairs (λ (e f : Edge). e.key ≢ f.key) (filter (λ e. not (p e)) edges ++ come)
+    differ =
+        AllPairs-permutation (λ (e f : Edge). e.key ≢ f.key) (λ e f ne eq. ne (sym eq)) all (kept ++ come) (IsPermutation-sym (kept ++ come) all moved)
+        (λ i j d l s e. absurd (omega (arith, live.ascending i j d l s, e)))
+
+    pub come_fresh : All (λ e. ¬ (Contains (keys (without_keys (keys (filter p edges)) edges)) e.key)) come
+    come_fresh = all_members (λ (e : Edge). ¬ (Contains (keys (without_keys (keys (filter p edges)) edges)) e.key)) come (λ e m c.
+        let f = Contains-from_map (λ (f : Edge). f.key) kept e.key (subst (λ (es : List Edge). Contains (keys es) e.key) left_is c) in
+        pairs_across (λ (e f : Edge). e.key ≢ f.key) kept come differ f.0 e (among_contained kept f.0 f.1) m f.2)
+
+    pub come_distinct : AllPairs (λ e f. e.key ≢ f.key) come
+    come_distinct = pairs_behind (λ (e f : Edge). e.key ≢ f.key) kept come differ
+
+    pub come_live : All IsLiveEdge come
+    come_live = all_members IsLiveEdge come (λ e m.
+        members_all IsLiveEdge (kept ++ come) e (All-permutation IsLiveEdge all (kept ++ come) (IsPermutation-sym (kept ++ come) all moved) live.each) (among_right kept come e m))
+
+    -- then all are there
+    pub replaced : (after : List Edge) → AreLive after → IsPermutation (without_keys (keys (filter p edges)) edges ++ come) after → after ≡ all
+    replaced after alive h =
+        ascending_same after all alive.ascending live.ascending
+        (IsPermutation-trans after (kept ++ come) all (IsPermutation-sym (kept ++ come) after (subst (λ (es : List Edge). IsPermutation (es ++ come) after) left_is h)) moved)
