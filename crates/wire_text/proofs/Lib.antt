@@ -1,2 +1,14 @@
 pub mod Faults
 pub mod Edges
+pub mod Each
+pub mod AllForms
+pub mod Points
+pub mod Loops
+pub mod Counts
+pub mod LineForms
+pub mod LastLine
+pub mod SliceLaws
+pub mod PacketForms
+pub mod PacketLaws
+pub mod Room
+pub mod ReadingExamples

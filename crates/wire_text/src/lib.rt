@@ -1,14 +1,18 @@
 //! Texts that are put out: the borders, the slice and the window of a map after some steps, the packet between two
-//! steps, the numbers of a map, and why a map is refused. It stands on `tgap_model`, whose `Texts` and `SliceTexts` say
-//! how each is spelled, and on `plain_io`, which writes numbers.
+//! steps, the numbers of a map, and why a map is refused; and the slices and packets that are read again from theirs. It
+//! stands on `tgap_model`, whose `Texts` and `SliceTexts` say how each is spelled and whose `SliceReading` says what is
+//! read, and on `plain_io`, which cuts a text into lines and words, and reads and writes numbers.
 #![tactic(auto)]
 
 mod answer;
 mod borders;
 mod fault;
 mod packet;
+mod packet_reading;
+mod row_reading;
 mod rows;
 mod slice;
+mod slice_reading;
 #[cfg(test)]
 mod tests;
 mod window;
@@ -17,5 +21,8 @@ pub use answer::{ok_text, step_too_high_text};
 pub use borders::borders_text;
 pub use fault::fault_text;
 pub use packet::packet_text;
+pub use packet_reading::read_packet;
+pub use row_reading::BadText;
 pub use slice::slice_text;
+pub use slice_reading::read_slice;
 pub use window::window_text;

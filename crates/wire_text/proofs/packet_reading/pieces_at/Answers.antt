@@ -1,0 +1,29 @@
+use Rattle.std.proofs.Common.{◌∙◌, sym}
+use Rattle.std.proofs.lemmas.Result.{err_from_is_err_and}
+use Rattle.tgap_model.specs.Lines.{read_line}
+use Rattle.tgap_model.specs.SliceReading.{pieces_at, read_piece}
+use Rattle.wire_text.specs.Reading.{bad_text}
+use Rattle.wire_text.proofs.Each.{each_go_on, each_done}
+use Rattle.wire_text.proofs.Loops.{line_found, line_refused, each_refused}
+use Rattle.wire_text.proofs.packet_reading.pieces_at.Goals as goal
+
+pub returns-in_err-piece : goal.returns-in_err-piece
+unfolding pieces_at
+returns-in_err-piece c =
+    let p = err_from_is_err_and c.from_residual.result c.from_residual.ensures.1 in
+    let l = c.loop in
+    let one = line_refused bad_text read_piece l.lines c.read_piece.new.lines c.number.result c.read_piece.result c.in_err-piece.field-0.0 c.number.ensures c.in_err-piece.ensures c.read_piece.ensures in
+    rw (p.1, p.2) (each_refused (λ k p. k) (λ k. read_line bad_text read_piece) l.pieces c.args.n l.counter 0 l.lines _ c.in_err-piece.field-0.0 c.loop-test.true l.invariant one)
+
+pub loop-preserved : goal.loop-preserved
+unfolding pieces_at
+loop-preserved c =
+    let l = c.loop in
+    let one = line_found bad_text read_piece l.lines c.read_piece.new.lines c.number.result c.read_piece.result c.in_ok-piece.piece c.number.ensures c.in_ok-piece.ensures c.read_piece.ensures in
+    rw c.in_ok-push.ensures (each_go_on (λ k p. k) (λ k. read_line bad_text read_piece) l.pieces c.args.n l.counter 0 l.lines c.in_ok-piece.piece c.read_piece.new.lines c.loop-test.true one ∙ l.invariant)
+
+pub returns : goal.returns
+unfolding pieces_at
+returns c =
+    let l = c.loop in
+    sym l.invariant ∙ each_done (λ k p. k) (λ k. read_line bad_text read_piece) l.pieces c.args.n l.counter 0 l.lines c.loop-test.false

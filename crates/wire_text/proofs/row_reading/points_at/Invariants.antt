@@ -1,0 +1,7 @@
+use Rattle.std.proofs.Common.{◌≡◌, ◌-◌}
+use Rattle.tgap_model.specs.ListingLines.{points_at}
+use Rattle.plain_io.specs.Fronts.{with_front}
+use Rattle.wire_text.proofs.row_reading.points_at.Given as goal
+
+abbrev pub invariant-loop : goal.invariant-loop
+invariant-loop l = with_front l.points (points_at (l.n - l.counter) l.words) ≡ points_at l.n l.fn.words
