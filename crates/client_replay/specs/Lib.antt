@@ -1,0 +1,4 @@
+pub mod Between
+pub mod Coming
+pub mod Rules
+pub mod Replaying

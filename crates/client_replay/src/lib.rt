@@ -1,0 +1,18 @@
+//! The client's side of refinement: records of steps are undone on a slice, or refused by the least rule that they break.
+//! It stands on `tgap_model`, whose `Records` says what a record is, what undoing it makes of a slice, and which rules it
+//! keeps where it fits.
+#![tactic(auto)]
+
+mod coming;
+mod find;
+mod order;
+mod packet;
+mod pieces;
+mod puts;
+mod rules;
+mod undo;
+mod unfit;
+
+pub use packet::replay;
+pub use undo::apply;
+pub use unfit::Unfit;
