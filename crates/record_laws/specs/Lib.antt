@@ -1,0 +1,4 @@
+pub mod RunLaws
+pub mod PieceLaws
+pub mod UndoLaws
+pub mod PacketLaws
