@@ -1,0 +1,61 @@
+-- An edit that is not refused has passed its tests.
+use Rattle.std.proofs.Common.{◌≡◌, ℕ, Bool, true, false, not, nat_lt, List, Option, Some, None, Result, Ok, IsTrue, refl, subst}
+use Rattle.std.specs.Prelude.{unwrap_or}
+use Rattle.std.specs.Option.{ok_or}
+use Rattle.std.proofs.lemmas.Bool.{ltb-true}
+use Rattle.tgap_model.specs.declared.base.BaseArc.{BaseArc}
+use Rattle.tgap_model.specs.declared.limits.TheConstants.{MAX_POINTS}
+use Rattle.tgap_model.specs.Base.{BaseMap, is_base, count_points}
+use Rattle.tgap_model.specs.Json.{ensured}
+use Rattle.tgap_model.specs.Lines.{◌>>=◌}
+use Rattle.tgap_model.specs.Edits.{has_point, is_node, move_all, put_between, take_out, change_first, turns_back, move_point, add_point, drop_point}
+use Rattle.map_version.specs.EditLaws.{MovesKeepMaps, AddsKeepMaps, DropsKeepMaps}
+use Rattle.map_version.proofs.Laws.{move_again, add_again, drop_again}
+
+pub moves_keep : MovesKeepMaps
+unfolding move_point
+moves_keep m e old new base limits made = by (has_point old m.arcs) (has_point new m.arcs) refl made
+  where
+    moved : BaseMap
+    moved = record m { arcs = move_all old new m.arcs }
+
+    by : (there taken : Bool) → has_point new m.arcs ≡ taken
+        → (let result : Result BaseMap ℕ = ensured there 3 >>= λ t. ensured (not taken) 4 >>= λ f. Ok moved in let wanted : Result BaseMap ℕ = Ok e in result ≡ wanted)
+        → IsTrue (is_base e)
+    by true false free made = (let same : moved ≡ e = cc in subst (λ (x : BaseMap). IsTrue (is_base x)) same (move_again m old new base limits free))
+    by true true free made = absurd cc
+    by false taken free made = absurd cc
+
+pub adds_keep : AddsKeepMaps
+unfolding add_point
+adds_keep m e a b new base limits made =
+    by (change_first (put_between a b new) m.arcs) (has_point new m.arcs) (nat_lt (count_points m.arcs) MAX_POINTS) refl refl refl made
+  where
+    by : (found : Option (List BaseArc)) (taken room : Bool) → change_first (put_between a b new) m.arcs ≡ found → has_point new m.arcs ≡ taken
+        → nat_lt (count_points m.arcs) MAX_POINTS ≡ room
+        → (let result : Result BaseMap ℕ = ok_or found 5 >>= λ arcs. ensured (not taken) 4 >>= λ f. ensured room 8 >>= λ r. Ok (record m { arcs = arcs }) in
+        let wanted : Result BaseMap ℕ = Ok e in result ≡ wanted)
+        → IsTrue (is_base e)
+    by None taken room found free fits made = absurd cc
+    by (Some arcs) true room found free fits made = absurd cc
+    by (Some arcs) false false found free fits made = absurd cc
+    by (Some arcs) false true found free fits made =
+        (let same : record m { arcs = arcs } ≡ e = cc in
+        subst (λ (x : BaseMap). IsTrue (is_base x)) same
+        (add_again m a b new arcs base limits free found (ltb-true (count_points m.arcs) MAX_POINTS fits)))
+
+pub drops_keep : DropsKeepMaps
+unfolding drop_point
+drops_keep m e old base made =
+    by (has_point old m.arcs) (is_node old m.arcs) (turns_back old m.arcs) (change_first (take_out old) m.arcs) refl refl made
+  where
+    by : (there node back : Bool) (found : Option (List BaseArc)) → turns_back old m.arcs ≡ back → change_first (take_out old) m.arcs ≡ found
+        → (let result : Result BaseMap ℕ = ensured there 3 >>= λ t. ensured (not node) 6 >>= λ i. ensured (not back) 7 >>= λ k. Ok (record m { arcs = unwrap_or found m.arcs }) in
+        let wanted : Result BaseMap ℕ = Ok e in result ≡ wanted)
+        → IsTrue (is_base e)
+    by true false false None apart found made = (let same : m ≡ e = cc in subst (λ (x : BaseMap). IsTrue (is_base x)) same base)
+    by true false false (Some arcs) apart found made =
+        (let same : record m { arcs = arcs } ≡ e = cc in subst (λ (x : BaseMap). IsTrue (is_base x)) same (drop_again m old arcs base apart found))
+    by true false true found apart e1 made = absurd cc
+    by true true back found apart e1 made = absurd cc
+    by false node back found apart e1 made = absurd cc

@@ -1,0 +1,146 @@
+-- Edits of two squares, and the first faults of others, computed from the definitions.
+use Rattle.std.proofs.Common.{◌≡◌, ℕ, false, pos, List, [], ◌∷◌, map, Some, Result, Ok, Err, refl, codes}
+use Rattle.std.specs.Prelude.{replicate}
+use Rattle.std.specs.Fmt.{digits}
+use Rattle.tgap_model.specs.declared.geometry.Point.{Point}
+use Rattle.tgap_model.specs.declared.base.BaseArc.{BaseArc}
+use Rattle.tgap_model.specs.declared.limits.TheConstants.{MAX_POINTS}
+use Rattle.tgap_model.specs.Base.{BaseMap, count_points}
+use Rattle.tgap_model.specs.Texts.{number_of}
+use Rattle.tgap_model.specs.Edits.{has_point, put_between, change_first, set_class, move_point, add_point, drop_point, edited}
+
+-- an arc from the numbers of its line
+abbrev points_of : List ℕ → List Point
+points_of [] = []
+points_of (x ∷ []) = []
+points_of (x ∷ y ∷ more) = record { x = pos x; y = pos y } ∷ points_of more
+
+abbrev arc : ℕ → ℕ → List ℕ → BaseArc
+arc left right coordinates = record { left = left; right = right; points = points_of coordinates }
+
+-- a map of two classes
+abbrev map_of : List ℕ → List BaseArc → BaseMap
+map_of classes arcs = record {
+  transform = record { sx = pos 1; sy = pos 1; tx = pos 0; ty = pos 0 };
+  rules = record { ratio = 0; weights = 1 ∷ 1 ∷ []; compat = 1 ∷ 1 ∷ 1 ∷ 1 ∷ [] };
+  classes = classes;
+  arcs = arcs;
+}
+
+-- two squares side by side
+abbrev left_arc : BaseArc
+left_arc = arc 1 0 (10 ∷ 10 ∷ 0 ∷ 10 ∷ 0 ∷ 0 ∷ 10 ∷ 0 ∷ [])
+
+abbrev right_arc : BaseArc
+right_arc = arc 2 0 (10 ∷ 0 ∷ 20 ∷ 0 ∷ 20 ∷ 10 ∷ 10 ∷ 10 ∷ [])
+
+abbrev between : List ℕ → BaseArc
+between coordinates = arc 1 2 coordinates
+
+abbrev squares : BaseMap
+squares = map_of (0 ∷ 0 ∷ []) (left_arc ∷ right_arc ∷ between (10 ∷ 0 ∷ 10 ∷ 10 ∷ []) ∷ [])
+
+-- the two squares with other arcs
+abbrev with_arcs : List BaseArc → BaseMap
+with_arcs arcs = map_of (0 ∷ 0 ∷ []) arcs
+
+-- the squares with a point more between them
+abbrev bent : BaseMap
+bent = with_arcs (left_arc ∷ right_arc ∷ between (10 ∷ 0 ∷ 11 ∷ 5 ∷ 10 ∷ 10 ∷ []) ∷ [])
+
+-- an arc that goes back and forth
+abbrev twice : BaseArc
+twice = arc 1 2 (0 ∷ 0 ∷ 50 ∷ 0 ∷ 0 ∷ 0 ∷ 90 ∷ 90 ∷ [])
+
+-- ---- what each line does
+
+no_line : edited squares [] ≡ Ok squares
+no_line = refl
+
+class_line : edited squares (codes "class 2 1\n") ≡ Ok (map_of (0 ∷ 1 ∷ []) squares.arcs)
+unfolding set_class number_of digits
+class_line = refl
+
+-- each arc that has the point has the other one
+move_line : edited squares (codes "move 10 0 12 1\n") ≡ Ok (with_arcs (
+    arc 1 0 (10 ∷ 10 ∷ 0 ∷ 10 ∷ 0 ∷ 0 ∷ 12 ∷ 1 ∷ []) ∷ arc 2 0 (12 ∷ 1 ∷ 20 ∷ 0 ∷ 20 ∷ 10 ∷ 10 ∷ 10 ∷ []) ∷ between (12 ∷ 1 ∷ 10 ∷ 10 ∷ []) ∷ []))
+unfolding move_point number_of digits
+move_line = refl
+
+-- the ends of a segment may be named in either order
+add_line : edited squares (codes "add 10 0 10 10 11 5\n") ≡ Ok bent
+unfolding add_point number_of digits
+add_line = refl
+
+add_line_turned : edited squares (codes "add 10 10 10 0 11 5\n") ≡ Ok bent
+unfolding add_point number_of digits
+add_line_turned = refl
+
+-- of two segments with these ends the first one has the new point
+add_to_first : edited (with_arcs (left_arc ∷ twice ∷ twice ∷ [])) (codes "add 50 0 0 0 20 0\n")
+    ≡ Ok (with_arcs (left_arc ∷ arc 1 2 (0 ∷ 0 ∷ 20 ∷ 0 ∷ 50 ∷ 0 ∷ 0 ∷ 0 ∷ 90 ∷ 90 ∷ []) ∷ twice ∷ []))
+unfolding add_point number_of digits
+add_to_first = refl
+
+drop_line : edited bent (codes "drop 11 5\n") ≡ Ok squares
+unfolding drop_point number_of digits
+drop_line = refl
+
+-- a line sees what the lines before it left
+lines_in_a_row : edited squares (codes "add 10 0 10 10 11 5\nclass 1 1\nmove 11 5 11 6\ndrop 11 6\n") ≡ Ok (map_of (1 ∷ 0 ∷ []) squares.arcs)
+unfolding add_point set_class move_point drop_point number_of digits
+lines_in_a_row = refl
+
+-- ---- when a line is refused
+
+-- what comes of each of these batches
+abbrev each : BaseMap → List (List ℕ) → List (Result BaseMap (ℕ × ℕ))
+each m batches = map (edited m) batches
+
+-- the same fault of so many batches
+abbrev all_at : ℕ → ℕ → ℕ → List (Result BaseMap (ℕ × ℕ))
+all_at count line cause = replicate count (Err (line, cause))
+
+of_no_form : each squares (
+    codes "\n" ∷ codes "class 1 1" ∷ codes "clas 1 1\n" ∷ codes "class 1\n" ∷ codes "class 1 1 1\n" ∷ codes "class  1 1\n" ∷ codes "class 01 1\n"
+    ∷ codes "class 1 -0\n" ∷ codes "class +1 1\n" ∷ codes "class 1 1\r\n" ∷ codes "move 10 0 12\n" ∷ codes "drop 0 268435457\n" ∷ codes "drop -0 0\n" ∷ [])
+    ≡ all_at 13 1 1
+unfolding number_of digits
+of_no_form = refl
+
+no_such_face_or_class : each squares (
+    codes "class 0 0\n" ∷ codes "class 3 0\n" ∷ codes "class -1 0\n" ∷ codes "class 1 2\n" ∷ codes "class 1 -1\n" ∷ codes "class 123456789012345678901234567890 0\n" ∷ [])
+    ≡ all_at 6 1 2
+unfolding set_class number_of digits
+no_such_face_or_class = refl
+
+no_such_point : each squares (codes "move 1 1 0 0\n" ∷ codes "drop 1 1\n" ∷ []) ≡ all_at 2 1 3
+unfolding move_point drop_point number_of digits
+no_such_point = refl
+
+already_there : each squares (codes "move 10 0 10 0\n" ∷ codes "move 10 0 20 0\n" ∷ codes "add 10 0 10 10 0 0\n" ∷ []) ≡ all_at 3 1 4
+unfolding move_point add_point number_of digits
+already_there = refl
+
+no_such_segment : each squares (codes "add 10 0 20 10 0 0\n" ∷ codes "add 0 0 0 0 1 1\n" ∷ codes "add 1 1 2 2 3 3\n" ∷ []) ≡ all_at 3 1 5
+unfolding add_point number_of digits
+no_such_segment = refl
+
+a_node : each squares (codes "drop 10 0\n" ∷ codes "drop 10 10\n" ∷ []) ≡ all_at 2 1 6
+unfolding drop_point number_of digits
+a_node = refl
+
+-- the first place of the point counts
+between_equal_points : edited (with_arcs (twice ∷ [])) (codes "drop 50 0\n") ≡ Err (1, 7)
+unfolding drop_point number_of digits
+between_equal_points = refl
+
+-- a base with as many points as there may be
+no_room : (m : BaseMap) (a b new : Point) (arcs : List BaseArc) → change_first (put_between a b new) m.arcs ≡ Some arcs → has_point new m.arcs ≡ false
+    → count_points m.arcs ≡ MAX_POINTS → add_point m a b new ≡ Err 8
+unfolding add_point
+no_room m a b new arcs segment free full = rw (segment, free, full) refl
+
+first_fault : edited squares (codes "class 1 1\ndrop 10 0\nx\n") ≡ Err (2, 6)
+unfolding set_class drop_point number_of digits
+first_fault = refl

@@ -1,0 +1,4 @@
+mod Examples
+pub mod Cases
+pub mod Laws
+pub mod EditsKeep
