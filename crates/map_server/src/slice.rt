@@ -62,14 +62,19 @@ fn slice_of_base<R: Threads + Sync>(
     ensures { IsEither (SaysSlice step base) (slice_outcome step base) (outcome_from result) }
 {
     let checked = check(rt, alloc, base)?;
-    slice_of(alloc, checked, step)
+    slice_of(rt, alloc, checked, step)
 }
 
 /// The slice text of a planar partition after this step; or the step is above the last one.
-fn slice_of(alloc: Global, checked: Checked, step: u32) -> Result<Text, Outcome>
+fn slice_of<R: Threads + Sync>(
+    rt: &R,
+    alloc: Global,
+    checked: Checked,
+    step: u32,
+) -> Result<Text, Outcome>
     ensures { IsEither (SaysSliceOf step checked) (slice_of_outcome step checked) (outcome_from result) }
 {
-    let built = build(alloc, checked)?;
+    let built = build(rt, alloc, checked)?;
     let slice = slice_at(alloc, &built, step)?;
     Ok(slice_text(alloc, &slice)?)
 }

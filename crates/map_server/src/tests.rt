@@ -559,21 +559,33 @@ fn each_cut_of_a_listing_has_its_line(rt: HostRuntime) -> Result<(), Fail> {
     Ok(())
 }
 
-#[test]
-fn too_many_points(rt: HostRuntime) -> Result<(), Fail> {
-    let alloc = rt.alloc();
-    let mut arc = String::new(alloc);
-    arc.push_str("1 0 131073")?;
-    for x in 0..131_071 {
+/// A listing of one face, whose arc has this many points: a level row of them, and one above its first.
+fn long_arc(alloc: Global, points: u32) -> Result<Vec<u8>, Memory> {
+    let mut arc = format!(in alloc; "1 0 {points}")?;
+    for x in 0..points.saturating_sub(2) {
         arc.push_str(format!(in alloc; " {x} 0")?.as_str())?;
     }
     arc.push_str(" 0 1 0 0")?;
-    let bytes = listing_of(alloc, 1, &[arc.as_str()])?;
-    let mut files = one_file(alloc, "map", bytes.as_slice(), List::new(alloc))?;
-    let mut out = MemorySink::new(alloc, 100, List::new(alloc))?;
+    listing_of(alloc, 1, &[arc.as_str()])
+}
+
+#[test]
+fn the_greatest_number_of_points(rt: HostRuntime) -> Result<(), Fail> {
+    let alloc = rt.alloc();
     let words = words_of(alloc, "check map")?;
-    assert_eq!(rt; run(&rt, alloc, words.as_slice(), &mut files, &mut out), 4);
-    assert_eq!(rt; out.bytes(), b"refused 9 limit points 131073\n".as_slice());
+    for (points, status, text) in [
+        (131_072, 0, "ok faces 1 arcs 1 points 131072\n"),
+        (131_073, 4, "refused 9 limit points 131073\n"),
+    ] {
+        let bytes = long_arc(alloc, points)?;
+        let mut files = one_file(alloc, "map", bytes.as_slice(), List::new(alloc))?;
+        let mut out = MemorySink::new(alloc, 100, List::new(alloc))?;
+        assert_eq!(rt;
+            run(&rt, alloc, words.as_slice(), &mut files, &mut out),
+            status
+        );
+        assert_eq!(rt; out.bytes(), text.as_bytes());
+    }
     Ok(())
 }
 
