@@ -3,7 +3,7 @@
 //! is refused; `proofs/Examples.antt` computes that on a small map.
 #![tactic(auto)]
 
-ghost use Rattle.map_version.specs.EditLaws.{MovesKeepMaps, AddsKeepMaps, DropsKeepMaps};
+ghost use Rattle.edit_laws.specs.EditLaws.{MovesKeepMaps, AddsKeepMaps, DropsKeepMaps};
 
 /// A base map with a point moved to one within the limits is a base map.
 pub fn moves_keep_maps()

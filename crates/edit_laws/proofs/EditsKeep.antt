@@ -9,8 +9,8 @@ use Rattle.tgap_model.specs.Base.{BaseMap, is_base, count_points}
 use Rattle.tgap_model.specs.Json.{ensured}
 use Rattle.tgap_model.specs.Lines.{◌>>=◌}
 use Rattle.tgap_model.specs.Edits.{has_point, is_node, move_all, put_between, take_out, change_first, turns_back, move_point, add_point, drop_point}
-use Rattle.map_version.specs.EditLaws.{MovesKeepMaps, AddsKeepMaps, DropsKeepMaps}
-use Rattle.map_version.proofs.Laws.{move_again, add_again, drop_again}
+use Rattle.edit_laws.specs.EditLaws.{MovesKeepMaps, AddsKeepMaps, DropsKeepMaps}
+use Rattle.edit_laws.proofs.Laws.{move_again, add_again, drop_again}
 
 pub moves_keep : MovesKeepMaps
 unfolding move_point
