@@ -32,7 +32,7 @@ pub use limits::{
     MAX_RATIO, MAX_TEXT_BYTES, MAX_WEIGHT,
 };
 pub use list::List;
-pub use machine::{Event, Outcome};
+pub use machine::{Event, Holds, Outcome};
 pub use merge::{LabelledArc, MergeStep};
 pub use record::{Mend, Packet, Piece, Put, StepRecord};
 pub use segment::{LabelledSegment, base_segments};

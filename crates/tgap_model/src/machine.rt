@@ -1,6 +1,22 @@
 //! What is done with the versions of a map, and what comes of it.
 
+ghost use Rattle.std.specs.Prelude.{◌≡◌, ℕ};
+ghost use Rattle.tgap_model.specs.Base.{BaseMap};
+
 use crate::base::Base;
+
+/// A version of a map that is kept.
+pub trait Holds {
+    /// Its number.
+    ghost numbered: { Self → ℕ };
+
+    /// The map that it was built of.
+    ghost base: { Self → BaseMap };
+
+    /// Its number.
+    fn number(&self) -> u64
+        ensures { result ≡ numbered self.now };
+}
 
 /// What an actor does, by the number of the actor.
 #[derive(Debug, Drop)]
