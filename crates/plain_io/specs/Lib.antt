@@ -2,6 +2,9 @@ pub mod Faults
 pub mod Calls
 pub mod Loads
 pub mod Puts
+pub mod Links
+pub mod Doors
+pub mod Harbours
 pub mod Held
 pub mod Rest
 pub mod Pieces

@@ -3,15 +3,23 @@
 #![tactic(auto)]
 
 mod calls;
+mod connection;
+mod door;
 mod files;
+mod harbour;
 pub mod json;
+mod link;
 mod sink;
 mod text;
 
 pub use calls::Calls;
+pub use connection::{ConnectionEnd, EndKind};
+pub use door::{Arrival, Door};
 pub use files::{
     FaultCounts, FileTexts, Files, HostFiles, LoadFail, MemoryFile, MemoryFiles, SureFiles, Which,
 };
+pub use harbour::{Harbour, HarbourFail};
+pub use link::Link;
 pub use sink::{Failed, HostSink, MemorySink, Sink, SureSink};
 pub use text::{
     LineFault, Lines, Pieces, after_count, after_word, at_line, count_at, ended, natural_at,
