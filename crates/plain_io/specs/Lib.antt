@@ -6,6 +6,9 @@ pub mod Links
 pub mod Doors
 pub mod Harbours
 pub mod Held
+pub mod Inputs
+pub mod MemoryLinks
+pub mod SureLinks
 pub mod Rest
 pub mod Pieces
 pub mod Taking

@@ -19,7 +19,7 @@ pub use files::{
     FaultCounts, FileTexts, Files, HostFiles, LoadFail, MemoryFile, MemoryFiles, SureFiles, Which,
 };
 pub use harbour::{Harbour, HarbourFail};
-pub use link::Link;
+pub use link::{FailingCalls, Link, MemoryLink, SureLink};
 pub use sink::{Failed, HostSink, MemorySink, Sink, SureSink};
 pub use text::{
     LineFault, Lines, Pieces, after_count, after_word, at_line, count_at, ended, natural_at,

@@ -4,7 +4,13 @@ ghost use Rattle.std.specs.Prelude.{ℕ, Bool, List, Option, IfOk, ◌≡◌, �
 ghost use Rattle.plain_io.specs.Puts.{Puts, CountsPut};
 ghost use Rattle.plain_io.specs.Links.{Receives, is_end, CountsTake};
 
+mod input;
+mod memory;
+mod sure;
+
 use crate::sink::Failed;
+pub use memory::{FailingCalls, MemoryLink};
+pub use sure::SureLink;
 
 /// A link to a peer. It may be let go at any time.
 pub trait Link: Drop {
