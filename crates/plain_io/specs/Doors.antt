@@ -49,3 +49,9 @@ CountsArrival Failed before now = Rises before now
 -- the link and its end stand after those that were handed back before
 abbrev pub HandsBack : {L : Type 0} → Option (Connections L) → Option (Connections L) → L → ConnectionEnd → Type 0
 HandsBack old new link end = IfSome old (λ all. new ≡ Some (record { came = all.came; back = all.back ++ (link, end) ∷ [] }))
+
+-- the first of the links that are left; where no more will come, none is left
+abbrev pub ComesFirst : {L : Type 0} → Arrival L → List L → List L → Type 0
+ComesFirst (Came link) old new = old ≡ link ∷ new
+ComesFirst Closed old new = (old ≡ []) × (new ≡ [])
+ComesFirst Failed old new = new ≡ old

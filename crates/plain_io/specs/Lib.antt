@@ -9,6 +9,8 @@ pub mod Held
 pub mod Inputs
 pub mod MemoryLinks
 pub mod SureLinks
+pub mod SureDoors
+pub mod MemoryDoors
 pub mod Rest
 pub mod Pieces
 pub mod Taking

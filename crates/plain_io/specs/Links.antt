@@ -21,3 +21,8 @@ CountsTake (Err e) before now = Rises before now
 -- no byte yet, where they are told
 abbrev pub HasNone : Option (List ℕ) → Type 0
 HasNone told = IfSome told (λ bytes. bytes ≡ [])
+
+-- a link of which nothing was taken and to which nothing was put, that has not failed and not ended
+abbrev pub IsNew : Option (List ℕ) → Option (List ℕ) → ℕ → ℕ → Bool → Type 0
+IsNew taken told take_faults put_faults ended =
+    HasNone taken × HasNone told × (take_faults ≡ 0) × (put_faults ≡ 0) × (ended ≡ false)

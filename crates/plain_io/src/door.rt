@@ -4,8 +4,13 @@ ghost use Rattle.std.specs.Prelude.{ℕ, Bool, false, Option, ◌≡◌, ◌||�
 ghost use Rattle.plain_io.specs.Links.{HasNone};
 ghost use Rattle.plain_io.specs.Doors.{Connections, NoMoreBack, FewerBack, IfCame, is_closed, Arrives, CountsArrival, HandsBack};
 
+mod memory;
+mod sure;
+
 use crate::connection::ConnectionEnd;
 use crate::link::Link;
+pub use memory::MemoryDoor;
+pub use sure::SureDoor;
 
 /// What a door gives next.
 #[derive(Debug, Drop)]

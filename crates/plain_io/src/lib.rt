@@ -14,7 +14,7 @@ mod text;
 
 pub use calls::Calls;
 pub use connection::{ConnectionEnd, EndKind};
-pub use door::{Arrival, Door};
+pub use door::{Arrival, Door, MemoryDoor, SureDoor};
 pub use files::{
     FaultCounts, FileTexts, Files, HostFiles, LoadFail, MemoryFile, MemoryFiles, SureFiles, Which,
 };

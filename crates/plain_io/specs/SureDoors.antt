@@ -1,0 +1,24 @@
+-- What a door that never fails holds.
+use Rattle.std.specs.Prelude.{ℕ, Bool, List}
+use Rattle.plain_io.specs.declared.door.sure.SureDoor.{SureDoor}
+use Rattle.plain_io.specs.Doors.{Connections}
+
+-- the links that are left to come
+abbrev pub left_of : {L : Type 0} {l : _} → SureDoor L l → List L
+left_of door = door.links.items
+
+-- how many links came
+abbrev pub came_of : {L : Type 0} {l : _} → SureDoor L l → ℕ
+came_of door = door.came
+
+-- the links that came and those that are back
+abbrev pub connections_of : {L : Type 0} {l : _} → SureDoor L l → Connections L
+connections_of door = record { came = door.came; back = door.back.items }
+
+-- whether a call has answered that no more will come
+abbrev pub closed_of : {L : Type 0} {l : _} → SureDoor L l → Bool
+closed_of door = door.closed
+
+-- how often a call has failed: never
+abbrev pub faults_of : {L : Type 0} {l : _} → SureDoor L l → ℕ
+faults_of door = 0
