@@ -1,5 +1,5 @@
 -- What a harbour tells of its doors, and what making doors and taking one back do to it.
-use Rattle.std.specs.Prelude.{◌≡◌, ◌<◌, ◌≤◌, ℕ, zero, suc, ◌+◌, ◌++◌, ◌∷◌, List, [], length, Option, Some, IfSome, Result, Ok, Err}
+use Rattle.std.specs.Prelude.{◌≡◌, ◌<◌, ◌≤◌, ℕ, ◌+◌, ◌++◌, ◌∷◌, List, [], length, All, Option, Some, IfSome, Result, Ok, Err}
 use Rattle.plain_io.specs.declared.harbour.HarbourFail.{HarbourFail}
 use Rattle.plain_io.specs.declared.harbour.HarbourFail.TheVariants.{Failed, Memory}
 use Rattle.plain_io.specs.Faults.{Rises}
@@ -34,5 +34,9 @@ TakesBack old new door = IfSome old (λ all. new ≡ Some (record { given = all.
 
 -- the count rises where the door's count is above 0, and else it stays
 abbrev pub CountsBack : ℕ → ℕ → ℕ → Type 0
-CountsBack zero before now = now ≡ before
-CountsBack (suc n) before now = Rises before now
+CountsBack count before now = (0 < count → Rises before now) × (count ≡ 0 → now ≡ before)
+
+-- The doors that were given, and after them those that are still ready, are the doors that were ready, and then some more
+-- of this kind.
+abbrev pub GivesFirst : {D : Type 0} → (D → Type 0) → List D → List D → List D → Type 0
+GivesFirst {D} P given old new = (more : List D) × (given ++ new ≡ old ++ more) × All P more

@@ -11,6 +11,8 @@ pub mod MemoryLinks
 pub mod SureLinks
 pub mod SureDoors
 pub mod MemoryDoors
+pub mod DoorStores
+pub mod MemoryHarbours
 pub mod Rest
 pub mod Pieces
 pub mod Taking

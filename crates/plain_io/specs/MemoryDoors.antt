@@ -1,5 +1,5 @@
 -- What a door in memory holds.
-use Rattle.std.specs.Prelude.{ℕ, Bool, List}
+use Rattle.std.specs.Prelude.{◌≡◌, ℕ, Bool, List}
 use Rattle.plain_io.specs.declared.calls.Calls.{Calls}
 use Rattle.plain_io.specs.declared.door.memory.MemoryDoor.{MemoryDoor}
 use Rattle.plain_io.specs.Doors.{Connections}
@@ -28,3 +28,7 @@ calls_of door = door.calls
 -- how often a call has failed
 abbrev pub faults_of : {L : Type 0} {l : _} → MemoryDoor L l → ℕ
 faults_of door = door.faults
+
+-- a door of which no link came, to which none is back, and that has not failed and is not closed
+abbrev pub IsUnused : {L : Type 0} {l : _} → MemoryDoor L l → Type 0
+IsUnused door = Sure.IsUnused door.door × (faults_of door ≡ 0)

@@ -1,5 +1,5 @@
 -- What a door that never fails holds.
-use Rattle.std.specs.Prelude.{ℕ, Bool, List}
+use Rattle.std.specs.Prelude.{◌≡◌, ℕ, Bool, false, List, [], length}
 use Rattle.plain_io.specs.declared.door.sure.SureDoor.{SureDoor}
 use Rattle.plain_io.specs.Doors.{Connections}
 
@@ -22,3 +22,11 @@ closed_of door = door.closed
 -- how often a call has failed: never
 abbrev pub faults_of : {L : Type 0} {l : _} → SureDoor L l → ℕ
 faults_of door = 0
+
+-- a door of which no link came, to which none is back, and that is not closed
+abbrev pub IsUnused : {L : Type 0} {l : _} → SureDoor L l → Type 0
+IsUnused door = (came_of door ≡ 0) × (length door.back.items ≡ 0) × (closed_of door ≡ false)
+
+-- a door that no link is left to come of
+abbrev pub IsEmpty : {L : Type 0} {l : _} → SureDoor L l → Type 0
+IsEmpty door = left_of door ≡ []

@@ -4,7 +4,11 @@ ghost use Rattle.std.specs.Prelude.{ℕ, false, Option, IfOk, All, ◌≡◌, �
 ghost use Rattle.plain_io.specs.Doors.{NoneCame};
 ghost use Rattle.plain_io.specs.Harbours.{Doors, NoMoreBack, FewerBack, GivesDoors, CountsDoors, TakesBack, CountsBack};
 
+mod memory;
+mod store;
+
 use crate::door::Door;
+pub use memory::MemoryHarbour;
 use std::alloc::Global;
 
 /// Why no doors were given.

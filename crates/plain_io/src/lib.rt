@@ -18,7 +18,7 @@ pub use door::{Arrival, Door, MemoryDoor, SureDoor};
 pub use files::{
     FaultCounts, FileTexts, Files, HostFiles, LoadFail, MemoryFile, MemoryFiles, SureFiles, Which,
 };
-pub use harbour::{Harbour, HarbourFail};
+pub use harbour::{Harbour, HarbourFail, MemoryHarbour};
 pub use link::{FailingCalls, Link, MemoryLink, SureLink};
 pub use sink::{Failed, HostSink, MemorySink, Sink, SureSink};
 pub use text::{
