@@ -1,5 +1,5 @@
 -- The doors of a harbour in memory.
-use Rattle.std.specs.Prelude.{ℕ, List}
+use Rattle.std.specs.Prelude.{List}
 use Rattle.plain_io.specs.declared.harbour.store.DoorStore.{DoorStore}
 use Rattle.plain_io.specs.Harbours.{Doors}
 

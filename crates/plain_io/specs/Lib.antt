@@ -9,10 +9,12 @@ pub mod Held
 pub mod Inputs
 pub mod MemoryLinks
 pub mod SureLinks
+pub mod HeldLinks
 pub mod SureDoors
 pub mod MemoryDoors
 pub mod DoorStores
 pub mod MemoryHarbours
+pub mod SureHarbours
 pub mod Rest
 pub mod Pieces
 pub mod Taking

@@ -6,11 +6,13 @@ ghost use Rattle.plain_io.specs.Doors.{Connections, NoMoreBack, FewerBack, IfCam
 
 mod memory;
 mod sure;
+mod tcp;
 
 use crate::connection::ConnectionEnd;
 use crate::link::Link;
 pub use memory::MemoryDoor;
 pub use sure::SureDoor;
+pub use tcp::TcpDoor;
 
 /// What a door gives next.
 #[derive(Debug, Drop)]

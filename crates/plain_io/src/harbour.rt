@@ -6,10 +6,14 @@ ghost use Rattle.plain_io.specs.Harbours.{Doors, NoMoreBack, FewerBack, GivesDoo
 
 mod memory;
 mod store;
+mod sure;
+mod tcp;
 
 use crate::door::Door;
 pub use memory::MemoryHarbour;
 use std::alloc::Global;
+pub use sure::SureHarbour;
+pub use tcp::TcpHarbour;
 
 /// Why no doors were given.
 #[derive(Clone, Copy, Debug, PartialEq, Eq)]

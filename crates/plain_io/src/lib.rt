@@ -10,16 +10,18 @@ mod harbour;
 pub mod json;
 mod link;
 mod sink;
+#[cfg(test)]
+mod tests;
 mod text;
 
 pub use calls::Calls;
 pub use connection::{ConnectionEnd, EndKind};
-pub use door::{Arrival, Door, MemoryDoor, SureDoor};
+pub use door::{Arrival, Door, MemoryDoor, SureDoor, TcpDoor};
 pub use files::{
     FaultCounts, FileTexts, Files, HostFiles, LoadFail, MemoryFile, MemoryFiles, SureFiles, Which,
 };
-pub use harbour::{Harbour, HarbourFail, MemoryHarbour};
-pub use link::{FailingCalls, Link, MemoryLink, SureLink};
+pub use harbour::{Harbour, HarbourFail, MemoryHarbour, SureHarbour, TcpHarbour};
+pub use link::{FailingCalls, Flag, HeldLink, Link, MemoryLink, PEER_SECONDS, SureLink, TcpLink};
 pub use sink::{Failed, HostSink, MemorySink, Sink, SureSink};
 pub use text::{
     LineFault, Lines, Pieces, after_count, after_word, at_line, count_at, ended, natural_at,

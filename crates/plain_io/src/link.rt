@@ -4,13 +4,17 @@ ghost use Rattle.std.specs.Prelude.{ℕ, Bool, List, Option, IfOk, ◌≡◌, �
 ghost use Rattle.plain_io.specs.Puts.{Puts, CountsPut};
 ghost use Rattle.plain_io.specs.Links.{Receives, is_end, CountsTake};
 
+mod held;
 mod input;
 mod memory;
 mod sure;
+mod tcp;
 
 use crate::sink::Failed;
+pub use held::{Flag, HeldLink};
 pub use memory::{FailingCalls, MemoryLink};
 pub use sure::SureLink;
+pub use tcp::{PEER_SECONDS, TcpLink};
 
 /// A link to a peer. It may be let go at any time.
 pub trait Link: Drop {

@@ -8,6 +8,7 @@ mod memory;
 mod sure;
 
 pub use host::HostSink;
+pub(crate) use host::write_all;
 pub use memory::MemorySink;
 pub use sure::SureSink;
 

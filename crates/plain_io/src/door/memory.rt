@@ -21,7 +21,7 @@ pub struct MemoryDoor<L: Link> {
 
 impl<L: Link> MemoryDoor<L> {
     ghost use Rattle.plain_io.specs.Doors.{Connections};
-    ghost use Rattle.plain_io.specs.MemoryDoors.{left_of, came_of, calls_of};
+    ghost use Rattle.plain_io.specs.MemoryDoors.{left_of, came_of, calls_of, IsUnused};
 
     /// A door that gives these new links, one after the other, with room for what comes back, which is taken now. The
     /// calls for the next link with the listed numbers, counted from 0, fail.
@@ -31,6 +31,7 @@ impl<L: Link> MemoryDoor<L> {
         ensures faults { IfOk result (λ door. ⟦<MemoryDoor<L> as Door>⟧.faults door ≡ 0) }
         ensures unclosed { IfOk result (λ door. ⟦<MemoryDoor<L> as Door>⟧.closed door ≡ false) }
         ensures left { IfOk result (λ door. left_of door ≡ links) }
+        ensures unused { IfOk result IsUnused }
         ensures calls { IfOk result (λ door. calls_of door ≡ record { made = 0; failing = failing }) }
     {
         Ok(MemoryDoor {
@@ -41,10 +42,10 @@ impl<L: Link> MemoryDoor<L> {
     }
 
     /// The links that were handed back, each with its end.
-    pub fn back(&self) -> &[(L, ConnectionEnd)]
+    pub fn handed_back(&self) -> &[(L, ConnectionEnd)]
         ensures { ⟦<MemoryDoor<L> as Door>⟧.told self.now ≡ Some (record { came = came_of self.now; back = result.now }) }
     {
-        self.door.back()
+        self.door.handed_back()
     }
 }
 

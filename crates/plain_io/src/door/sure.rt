@@ -26,7 +26,7 @@ pub struct SureDoor<L: Link> {
 
 impl<L: Link> SureDoor<L> {
     ghost use Rattle.plain_io.specs.Doors.{Connections};
-    ghost use Rattle.plain_io.specs.SureDoors.{left_of, came_of};
+    ghost use Rattle.plain_io.specs.SureDoors.{left_of, came_of, IsUnused};
 
     /// A door that gives these new links, one after the other, with room for what comes back, which is taken now.
     pub fn new(alloc: Global, links: List<L>) -> Result<Self, Memory>
@@ -34,6 +34,7 @@ impl<L: Link> SureDoor<L> {
         ensures told { IfOk result (λ door. ⟦<SureDoor<L> as Door>⟧.told door ≡ Some (record { came = 0; back = [] })) }
         ensures unclosed { IfOk result (λ door. ⟦<SureDoor<L> as Door>⟧.closed door ≡ false) }
         ensures left { IfOk result (λ door. left_of door ≡ links) }
+        ensures unused { IfOk result IsUnused }
     {
         let links = VecDeque::from_vec(links.into_vec());
         Ok(SureDoor {
@@ -45,7 +46,7 @@ impl<L: Link> SureDoor<L> {
     }
 
     /// The links that were handed back, each with its end.
-    pub fn back(&self) -> &[(L, ConnectionEnd)]
+    pub fn handed_back(&self) -> &[(L, ConnectionEnd)]
         ensures { ⟦<SureDoor<L> as Door>⟧.told self.now ≡ Some (record { came = came_of self.now; back = result.now }) }
     {
         self.back.as_slice()

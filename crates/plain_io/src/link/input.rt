@@ -1,8 +1,8 @@
 //! Bytes that a link in memory gives, one front after another.
 
-ghost use Rattle.std.specs.Prelude.{◌≡◌, ◌≤◌, ◌||◌, ◌==◌, ◌++◌, false, [], length, take, drop, min};
+ghost use Rattle.std.specs.Prelude.{◌≡◌, ◌≤◌, ◌||◌, ◌==◌, ◌++◌, false, [], length, take, drop, min, is_ok, if◌then◌else◌};
 
-use tgap_model::Text;
+use tgap_model::{Memory, Text};
 
 /// Bytes of which a front was given, and whether their end was told.
 #[derive(Debug, Drop)]
@@ -27,6 +27,21 @@ impl Input {
             given: 0,
             ended: false,
         }
+    }
+
+    /// How many bytes were given.
+    pub fn given(&self) -> usize {
+        self.given
+    }
+
+    /// Adds bytes after the others, and gives the number of all bytes. On want of memory all is as before.
+    pub fn add(&mut self, bytes: &[u8]) -> Result<usize, Memory>
+        ensures given { given_of self.new ≡ given_of self.old }
+        ensures rest { rest_of self.new ≡ (if is_ok result then rest_of self.old ++ bytes.now else rest_of self.old) }
+        ensures end { ended_of self.new ≡ ended_of self.old }
+    {
+        self.bytes.push_slice(bytes)?;
+        Ok(self.bytes.len())
     }
 
     /// Gives the next bytes, at most so many and at most as many as the buffer has room for, and their number.

@@ -1,4 +1,3 @@
-use Rattle.std.proofs.Common.{rules}
 use Rattle.std.proofs.Math.Seq.{take-add}
 use Rattle.plain_io.proofs.link.input.Input.give.Goals as goal
 

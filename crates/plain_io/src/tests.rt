@@ -1,0 +1,138 @@
+//! Each form in memory, used once from end to end.
+
+use crate::{
+    Arrival, ConnectionEnd, Door, EndKind, Failed, FailingCalls, Flag, Harbour, HarbourFail,
+    HeldLink, Link, MemoryDoor, MemoryHarbour, MemoryLink, SureDoor, SureHarbour, SureLink,
+};
+use std::alloc::Global;
+use std::test::Fail;
+use tgap_model::{List, Memory, Text};
+
+/// The list of these numbers.
+fn numbers(alloc: Global, all: &[u64]) -> Result<List<u64>, Memory> {
+    Ok(List::from(Vec::from_slice(alloc, all)?))
+}
+
+/// The end of a connection in which nothing was done.
+fn nothing_done(alloc: Global) -> ConnectionEnd {
+    ConnectionEnd {
+        how: EndKind::Closed,
+        first: 0,
+        last: 0,
+        numbers: List::new(alloc),
+        rows: List::new(alloc),
+    }
+}
+
+/// Takes from a door and hands back at once, until it gives no more. Says how many links came.
+fn walk<D: Door>(door: &mut D, alloc: Global) -> u32 {
+    let mut came = 0;
+    for _ in 0..8 {
+        let Arrival::Came(link) = door.next() else {
+            break;
+        };
+        came += 1;
+        door.done(link, nothing_done(alloc));
+    }
+    came
+}
+
+#[test]
+fn a_link_gives_its_input_step_by_step(rt: HostRuntime) -> Result<(), Fail> {
+    let failing = FailingCalls {
+        takes: numbers(rt.alloc(), &[1])?,
+        puts: numbers(rt.alloc(), &[1])?,
+    };
+    let input = Text::from_slice(rt.alloc(), b"abcde")?;
+    let mut link = MemoryLink::new(rt.alloc(), input, 3, 4, failing)?;
+    let mut buf = [0u8; 8];
+    assert_eq!(rt; link.take(&mut buf)?, 3);
+    assert_eq!(rt; &buf[..3], b"abc".as_slice());
+    assert_eq!(rt; link.take(&mut buf), Err(Failed), "the take that is listed");
+    assert_eq!(rt; link.take(&mut buf)?, 2);
+    assert_eq!(rt; &buf[..2], b"de".as_slice());
+    assert_eq!(rt; link.take(&mut buf)?, 0);
+    link.put(b"xyz")?;
+    assert_eq!(rt; link.put(b"u"), Err(Failed), "the put that is listed");
+    assert_eq!(rt; link.put(b"uv"), Err(Failed), "no room");
+    link.put(b"w")?;
+    assert_eq!(rt; link.bytes(), b"xyzw".as_slice());
+    Ok(())
+}
+
+#[test]
+fn a_piece_waits_for_the_put_of_another_link(rt: HostRuntime) -> Result<(), Fail> {
+    let mut first = HeldLink::new(rt.alloc(), 8)?;
+    let mut second = HeldLink::new(rt.alloc(), 8)?;
+    let flag = Flag::new(rt.alloc())?;
+    first.add_flag(flag.share()?)?;
+    second.add_piece(b"ab", None)?;
+    second.add_piece(b"", None)?;
+    second.add_piece(b"cde", Some(flag))?;
+    let mut buf = [0u8; 8];
+    assert_eq!(rt; second.take(&mut buf)?, 2, "one piece");
+    first.put(b"x")?;
+    assert_eq!(rt; second.take(&mut buf)?, 3, "the next one");
+    assert_eq!(rt; second.take(&mut buf)?, 0);
+    assert_eq!(rt; first.bytes(), b"x".as_slice());
+    assert_eq!(rt; first.put(b"12345678"), Err(Failed), "no room");
+    let never = Flag::new(rt.alloc())?;
+    first.add_piece(b"f", Some(never))?;
+    assert_eq!(rt; first.take(&mut buf), Err(Failed), "nobody raises the flag");
+    Ok(())
+}
+
+#[test]
+fn doors_give_their_links_and_keep_what_is_back(rt: HostRuntime) -> Result<(), Fail> {
+    let mut links = List::new(rt.alloc());
+    links.push(SureLink::new(Text::from_slice(rt.alloc(), b"a")?))?;
+    links.push(SureLink::new(Text::new(rt.alloc())))?;
+    let mut door = MemoryDoor::new(rt.alloc(), links, numbers(rt.alloc(), &[1])?)?;
+    assert_eq!(rt; walk(&mut door, rt.alloc()), 1, "the second call fails");
+    assert_eq!(rt; door.faults(), 1);
+    assert_eq!(rt;
+        walk(&mut door, rt.alloc()),
+        1,
+        "then the second link comes"
+    );
+    assert_eq!(rt; door.handed_back().len(), 2);
+    assert_eq!(rt; door.handed_back()[1].1.how, EndKind::Closed);
+    Ok(())
+}
+
+#[test]
+fn harbours_give_doors_and_keep_what_is_back(rt: HostRuntime) -> Result<(), Fail> {
+    let alloc = rt.alloc();
+    let mut links = List::new(alloc);
+    links.push(SureLink::new(Text::new(alloc)))?;
+    let mut doors = List::new(alloc);
+    doors.push(MemoryDoor::new(alloc, links, numbers(alloc, &[1])?)?)?;
+    let mut harbour = MemoryHarbour::new(alloc, doors, numbers(alloc, &[0])?);
+    assert_eq!(rt;
+        harbour.doors(alloc, 80, 1).err(),
+        Some(HarbourFail::Failed),
+        "listed"
+    );
+    assert_eq!(rt;
+        harbour.doors(alloc, 80, 2).err(),
+        Some(HarbourFail::Failed),
+        "too many"
+    );
+    let mut given = harbour.doors(alloc, 80, 1)?;
+    if let Some(mut door) = given.pop() {
+        assert_eq!(rt; walk(&mut door, alloc), 1);
+        harbour.back(door);
+    }
+    assert_eq!(rt; harbour.came_back().len(), 1);
+
+    let none: List<SureDoor<SureLink>> = List::new(alloc);
+    let mut sure = SureHarbour::new(alloc, none);
+    let mut given = sure.doors(alloc, 80, 2)?;
+    assert_eq!(rt; given.len(), 2);
+    while let Some(mut door) = given.pop() {
+        assert_eq!(rt; walk(&mut door, alloc), 0);
+        sure.back(door);
+    }
+    assert_eq!(rt; sure.came_back().len(), 2);
+    Ok(())
+}
