@@ -6,4 +6,5 @@ pub mod LineEnds
 pub mod Steps
 pub mod Fields
 pub mod Loops
+pub mod Arrivals
 mod JsonTrees

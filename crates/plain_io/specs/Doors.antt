@@ -1,5 +1,5 @@
 -- What a door tells of its connections, and what an arrival does to it.
-use Rattle.std.specs.Prelude.{◌≡◌, ◌<◌, ◌≤◌, ℕ, ◌+◌, ◌++◌, ◌∷◌, Bool, true, false, List, [], length, Option, Some, IfSome, ⊤}
+use Rattle.std.specs.Prelude.{◌≡◌, ◌<◌, ◌≤◌, ℕ, ◌+◌, ◌++◌, ◌∷◌, Bool, true, false, List, [], length, Option, IfSome, option_map, ⊤}
 use Rattle.plain_io.specs.declared.connection.ConnectionEnd.{ConnectionEnd}
 use Rattle.plain_io.specs.declared.door.Arrival.{Arrival}
 use Rattle.plain_io.specs.declared.door.Arrival.TheVariants.{Came, Closed, Failed}
@@ -36,7 +36,7 @@ is_closed Failed = false
 
 -- one link more came, or all stays
 abbrev pub Arrives : {L : Type 0} → Arrival L → Option (Connections L) → Option (Connections L) → Type 0
-Arrives (Came link) old new = IfSome old (λ all. new ≡ Some (record { came = all.came + 1; back = all.back }))
+Arrives (Came link) old new = new ≡ option_map (λ all. record { came = all.came + 1; back = all.back }) old
 Arrives Closed old new = new ≡ old
 Arrives Failed old new = new ≡ old
 
@@ -48,7 +48,7 @@ CountsArrival Failed before now = Rises before now
 
 -- the link and its end stand after those that were handed back before
 abbrev pub HandsBack : {L : Type 0} → Option (Connections L) → Option (Connections L) → L → ConnectionEnd → Type 0
-HandsBack old new link end = IfSome old (λ all. new ≡ Some (record { came = all.came; back = all.back ++ (link, end) ∷ [] }))
+HandsBack old new link end = new ≡ option_map (λ all. record { came = all.came; back = all.back ++ (link, end) ∷ [] }) old
 
 -- the first of the links that are left; where no more will come, none is left
 abbrev pub ComesFirst : {L : Type 0} → Arrival L → List L → List L → Type 0

@@ -1,5 +1,5 @@
 -- What a harbour tells of its doors, and what making doors and taking one back do to it.
-use Rattle.std.specs.Prelude.{◌≡◌, ◌<◌, ◌≤◌, ℕ, ◌+◌, ◌++◌, ◌∷◌, List, [], length, All, Option, Some, IfSome, Result, Ok, Err}
+use Rattle.std.specs.Prelude.{◌≡◌, ◌<◌, ◌≤◌, ℕ, ◌+◌, ◌++◌, ◌∷◌, List, [], length, All, Option, IfSome, option_map, Result, Ok, Err}
 use Rattle.plain_io.specs.declared.harbour.HarbourFail.{HarbourFail}
 use Rattle.plain_io.specs.declared.harbour.HarbourFail.TheVariants.{Failed, Memory}
 use Rattle.plain_io.specs.Faults.{Rises}
@@ -19,7 +19,7 @@ FewerBack told = IfSome told (λ all. length all.back < all.given)
 
 -- so many doors more were given, or all stays
 abbrev pub GivesDoors : {D T : Type 0} → ℕ → Result T HarbourFail → Option (Doors D) → Option (Doors D) → Type 0
-GivesDoors n (Ok doors) old new = IfSome old (λ all. new ≡ Some (record { given = all.given + n; back = all.back }))
+GivesDoors n (Ok doors) old new = new ≡ option_map (λ all. record { given = all.given + n; back = all.back }) old
 GivesDoors n (Err fail) old new = new ≡ old
 
 -- the count rises where no doors were given for a fault, and else it stays
@@ -30,7 +30,7 @@ CountsDoors (Err Memory) before now = now ≡ before
 
 -- the door stands after those that came back before
 abbrev pub TakesBack : {D : Type 0} → Option (Doors D) → Option (Doors D) → D → Type 0
-TakesBack old new door = IfSome old (λ all. new ≡ Some (record { given = all.given; back = all.back ++ door ∷ [] }))
+TakesBack old new door = new ≡ option_map (λ all. record { given = all.given; back = all.back ++ door ∷ [] }) old
 
 -- the count rises where the door's count is above 0, and else it stays
 abbrev pub CountsBack : ℕ → ℕ → ℕ → Type 0

@@ -26,15 +26,13 @@ fn nothing_done(alloc: Global) -> ConnectionEnd {
 
 /// Takes from a door and hands back at once, until it gives no more. Says how many links came.
 fn walk<D: Door>(door: &mut D, alloc: Global) -> u32 {
-    let mut came = 0;
-    for _ in 0..8 {
+    for came in 0..8 {
         let Arrival::Came(link) = door.next() else {
-            break;
+            return came;
         };
-        came += 1;
         door.done(link, nothing_done(alloc));
     }
-    came
+    8
 }
 
 #[test]
@@ -127,12 +125,11 @@ fn harbours_give_doors_and_keep_what_is_back(rt: HostRuntime) -> Result<(), Fail
 
     let none: List<SureDoor<SureLink>> = List::new(alloc);
     let mut sure = SureHarbour::new(alloc, none);
-    let mut given = sure.doors(alloc, 80, 2)?;
-    assert_eq!(rt; given.len(), 2);
-    while let Some(mut door) = given.pop() {
+    let mut given = sure.doors(alloc, 80, 1)?;
+    if let Some(mut door) = given.pop() {
         assert_eq!(rt; walk(&mut door, alloc), 0);
         sure.back(door);
     }
-    assert_eq!(rt; sure.came_back().len(), 2);
+    assert_eq!(rt; sure.came_back().len(), 1);
     Ok(())
 }

@@ -89,8 +89,10 @@ mod tests {
             };
             link.put(b"ab")?;
         }
-        while let Some(door) = doors.pop() {
-            harbour.back(door);
+        for _ in 0..2 {
+            if let Some(door) = doors.pop() {
+                harbour.back(door);
+            }
         }
         assert_eq!(rt; harbour.faults, 0);
         Ok(())
