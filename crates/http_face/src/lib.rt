@@ -3,13 +3,21 @@
 //! which cuts texts into pieces and reads numbers.
 #![tactic(auto)]
 
+mod fixed_text;
+mod framing;
 mod head;
+mod head_reading;
 mod reply;
 mod request;
+mod routing;
+mod table;
 
 pub use head::{
     BAD_REQUEST, CONTENT_TOO_LARGE, Head, HeadEnds, HeadState, MAX_BODY_BYTES, MAX_HEAD_BYTES,
     MAX_HEADERS,
 };
-pub use reply::Reply;
+pub use head_reading::{head_ends, read_head};
+pub use reply::{Reply, ShortReply, reply_bytes, short_reply};
 pub use request::{Allow, Route};
+pub use routing::{route, routes};
+pub use table::Routes;

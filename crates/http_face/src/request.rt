@@ -1,5 +1,8 @@
 //! What a request may ask for.
 
+ghost use Rattle.std.specs.Prelude.{◌≡◌};
+ghost use Rattle.http_face.specs.Routes.{word_of, parameter_count, method_of, method_word};
+
 use tgap_model::Window;
 
 /// The method that a path takes.
@@ -9,6 +12,18 @@ pub enum Allow {
     Post,
 }
 
+impl Allow {
+    /// How the method is written.
+    pub(crate) fn word(self) -> &'static str
+        ensures { result.now ≡ method_word self }
+    {
+        match self {
+            Allow::Get => "GET",
+            Allow::Post => "POST",
+        }
+    }
+}
+
 /// What a method and a target ask for.
 #[derive(Clone, Copy, Debug, PartialEq, Eq)]
 pub enum Route {
@@ -16,7 +31,7 @@ pub enum Route {
     Info,
     /// To read the newest version from now on.
     Pin,
-    /// The same, where a client has seen this version.
+    /// The same, where the client has seen this version.
     PinSeen(u64),
     /// The slice at a step.
     Slice(u32),
@@ -44,4 +59,42 @@ pub(crate) enum Resource {
     Packet,
     Window,
     Edit,
+}
+
+impl Resource {
+    /// The first word of the path.
+    pub(crate) fn word(self) -> &'static str
+        ensures { result.now ≡ word_of self }
+    {
+        match self {
+            Resource::Info => "info",
+            Resource::Pin | Resource::PinSeen => "pin",
+            Resource::Slice => "slice",
+            Resource::Packet => "packet",
+            Resource::Window => "window",
+            Resource::Edit => "edit",
+        }
+    }
+
+    /// How many parameters follow, each after a slash.
+    pub(crate) fn parameter_count(self) -> usize
+        ensures { result ≡ parameter_count self }
+    {
+        match self {
+            Resource::Info | Resource::Pin | Resource::Edit => 0,
+            Resource::PinSeen | Resource::Slice => 1,
+            Resource::Packet => 2,
+            Resource::Window => 5,
+        }
+    }
+
+    /// The method that it takes.
+    pub(crate) fn method(self) -> Allow
+        ensures { result ≡ method_of self }
+    {
+        match self {
+            Resource::Info | Resource::Slice | Resource::Packet | Resource::Window => Allow::Get,
+            Resource::Pin | Resource::PinSeen | Resource::Edit => Allow::Post,
+        }
+    }
 }
