@@ -1,1 +1,5 @@
+pub mod Digits
+pub mod Chains
+pub mod Paths
+pub mod ReplyLines
 pub mod Examples

@@ -6,9 +6,9 @@ use itoa::Buffer;
 use std::marker::Model;
 
 /// Room for the longest head of a reply, and for the body of the reply that is made without memory.
-pub(crate) const ROOM: usize = 192;
+pub(crate) const ROOM: usize = 200;
 
-/// At most 192 bytes.
+/// At most 200 bytes.
 #[derive(Drop)]
 pub(crate) struct FixedText {
     bytes: [u8; ROOM],

@@ -1,7 +1,8 @@
 //! What the headers of a request say of its body and of the connection.
 
 ghost use Rattle.std.specs.Prelude.{◌≡◌, ◌≤◌, ◌==◌, IsTrue, length, reverse, codes};
-ghost use Rattle.std.specs.List.{list_any, slice_split};
+ghost use Rattle.std.specs.List.{list_any, list_all, slice_split};
+ghost use Rattle.std.specs.Char.{is_ascii_digit};
 ghost use Rattle.std.specs.Str.Parse.{digits_value};
 ghost use Rattle.httparse.specs.Grammar.{is_ows, skip_ows};
 ghost use Rattle.httparse.specs.Spans.{span_bytes, header_bytes};
@@ -17,13 +18,19 @@ pub(crate) fn body_of(bytes: &[u8], headers: &[HeaderSpan]) -> Result<u32, u16>
     requires { length headers.now ≤ MAX_HEADERS }
     ensures { result ≡ body_of (headers_at bytes.now headers.now) }
 {
-    if headers
-        .iter()
-        .any(|header| is_named(bytes, header, b"transfer-encoding"))
-    {
+    if has_encoding(bytes, headers) {
         return Err(BAD_REQUEST);
     }
     body_of_lengths(bytes, headers)
+}
+
+/// Whether a header names a transfer encoding.
+fn has_encoding(bytes: &[u8], headers: &[HeaderSpan]) -> bool
+    ensures { result ≡ list_any (λ header. is_named (codes "transfer-encoding") (header_bytes bytes.now header)) headers.now }
+{
+    headers
+        .iter()
+        .any(|header| is_named(bytes, header, b"transfer-encoding"))
 }
 
 /// The same by the headers that give a length.
@@ -64,7 +71,15 @@ fn body_of_value(value: &[u8]) -> Result<u32, u16>
 fn is_length(value: &[u8]) -> bool
     ensures { result ≡ is_length value.now }
 {
-    (1..=10).contains(&value.len()) && value.iter().all(u8::is_ascii_digit)
+    let count = value.len();
+    1 <= count && count <= 10 && are_digits(value)
+}
+
+/// Whether each byte is a decimal digit.
+fn are_digits(value: &[u8]) -> bool
+    ensures { result ≡ list_all is_ascii_digit value.now }
+{
+    value.iter().all(|byte| byte.is_ascii_digit())
 }
 
 /// The number that at most ten digits spell.
@@ -83,10 +98,17 @@ fn number_of(digits: &[u8]) -> u64
 pub(crate) fn closes(bytes: &[u8], minor: u8, headers: &[HeaderSpan]) -> bool
     ensures { result ≡ closes minor (headers_at bytes.now headers.now) }
 {
-    minor == 0 || headers.iter().any(|header| asks_to_close(bytes, header))
+    minor == 0 || any_asks_to_close(bytes, headers)
 }
 
-/// Whether the header asks that the connection ends.
+/// Whether a header asks that the connection ends.
+fn any_asks_to_close(bytes: &[u8], headers: &[HeaderSpan]) -> bool
+    ensures { result ≡ list_any (λ header. asks_to_close (header_bytes bytes.now header)) headers.now }
+{
+    headers.iter().any(|header| asks_to_close(bytes, header))
+}
+
+/// Whether this header asks it.
 fn asks_to_close(bytes: &[u8], header: &HeaderSpan) -> bool
     ensures { result ≡ asks_to_close (header_bytes bytes.now header.now) }
 {
@@ -107,6 +129,7 @@ fn has_close(value: &[u8]) -> bool
 }
 
 /// Whether the member is the word close.
+#[tactic(auto, unfolding(httparse::specs::Grammar::trim_ows))]
 fn is_close(member: &[u8]) -> bool
     ensures { result ≡ is_close member.now }
 {

@@ -75,7 +75,7 @@ pub fn short_reply(pin: u64, close: bool) -> ShortReply
 /// The head of a reply to a body of this length, and the empty line after it.
 fn reply_head(status: u16, pin: u64, allow: Option<Allow>, close: bool, size: usize) -> FixedText
     ensures text { result ≡ reply_head status pin allow close size }
-    ensures short { length result ≤ 185 }
+    ensures short { length result ≤ 193 }
 {
     let mut head = FixedText::new();
     head.push(b"HTTP/1.1 ");
