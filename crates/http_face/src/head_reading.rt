@@ -1,7 +1,7 @@
 //! How the head of a request is read.
 
-ghost use Rattle.std.specs.Prelude.{◌≡◌, ◌≢◌, ◌⊎◌, ◌≤◌, ℕ, List, ◌++◌, length, IfOk};
-ghost use Rattle.httparse.specs.Grammar.{RequestHead};
+ghost use Rattle.std.specs.Prelude.{◌≡◌, ◌≢◌, ◌⊎◌, ◌≤◌, ℕ, List, ◌++◌, length, take, IfOk};
+ghost use Rattle.httparse.specs.Grammar.{RequestHead, HasNoRequest, MayBecomeRequest};
 ghost use Rattle.httparse.specs.Spans.{IsRequestAt, IsRequestWithin};
 ghost use Rattle.http_face.specs.declared.head.HeadEnds.TheVariants.{More};
 ghost use Rattle.http_face.specs.Heads.{TellsHead, TellsState, IsOpen, IsWithinLimits};
@@ -82,13 +82,40 @@ fn find_head(bytes: &[u8]) -> Found<'_>
     ensures { TellsFound bytes.now result }
 {
     let mut headers = [EMPTY_HEADER_SPAN; MAX_HEADERS];
-    let front = &bytes[..bytes.len().min(MAX_HEAD_BYTES)];
+    let front = front_of(bytes);
     match parse_request(front, &mut headers) {
         Ok(Status::Complete(spans)) => whole_head(front, &headers, &spans),
-        Ok(Status::Partial) if bytes.len() < MAX_HEAD_BYTES => Found::More,
-        _ => Found::Bad {
+        Ok(Status::Partial) => unfinished_head(bytes),
+        Err(_) => Found::Bad {
             status: BAD_REQUEST,
         },
+    }
+}
+
+/// The bytes in which a head has to be whole.
+fn front_of(bytes: &[u8]) -> &[u8]
+    ensures front { result.now ≡ take MAX_HEAD_BYTES bytes.now }
+    ensures short { length result.now ≤ MAX_HEAD_BYTES }
+{
+    if bytes.len() <= MAX_HEAD_BYTES {
+        bytes
+    } else {
+        &bytes[..MAX_HEAD_BYTES]
+    }
+}
+
+/// What is told where the front has no whole head, and may become one.
+fn unfinished_head(bytes: &[u8]) -> Found<'_>
+    requires none { HasNoRequest (take MAX_HEAD_BYTES bytes.now) }
+    requires may { MayBecomeRequest (take MAX_HEAD_BYTES bytes.now) }
+    ensures { TellsFound bytes.now result }
+{
+    if bytes.len() < MAX_HEAD_BYTES {
+        Found::More
+    } else {
+        Found::Bad {
+            status: BAD_REQUEST,
+        }
     }
 }
 
