@@ -1,5 +1,8 @@
 -- Laws of what is told of a head.
-use Rattle.std.proofs.Common.{◌≡◌, ◌≢◌, ℕ, ◌+◌, ◌-◌, ◌<◌, ◌≤◌, ◌⊎◌, inl, inr, Bool, true, false, nat_lt, List, [], ◌∷◌, ◌++◌, length, take, drop, Result, Ok, Err, refl, sym, ap, subst, ◌∙◌, append_assoc, length-append, arith}
+use Rattle.std.proofs.Common.{◌≡◌, ◌≢◌, ℕ, ◌+◌, ◌-◌, ◌<◌, ◌≤◌, ◌⊎◌, inl, inr, Bool, true, false, cond, not, codes, nat_lt, List, [], ◌∷◌, ◌++◌, length, take, drop, Result, Ok, Err, refl, sym, ap, subst, ◌∙◌, append_assoc, length-append, arith}
+use Rattle.std.specs.List.{list_any}
+use Rattle.std.specs.Str.Parse.{digits_value}
+use Rattle.std.proofs.lemmas.Bool.{ltb-false}
 use Rattle.std.proofs.Math.Seq.{take-append-add}
 use Rattle.std.proofs.lemmas.List.{take-append-drop, take-append-le, append-nil, length-map}
 use Rattle.httparse.specs.Grammar.{RequestHead, print_request, ReadsRequest, HasNoRequest, NeverHasRequest, EndsInTarget, MayBecomeRequest}
@@ -11,7 +14,7 @@ use Rattle.http_face.specs.declared.head.HeadEnds.{HeadEnds}
 use Rattle.http_face.specs.declared.head.HeadEnds.TheVariants.{Whole, More, Bad}
 use Rattle.http_face.specs.declared.head_reading.Found.{Found}
 use Rattle.http_face.specs.declared.head_reading.Found.TheVariants as found
-use Rattle.http_face.specs.Heads.{headers_of, body_of, told_of, ends_of, StartsWith, HasHead, HasManyHeaders, IsUnfinished, IsHopeless, TellsHead, IsOpen}
+use Rattle.http_face.specs.Heads.{Header, is_named, is_length, values_of, body_of_value, body_of_values, closes, IsWithinLimits, headers_of, body_of, told_of, ends_of, StartsWith, HasHead, HasManyHeaders, IsUnfinished, IsHopeless, TellsHead, IsOpen}
 use Rattle.http_face.specs.Found.{TellsWhole, TellsFound}
 
 -- ---- bytes that follow
@@ -131,3 +134,46 @@ refused bytes e never exceeds overflows = by (refused_front (take 8192 bytes) e 
     by : NeverHasRequest (take 8192 bytes) ⊎ HasManyHeaders (take 8192 bytes) → IsHopeless bytes
     by (inl n) = inl (subst NeverHasRequest (take-append-drop 8192 bytes) (never_stays (take 8192 bytes) (drop 8192 bytes) n))
     by (inr m) = inr (inl (subst HasManyHeaders (take-append-drop 8192 bytes) (many_stays (take 8192 bytes) (drop 8192 bytes) m)))
+
+-- ---- the limits
+
+abbrev GoodBody : Result ℕ ℕ → Type 0
+GoodBody (Ok body) = body ≤ 1048576
+GoodBody (Err status) = (status ≡ 400) ⊎ (status ≡ 413)
+
+good_value : (value : List ℕ) → GoodBody (body_of_value value)
+good_value value = by (not (is_length value)) (nat_lt 1048576 (digits_value 10 value)) refl
+  where
+    by : (b c : Bool) → nat_lt 1048576 (digits_value 10 value) ≡ c → GoodBody (cond b (Err 400) (cond c (Err 413) (Ok (digits_value 10 value))))
+    by true c e = inl refl
+    by false true e = inr refl
+    by false false e = ltb-false 1048576 (digits_value 10 value) e
+
+good_values : (values : List (List ℕ)) → GoodBody (body_of_values values)
+good_values [] = omega arith
+good_values (value ∷ []) = good_value value
+good_values (value ∷ second ∷ more) = inl refl
+
+good_body : (headers : List Header) → GoodBody (body_of headers)
+good_body headers = by (nat_lt 64 (length headers)) (list_any (is_named (codes "transfer-encoding")) headers)
+  where
+    by : (b c : Bool) → GoodBody (cond b (Err 400) (cond c (Err 400) (body_of_values (values_of (codes "content-length") headers))))
+    by true c = inl refl
+    by false true = inl refl
+    by false false = good_values (values_of (codes "content-length") headers)
+
+within_of : (bytes : List ℕ) (size : ℕ) (close : Bool) (body : Result ℕ ℕ) → size ≤ 8192 → size ≤ length bytes → GoodBody body → IsWithinLimits bytes (told_of size close body)
+within_of bytes size close (Ok body) short fits good = (short, fits, good)
+within_of bytes size close (Err status) short fits good = good
+
+head_within : (bytes : List ℕ) (told : HeadEnds) → HasHead bytes told → IsWithinLimits bytes told
+head_within bytes told h =
+    let fits : length (print_request h.0) ≤ length bytes = omega (arith, ap length h.1.reads.1, length-append (print_request h.0) h.1.rest) in
+    subst (IsWithinLimits bytes) h.2 (within_of bytes (length (print_request h.0)) (closes h.0.minor (headers_of h.0)) (body_of (headers_of h.0)) h.1.short fits (good_body (headers_of h.0)))
+
+-- what is told keeps the limits
+pub told_within : (bytes : List ℕ) (told : HeadEnds) → TellsHead bytes told → IsWithinLimits bytes told
+told_within bytes (Whole size body close) h = head_within bytes (Whole size body close) h
+told_within bytes More h = h.few
+told_within bytes (Bad status) (inl h) = head_within bytes (Bad status) h
+told_within bytes (Bad status) (inr h) = inl h.0

@@ -122,6 +122,12 @@ pub record IsOpen (bytes : List ℕ) : Type 0 where
   pub none : HasNoRequest bytes
   pub either : (EndsInTarget bytes × NeverHasRequest bytes) ⊎ HasManyHeaders bytes
 
+-- a state without the method and the target
+abbrev pub state_ends : HeadState → HeadEnds
+state_ends (WholeHead head) = Whole head.length head.body head.close
+state_ends MoreBytes = More
+state_ends (BadHead status) = Bad status
+
 -- the same as `TellsHead`, and the method and the target are those of the head
 abbrev pub TellsState : List ℕ → HeadState → Type 0
 TellsState bytes (WholeHead head) =

@@ -28,3 +28,11 @@ the_rows =
     with_row (codes "/pin/{seen}") resource.PinSeen (
     with_row (codes "/pin") resource.Pin (
     with_row (codes "/info") resource.Info []))))))
+
+-- what the router says of this route, where its text can be read
+abbrev pub entry_of : {E : Type 0} → Result Scan E → Resource → RouteOf Resource
+entry_of (Ok s) r = route_from s r
+entry_of (Err e) r = record { pattern = []; text = []; names = []; value = r }
+
+abbrev pub entry : List ℕ → Resource → RouteOf Resource
+entry text r = entry_of (parse_route text) r

@@ -4,7 +4,7 @@ ghost use Rattle.std.specs.Prelude.{◌≡◌, ◌≢◌, ◌⊎◌, ◌≤◌, 
 ghost use Rattle.httparse.specs.Grammar.{RequestHead, HasNoRequest, MayBecomeRequest};
 ghost use Rattle.httparse.specs.Spans.{IsRequestAt, IsRequestWithin};
 ghost use Rattle.http_face.specs.declared.head.HeadEnds.TheVariants.{More};
-ghost use Rattle.http_face.specs.Heads.{TellsHead, TellsState, IsOpen, IsWithinLimits};
+ghost use Rattle.http_face.specs.Heads.{TellsHead, TellsState, state_ends, IsOpen, IsWithinLimits};
 ghost use Rattle.http_face.specs.Found.{TellsFound, TellsWhole};
 
 use crate::framing::{body_of, bytes_of, closes};
@@ -33,7 +33,8 @@ enum Found<'a> {
 /// What the bytes of a request so far tell of its head (RFC 9112): that it is whole, that it is unfinished, or the status
 /// of its fault. A head has at most 8,192 bytes and 64 headers. The bytes that stand after a whole head are passed over.
 pub fn read_head(alloc: Global, bytes: &[u8]) -> Result<HeadState, Memory>
-    ensures { IfOk result (TellsState bytes.now) }
+    ensures state { IfOk result (TellsState bytes.now) }
+    ensures told { IfOk result (λ state. TellsHead bytes.now (state_ends state)) }
 {
     Ok(match find_head(bytes) {
         Found::Whole {
