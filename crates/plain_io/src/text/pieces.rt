@@ -43,6 +43,16 @@ impl<'a> Model for Pieces<'a> {
 }
 
 impl<'a> Pieces<'a> {
+    /// What stands between these separators.
+    pub fn split(bytes: &'a [u8], separator: u8) -> Self
+        ensures { result ≡ slice_split (λ b. b == separator) bytes.entry.now }
+    {
+        Pieces {
+            rest: Some(bytes),
+            separator,
+        }
+    }
+
     /// What stands between the line feeds.
     pub fn lines(bytes: &'a [u8]) -> Self
         ensures { result ≡ slice_split (λ b. b == 10) bytes.entry.now }

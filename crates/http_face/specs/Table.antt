@@ -1,0 +1,38 @@
+-- The table of routes as the router keeps it.
+use Rattle.std.specs.Prelude.{ℕ, List, [], codes, Result, Ok, Err}
+use Rattle.matchit.specs.Rows.{RowsOf}
+use Rattle.matchit.specs.Order.{placed}
+use Rattle.matchit.specs.Route.{Scan, parse_route}
+use Rattle.matchit.specs.Router.{RouteOf, route_from}
+use Rattle.http_face.specs.declared.request.Resource.{Resource}
+use Rattle.http_face.specs.declared.request.Resource.TheVariants as resource
+
+abbrev pub Rows : Type 0
+Rows = RowsOf (RouteOf Resource)
+
+-- the rows with one more, of this route's text
+abbrev pub with_scan : {E : Type 0} → Result Scan E → Resource → Rows → Rows
+with_scan (Ok s) r rows = placed (s.pattern, route_from s r) rows
+with_scan (Err e) r rows = rows
+
+abbrev pub with_row : List ℕ → Resource → Rows → Rows
+with_row text r rows = with_scan (parse_route text) r rows
+
+-- the rows of the table, put in one after the other
+unfoldable pub the_rows : Rows
+the_rows =
+    with_row (codes "/edit") resource.Edit (
+    with_row (codes "/window/{step}/{x0}/{y0}/{x1}/{y1}") resource.Window (
+    with_row (codes "/packet/{from}/{to}") resource.Packet (
+    with_row (codes "/slice/{step}") resource.Slice (
+    with_row (codes "/pin/{seen}") resource.PinSeen (
+    with_row (codes "/pin") resource.Pin (
+    with_row (codes "/info") resource.Info []))))))
+
+-- what the router says of this route, where its text can be read
+abbrev pub entry_of : {E : Type 0} → Result Scan E → Resource → RouteOf Resource
+entry_of (Ok s) r = route_from s r
+entry_of (Err e) r = record { pattern = []; text = []; names = []; value = r }
+
+abbrev pub entry : List ℕ → Resource → RouteOf Resource
+entry text r = entry_of (parse_route text) r

@@ -1,0 +1,141 @@
+//! How the head of a request is read.
+
+ghost use Rattle.std.specs.Prelude.{◌≡◌, ◌≢◌, ◌⊎◌, ◌≤◌, ℕ, List, ◌++◌, length, take, IfOk};
+ghost use Rattle.httparse.specs.Grammar.{RequestHead, HasNoRequest, MayBecomeRequest};
+ghost use Rattle.httparse.specs.Spans.{IsRequestAt, IsRequestWithin};
+ghost use Rattle.http_face.specs.declared.head.HeadEnds.TheVariants.{More};
+ghost use Rattle.http_face.specs.Heads.{TellsHead, TellsState, state_ends, IsOpen, IsWithinLimits};
+ghost use Rattle.http_face.specs.Found.{TellsFound, TellsWhole};
+
+use crate::framing::{body_of, bytes_of, closes};
+use crate::head::{BAD_REQUEST, Head, HeadEnds, HeadState, MAX_HEAD_BYTES, MAX_HEADERS};
+use httparse::Status;
+use httparse::spans::{EMPTY_HEADER_SPAN, HeaderSpan, RequestSpans, parse_request};
+use std::alloc::Global;
+use tgap_model::{Memory, Text};
+
+/// What is told of a head; of a whole one its method and target too, where they stand.
+#[derive(Clone, Copy)]
+enum Found<'a> {
+    Whole {
+        length: u32,
+        body: u32,
+        close: bool,
+        method: &'a [u8],
+        target: &'a [u8],
+    },
+    More,
+    Bad {
+        status: u16,
+    },
+}
+
+/// What the bytes of a request so far tell of its head (RFC 9112): that it is whole, that it is unfinished, or the status
+/// of its fault. A head has at most 8,192 bytes and 64 headers. The bytes that stand after a whole head are passed over.
+pub fn read_head(alloc: Global, bytes: &[u8]) -> Result<HeadState, Memory>
+    ensures state { IfOk result (TellsState bytes.now) }
+    ensures told { IfOk result (λ state. TellsHead bytes.now (state_ends state)) }
+{
+    Ok(match find_head(bytes) {
+        Found::Whole {
+            length,
+            body,
+            close,
+            method,
+            target,
+        } => HeadState::Whole(Head {
+            length,
+            method: Text::from_slice(alloc, method)?,
+            target: Text::from_slice(alloc, target)?,
+            body,
+            close,
+        }),
+        Found::More => HeadState::More,
+        Found::Bad { status } => HeadState::Bad { status },
+    })
+}
+
+/// The same without the method and the target. It takes no memory.
+pub fn head_ends(bytes: &[u8]) -> HeadEnds
+    ensures told { TellsHead bytes.now result }
+    ensures alone { (other : HeadEnds) → TellsHead bytes.now other → (other ≡ result) ⊎ IsOpen bytes.now }
+    ensures limits { IsWithinLimits bytes.now result }
+    ensures stays { (more : List ℕ) → result ≢ More → TellsHead (bytes.now ++ more) result }
+{
+    match find_head(bytes) {
+        Found::Whole {
+            length,
+            body,
+            close,
+            ..
+        } => HeadEnds::Whole {
+            length,
+            body,
+            close,
+        },
+        Found::More => HeadEnds::More,
+        Found::Bad { status } => HeadEnds::Bad { status },
+    }
+}
+
+/// What is told of the head that the bytes begin with.
+fn find_head(bytes: &[u8]) -> Found<'_>
+    ensures { TellsFound bytes.now result }
+{
+    let mut headers = [EMPTY_HEADER_SPAN; MAX_HEADERS];
+    let front = front_of(bytes);
+    match parse_request(front, &mut headers) {
+        Ok(Status::Complete(spans)) => whole_head(front, &headers, &spans),
+        Ok(Status::Partial) => unfinished_head(bytes),
+        Err(_) => Found::Bad {
+            status: BAD_REQUEST,
+        },
+    }
+}
+
+/// The bytes in which a head has to be whole.
+fn front_of(bytes: &[u8]) -> &[u8]
+    ensures front { result.now ≡ take MAX_HEAD_BYTES bytes.now }
+    ensures short { length result.now ≤ MAX_HEAD_BYTES }
+{
+    if bytes.len() <= MAX_HEAD_BYTES {
+        bytes
+    } else {
+        &bytes[..MAX_HEAD_BYTES]
+    }
+}
+
+/// What is told where the front has no whole head, and may become one.
+fn unfinished_head(bytes: &[u8]) -> Found<'_>
+    requires none { HasNoRequest (take MAX_HEAD_BYTES bytes.now) }
+    requires may { MayBecomeRequest (take MAX_HEAD_BYTES bytes.now) }
+    ensures { TellsFound bytes.now result }
+{
+    if bytes.len() < MAX_HEAD_BYTES {
+        Found::More
+    } else {
+        Found::Bad {
+            status: BAD_REQUEST,
+        }
+    }
+}
+
+/// What a whole head says.
+fn whole_head<'a>(bytes: &'a [u8], headers: &[HeaderSpan], spans: &RequestSpans) -> Found<'a>
+    requires short { length bytes.now ≤ MAX_HEAD_BYTES }
+    requires room { length headers.now ≤ MAX_HEADERS }
+    requires within { IsRequestWithin bytes.now headers.now spans.now }
+    ensures { (h : RequestHead) → IsRequestAt bytes.now headers.now spans.now h → TellsWhole h result }
+{
+    let headers = &headers[..spans.headers];
+    match body_of(bytes, headers) {
+        Ok(body) => Found::Whole {
+            length: spans.len as u32,
+            body,
+            close: closes(bytes, spans.version, headers),
+            method: bytes_of(bytes, spans.method),
+            target: bytes_of(bytes, spans.path),
+        },
+        Err(status) => Found::Bad { status },
+    }
+}

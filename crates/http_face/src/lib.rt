@@ -1,0 +1,25 @@
+//! The server's side of HTTP/1.1: how the head of a request is read, what its method and target ask for, and the bytes of
+//! a reply. It stands on `httparse`, which reads heads, on `matchit`, which finds the route of a path, and on `plain_io`,
+//! which cuts texts into pieces and reads numbers.
+#![tactic(auto)]
+
+mod fixed_text;
+mod framing;
+mod head;
+mod head_reading;
+mod reply;
+mod request;
+mod routing;
+mod table;
+#[cfg(test)]
+mod tests;
+
+pub use head::{
+    BAD_REQUEST, CONTENT_TOO_LARGE, Head, HeadEnds, HeadState, MAX_BODY_BYTES, MAX_HEAD_BYTES,
+    MAX_HEADERS,
+};
+pub use head_reading::{head_ends, read_head};
+pub use reply::{Reply, ShortReply, reply_bytes, short_reply};
+pub use request::{Allow, Route};
+pub use routing::{route, routes};
+pub use table::Routes;
