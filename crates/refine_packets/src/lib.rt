@@ -2,23 +2,44 @@
 //! of each step, and on the laws of packets in `record_laws`.
 #![tactic(auto)]
 
-ghost use Rattle.std.specs.Prelude.{◌≡◌, ◌<◌, ◌≤◌, ◌++◌, ◌↔◌, ℕ, true, length, IfOk, Err};
+ghost use Rattle.std.specs.Prelude.{◌≡◌, ◌<◌, ◌≤◌, ◌-◌, ◌++◌, ◌↔◌, ℕ, true, length, IfOk, Err};
 ghost use Rattle.tgap_model.specs.History.{history_of};
 ghost use Rattle.tgap_model.specs.Merged.{merged};
 ghost use Rattle.tgap_model.specs.Slice.{slice};
-ghost use Rattle.tgap_model.specs.Records.{packet_of, replayed};
+ghost use Rattle.tgap_model.specs.Records.{packet_of, records_down, replayed};
 ghost use Rattle.record_laws.specs.PacketLaws.{each_fits};
 ghost use Rattle.refine_packets.specs.declared.fail.PacketFail.TheVariants.{NotCoarser, StepTooHigh};
 
+mod copy;
 mod fail;
 
+use copy::copied_record;
 pub use fail::PacketFail;
 use std::alloc::Global;
 use tgap_build::Built;
-use tgap_model::Packet;
+use tgap_model::{List, Memory, Packet, StepRecord};
+
+/// Copies of the records of the steps `from` down to `to + 1`, in this order.
+fn records_down(
+    alloc: Global,
+    built: &Built,
+    from: u32,
+    to: u32,
+) -> Result<List<StepRecord>, Memory>
+    requires down { to ≤ from }
+    requires within { from ≤ length (history_of built.now) }
+    ensures { IfOk result (λ records. records ≡ records_down (merged built.now) from (from - to)) }
+{
+    let mut records = List::with_capacity(alloc, (from - to) as usize)?;
+    for i in 0..from - to {
+        records.push(copied_record(alloc, built.record_of(from - i))?)?;
+    }
+    Ok(records)
+}
 
 /// The packet of a built map from the slice at step `from` to the slice at step `to`: the records of the steps `from` down to
-/// `to + 1`. There is none to a coarser slice, which is tested first, and none from a step that the history does not have.
+/// `to + 1`, copied. There is none to a coarser slice, which is tested first, and none from a step that the history does not
+/// have. The time is that of the records.
 pub fn packet(alloc: Global, built: &Built, from: u32, to: u32) -> Result<Packet, PacketFail>
     // It is the packet by the definition.
     ensures exact { IfOk result (λ p. p ≡ packet_of (merged built.now) from to) }
@@ -42,5 +63,14 @@ pub fn packet(alloc: Global, built: &Built, from: u32, to: u32) -> Result<Packet
     if from > steps {
         return Err(PacketFail::StepTooHigh { steps });
     }
-    Err(PacketFail::Memory)
+    // The look at the base, which costs nothing, tells that it is a planar partition.
+    let _ = built.base();
+    Ok(Packet {
+        from,
+        to,
+        steps: records_down(alloc, built, from, to)?,
+    })
 }
+
+#[cfg(test)]
+mod tests;

@@ -81,7 +81,7 @@ pub fn make_step(
     requires removed { HasRemoved forest.old (k - 1) }
     requires running { AreRunning forest.old (k - 1) (removals_to (merged forest.old.base) (k - 1)) live.old.edges live.old.numbers.items }
     requires holders { AreHolders (merged forest.old.base) (k - 1) live.old.holders.items }
-    ensures record { IfOk result (λ record_made. record_made ≡ step_record (merged forest.old.base) k) }
+    ensures record { IfOk result (λ r. r ≡ step_record (merged forest.old.base) k) }
     ensures base { OnOk result (forest.new.base ≡ forest.old.base) }
     ensures made { OnOk result (forest.new.made ≡ k) }
     ensures open { OnOk result (forest.new.closed ≡ false) }
