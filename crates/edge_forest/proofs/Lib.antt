@@ -8,6 +8,7 @@ mod InOrder
 mod Tables
 pub mod Walks
 pub mod WalkedArcs
+pub mod Reversed
 mod AliveNumbers
 mod Chains
 pub mod AliveSame

@@ -11,6 +11,7 @@ ghost use Rattle.edge_forest.specs.Forest.{IsForest, last_step, never, is_gone};
 ghost use Rattle.edge_forest.specs.Continued.{AreContinued};
 ghost use Rattle.edge_forest.specs.Kept.{closed_edge};
 ghost use Rattle.edge_forest.specs.Removed.{arc_points};
+ghost use Rattle.edge_forest.specs.Walks.{chain_link};
 
 use crate::alive::alive_at;
 use crate::edge::ForestEdge;
@@ -19,7 +20,7 @@ use crate::net::Net;
 use crate::nodes::Nodes;
 use crate::removed::Removed;
 use crate::step::{grown, make_step};
-use crate::walk::points_of;
+use crate::walk::{Link, links_of, points_of};
 use std::alloc::Global;
 use std::marker::Model;
 use tgap_model::{Base, Checked, List, Memory, MergeStep, Point, Removal};
@@ -177,6 +178,21 @@ impl Forest {
         ensures low { (edge_at self.now.edges id).low ≤ self.now.made }
     {
         &self.growth.edges[id as usize]
+    }
+
+    /// The arcs of an edge, from its start to its end.
+    pub fn links(&self, alloc: Global, id: u32) -> Result<List<Link>, Memory>
+        requires { id < length self.now.edges }
+        ensures { IfOk result (λ links. map chain_link links ≡ chain_of self.now.edges id) }
+    {
+        links_of(alloc, self.growth.edges.as_slice(), id)
+    }
+
+    /// Whether a point was removed at step k or before. It takes a search among the points of the map.
+    pub fn is_gone(&self, point: &Point, k: u32) -> bool
+        ensures { result ≡ is_gone self.now k point.now }
+    {
+        self.removed.is_gone(point, k)
     }
 
     /// The points of an edge after k steps, each junction once, less those removed at step k or before. It takes

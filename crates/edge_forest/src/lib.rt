@@ -19,3 +19,4 @@ mod walk;
 
 pub use edge::{ForestEdge, Part};
 pub use forest::Forest;
+pub use walk::Link;

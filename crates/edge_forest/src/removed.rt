@@ -73,7 +73,7 @@ impl Removed {
     }
 
     /// Whether a point was removed at step k or before.
-    fn is_gone(&self, point: &Point, k: u32) -> bool
+    pub fn is_gone(&self, point: &Point, k: u32) -> bool
         ensures { result ≡ is_gone_by self.now k point.now }
     {
         let step = self.step_of(point);

@@ -11,9 +11,9 @@ use tgap_model::{BaseArc, List, Memory, Point};
 
 /// An arc of an edge: its number, and whether the edge runs against it.
 #[derive(Clone, Copy, Debug)]
-struct Link {
-    arc: u32,
-    turned: bool,
+pub struct Link {
+    pub arc: u32,
+    pub turned: bool,
 }
 
 /// Puts the parts of an edge that is turned round at the end: each is turned, and the last one comes first.
@@ -69,6 +69,17 @@ fn links_from_last(alloc: Global, edges: &[ForestEdge], id: u32) -> Result<Vec<L
         }
     }
     Ok(links)
+}
+
+/// The arcs of an edge, from its start to its end.
+pub fn links_of(alloc: Global, edges: &[ForestEdge], id: u32) -> Result<List<Link>, Memory>
+    requires id { id < length edges.now }
+    requires parts { IsMadeOfEarlier edges.now }
+    ensures { IfOk result (λ links. map chain_link links ≡ chain_of edges.now id) }
+{
+    let mut links = links_from_last(alloc, edges, id)?;
+    links.reverse();
+    Ok(List::from(links))
 }
 
 /// Puts the points at the end, from the last one to the first.

@@ -1,7 +1,6 @@
 -- When a step was made in the forest, the list is one behind: of its edges those that have not ended are as many of the forest.
-use Rattle.std.proofs.Common.{◌≡◌, inl, inr, ℕ, ◌-◌, ◌<◌, ◌≤◌, Bool, true, false, cond, nat_le, nat_lt, List, [], ◌∷◌, map, filter, length, get_or, IsPermutation, refl, sym, ap, ap₂, ◌∙◌, subst, arith}
+use Rattle.std.proofs.Common.{◌≡◌, inl, inr, ℕ, ◌-◌, ◌<◌, ◌≤◌, Bool, true, false, cond, List, [], ◌∷◌, map, filter, length, get_or, IsPermutation, refl, sym, ap, ap₂, ◌∙◌, subst, arith}
 use Rattle.std.specs.List.{range_with_len}
-use Rattle.std.proofs.lemmas.Bool.{and_from, and_parts, le-leb, lt-ltb, ltb-true}
 use Rattle.std.proofs.lemmas.List.Sorted.{IsPermutation-sym, IsPermutation-map}
 use Rattle.lemmas.proofs.Members.{filter_agree_on}
 use Rattle.lemmas.proofs.Permutations.{IsPermutation-filter}
@@ -18,7 +17,7 @@ use Rattle.edge_forest.specs.Edges.{edge_at, chain_of, is_alive, alive_edges}
 use Rattle.edge_forest.specs.Forest.{EdgeForest, IsForest}
 use Rattle.edge_forest.specs.Continued.{AreContinued}
 use Rattle.tgap_build.specs.Running.{AreRunning, AreBehind, number_of, is_present}
-use Rattle.tgap_build.proofs.Alive.{alive_moved, alive_known, alive_key, edges_alive}
+use Rattle.tgap_build.proofs.Alive.{alive_earlier, alive_moved, alive_known, alive_key, edges_alive}
 
 -- a filter of a map
 filter_map : {A B : Type 0} (p : B → Bool) (f : A → B) (xs : List A) → filter p (map f xs) ≡ map f (filter (λ x. p (f x)) xs)
@@ -53,14 +52,6 @@ module _ (f g : EdgeForest) (wf : IsForest f) (wg : IsForest g) (k : ℕ) (some 
 
   up_to : k - 1 ≤ f.made
   up_to = omega (arith, made_f)
-
-  -- what has not ended after the step had not before
-  alive_before : (i : ℕ) → i < length f.edges → is_alive k (edge_at g.edges i) ≡ true → is_alive (k - 1) (edge_at f.edges i) ≡ true
-  alive_before i l a =
-      let high : k < (edge_at g.edges i).high = ltb-true k (edge_at g.edges i).high (and_parts (nat_le (edge_at g.edges i).low k) (nat_lt k (edge_at g.edges i).high) a).1 in
-      and_from (nat_le (edge_at f.edges i).low (k - 1)) (nat_lt (k - 1) (edge_at f.edges i).high)
-      (le-leb (edge_at f.edges i).low (k - 1) (omega (arith, wf.low i l, made_f)))
-      (lt-ltb (k - 1) (edge_at f.edges i).high (omega (arith, high, (continued.each i l).high)))
 
   key_kept : (i : ℕ) → i < length f.edges → (edge_at g.edges i).key ≡ (edge_at f.edges i).key
   key_kept i l = ap (λ (e : ForestEdge). e.key) (continued.each i l).same
@@ -98,7 +89,7 @@ module _ (f g : EdgeForest) (wf : IsForest f) (wg : IsForest g) (k : ℕ) (some 
   still_moved : IsPermutation (filter (λ i. is_alive k (edge_at g.edges i)) (range_with_len 0 (length f.edges))) (filter (λ i. is_alive k (edge_at g.edges i)) (alive_edges f.edges (k - 1)))
   still_moved =
       subst (λ (is : List ℕ). IsPermutation is (filter alive_now (alive_edges f.edges (k - 1))))
-      (filter_stronger alive_now (λ i. is_alive (k - 1) (edge_at f.edges i)) all (λ i m a. alive_before i (in_all i m) a))
+      (filter_stronger alive_now (λ i. is_alive (k - 1) (edge_at f.edges i)) all (λ i m a. alive_earlier f g wf k some made_f continued i (in_all i m) a))
       (IsPermutation-filter alive_now _ _ (alive_moved f wf (k - 1) up_to))
 
   same_edges : map (λ i. edge_of (merged f.base) (k - 1) removals (chain_of f.edges i)) (filter (λ i. is_alive k (edge_at g.edges i)) (range_with_len 0 (length f.edges)))
@@ -115,7 +106,7 @@ module _ (f g : EdgeForest) (wf : IsForest f) (wg : IsForest g) (k : ℕ) (some 
         (subst (IsPermutation (map edge_by (filter alive_now (alive_edges f.edges (k - 1))))) same_edges
         (IsPermutation-map edge_by (filter alive_now (alive_edges f.edges (k - 1))) (filter alive_now all)
         (IsPermutation-sym (filter alive_now all) (filter alive_now (alive_edges f.edges (k - 1))) still_moved)));
-    numbers = λ i l a. ap (λ (n : ℕ). get_or numbers n 0) (key_kept i l) ∙ running.numbers i l (alive_before i l a);
+    numbers = λ i l a. ap (λ (n : ℕ). get_or numbers n 0) (key_kept i l) ∙ running.numbers i l (alive_earlier f g wf k some made_f continued i l a);
   }
     where
       each_key : (e : Edge) → Among e edges → (e.key < length g.base.arcs) × (number_of numbers e < length g.edges)

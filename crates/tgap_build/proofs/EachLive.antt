@@ -64,11 +64,11 @@ module _ (m : BaseMap) (base : is_base m ≡ true) (planar : IsPartition (base_s
   abbrev chains : List Chain
   chains = chains_at (merged m) k
 
-  few : (c : Chain) → Among c (chains_at (merged m) k) → length (chain_points m.arcs c) ≤ MAX_POINTS
-  few c n =
+  -- the points of the arcs of a chain
+  pub few_along : (c : Chain) → Among c (chains_at (merged m) k) → sum_by (λ (d : Link). length (arc_number m.arcs d.arc).points) c ≤ MAX_POINTS
+  few_along c n =
       omega (
         arith,
-        chain_length m.arcs c,
         sum_member (λ (c : Chain). sum_by (λ d. length (arc_number m.arcs d.arc).points) c) chains c n,
         sum_of_chains (merged m) k chains (chains_exist (merged m) k) (λ a. length a.points),
         sum_less (λ (a : BaseArc). cond (is_border (merged m) k a) (length a.points) 0) (λ a. length a.points) m.arcs (λ a i. at_most (is_border (merged m) k a) (length a.points)),
@@ -78,6 +78,9 @@ module _ (m : BaseMap) (base : is_base m ≡ true) (planar : IsPartition (base_s
       at_most : (b : Bool) (n : ℕ) → cond b n 0 ≤ n
       at_most true n = omega arith
       at_most false n = omega arith
+
+  pub few : (c : Chain) → Among c (chains_at (merged m) k) → length (chain_points m.arcs c) ≤ MAX_POINTS
+  few c n = omega (arith, chain_length m.arcs c, few_along c n)
 
   -- ---- in order of key
 

@@ -14,3 +14,8 @@ pub mod Run
 pub mod Losing
 pub mod PointSets
 pub mod Hulls
+pub mod HolderTables
+pub mod PieceRuns
+pub mod ReadParts
+pub mod ReadMends
+pub mod StepFaces

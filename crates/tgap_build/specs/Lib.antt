@@ -1,3 +1,6 @@
 pub mod Built
 pub mod Running
 pub mod Boxes
+pub mod Holders
+pub mod Pieces
+pub mod Mends

@@ -1,10 +1,11 @@
 //! What is built of a map.
 
-ghost use Rattle.std.specs.Prelude.{◌≡◌, true, length, IsTrue};
+ghost use Rattle.std.specs.Prelude.{◌≡◌, ◌≤◌, true, length, IsTrue};
 ghost use Rattle.tgap_model.specs.Base.{is_base};
 ghost use Rattle.tgap_model.specs.Partition.{IsPartition, base_segments};
 ghost use Rattle.tgap_model.specs.History.{history_of};
 ghost use Rattle.tgap_model.specs.Merged.{merged};
+ghost use Rattle.tgap_model.specs.Records.{step_record};
 ghost use Rattle.face_tree.specs.Tree.{face_history};
 ghost use Rattle.edge_forest.specs.Forest.{last_step};
 ghost use Rattle.tgap_build.specs.Built.{HasRemoved, IsBuilt};
@@ -13,13 +14,14 @@ use crate::boxed::BoxedForest;
 use edge_forest::Forest;
 use face_tree::FaceTree;
 use std::marker::Model;
-use tgap_model::Base;
+use tgap_model::{Base, List, StepRecord};
 
-/// A checked map, its tree of faces, and its forest of edges with their boxes.
+/// A checked map, its tree of faces, its forest of edges with their boxes, and the records of its steps.
 #[derive(Debug, Drop)]
 pub struct Built {
     tree: FaceTree,
     boxed: BoxedForest,
+    records: List<StepRecord>,
 }
 
 impl Model for Built {
@@ -30,16 +32,20 @@ impl Model for Built {
 
     ghost view = { λ b. b.boxed.base };
 
-    ghost invariant = { λ b. IsBuilt b.tree b.boxed };
+    ghost invariant = { λ b. IsBuilt b.tree b.boxed b.records };
 }
 
 impl Built {
-    /// The tree and the forest of one map, together.
-    pub(crate) fn of(tree: FaceTree, boxed: BoxedForest) -> Built
-        requires { IsBuilt tree boxed }
+    /// The tree, the forest and the records of one map, together.
+    pub(crate) fn of(tree: FaceTree, boxed: BoxedForest, records: List<StepRecord>) -> Built
+        requires { IsBuilt tree boxed records }
         ensures { result ≡ boxed.base }
     {
-        Built { tree, boxed }
+        Built {
+            tree,
+            boxed,
+            records,
+        }
     }
 
     /// The base map: a planar partition.
@@ -76,6 +82,15 @@ impl Built {
         ensures removed { HasRemoved result.now (last_step result.now) }
     {
         &self.boxed
+    }
+
+    /// The record of a step, from 1 to the last one: how the slice after it is led back to the slice before it.
+    pub fn record_of(&self, step: u32) -> &StepRecord
+        requires some { 1 ≤ step }
+        requires within { step ≤ length (history_of self.now) }
+        ensures { result.now ≡ step_record (merged self.now) step }
+    {
+        &self.records.as_slice()[step as usize - 1]
     }
 
     /// The number of steps of its merge history.

@@ -7,12 +7,14 @@ ghost use Rattle.tgap_model.specs.Removals.{has_side, without, removals_to};
 ghost use Rattle.removal_laws.specs.StandLaws.{edges_less};
 ghost use Rattle.grid_index.specs.Live.{keys, without_keys, AreLive, IsLiveEdge};
 ghost use Rattle.face_tree.specs.Tree.{face_history};
-ghost use Rattle.edge_forest.specs.Edges.{edge_at, is_alive};
+ghost use Rattle.edge_forest.specs.Edges.{edge_at, chain_of, is_alive};
 ghost use Rattle.edge_forest.specs.Forest.{IsForest};
 ghost use Rattle.tgap_build.specs.Built.{HasRemoved};
+ghost use Rattle.tgap_build.specs.Holders.{AreHolders, all_held};
 ghost use Rattle.tgap_build.specs.Running.{AreRunning, AreBehind, born, number_of, is_touched, is_changed, is_relabelled, relabelled, noted, less, loses};
 
 use crate::edges::{edges_of, push_edges};
+use crate::holders::{Holder, note_holders};
 use crate::point_set::PointSet;
 use edge_forest::Forest;
 use face_tree::FaceTree;
@@ -20,11 +22,13 @@ use grid_index::Live;
 use std::alloc::Global;
 use tgap_model::{Edge, List, Memory, MergeStep, Removal};
 
-/// The edges after some steps of the history, and for each the number that it has in the forest, at the place of its key.
+/// The edges after some steps of the history, for each the number that it has in the forest, at the place of its key, and for
+/// each arc of theirs the edge that holds it.
 #[derive(Debug, Drop)]
 pub struct LiveEdges {
     pub edges: Live,
     pub numbers: Vec<u32>,
+    pub holders: Vec<Holder>,
 }
 
 /// The keys of edges that go, and the edges that come.
@@ -58,7 +62,7 @@ fn born(alloc: Global, forest: &Forest, first: u32, k: u32) -> Result<List<u32>,
 }
 
 /// Whether the edge has the face at a side.
-fn has_side(face: u32, edge: &Edge) -> bool
+pub fn has_side(face: u32, edge: &Edge) -> bool
     ensures { result ≡ has_side face edge.now }
 {
     edge.left == face || edge.right == face
@@ -208,15 +212,24 @@ impl LiveEdges {
         requires made { forest.now.made ≡ 0 }
         requires history { tree.now ≡ face_history (merged forest.now.base) }
         requires removed { HasRemoved forest.now 0 }
-        ensures { IfOk result (λ live. AreRunning forest.now 0 (removals_to (merged forest.now.base) 0) live.edges live.numbers.items) }
+        ensures running { IfOk result (λ live. AreRunning forest.now 0 (removals_to (merged forest.now.base) 0) live.edges live.numbers.items) }
+        ensures holders { IfOk result (λ live. AreHolders (merged forest.now.base) 0 live.holders.items) }
     {
         let ids = forest.present(alloc)?;
         let edges = edges_of(alloc, tree, forest, ids.as_slice(), 0)?;
-        let mut numbers = vec![in alloc; 0u32; forest.base().arcs().len()]?;
+        let arcs = forest.base().arcs().len();
+        let mut numbers = vec![in alloc; 0u32; arcs]?;
         note_numbers(forest, &mut numbers, ids.as_slice());
+        let none = Holder {
+            key: 0,
+            turned: false,
+        };
+        let mut holders = vec![in alloc; none; arcs]?;
+        note_holders(alloc, forest, ids.as_slice(), &mut holders)?;
         Ok(LiveEdges {
             edges: Live::of(alloc, &edges)?,
             numbers,
+            holders,
         })
     }
 
@@ -239,7 +252,8 @@ impl LiveEdges {
         requires removed { HasRemoved forest.now (k - 1) }
         requires old { old ≤ length forest.now.edges }
         requires behind { AreBehind forest.now k old (removals_to (merged forest.now.base) (k - 1)) self.old.edges self.old.numbers.items }
-        ensures { OnOk result (AreRunning forest.now k (removals_to (merged forest.now.base) (k - 1)) self.new.edges self.new.numbers.items) }
+        ensures running { OnOk result (AreRunning forest.now k (removals_to (merged forest.now.base) (k - 1)) self.new.edges self.new.numbers.items) }
+        ensures holders { OnOk result (self.new.holders ≡ self.old.holders) }
     {
         let born = born(alloc, forest, old, k)?;
         let mut change = changes(
@@ -267,6 +281,7 @@ impl LiveEdges {
         requires others { All (λ e. has_side made e ≡ false → without removals.now e.points ≡ e.points) self.old.edges }
         ensures edges { OnOk result (self.new.edges ≡ edges_less removals.now self.old.edges) }
         ensures numbers { self.new.numbers ≡ self.old.numbers }
+        ensures holders { self.new.holders ≡ self.old.holders }
     {
         if removals.is_empty() {
             return Ok(());
@@ -275,5 +290,16 @@ impl LiveEdges {
         let change = losses(alloc, made, &gone, self.edges.edges().as_slice())?;
         replace(alloc, &mut self.edges, change)?;
         Ok(())
+    }
+    /// Notes the edges that step number k brought, of which the first has the number `old`, at each of their arcs.
+    pub fn hold(&mut self, alloc: Global, forest: &Forest, old: u32, k: u32) -> Result<(), Memory>
+        requires old { old ≤ length forest.now.edges }
+        requires room { All (λ i. All (λ d. d.arc < length self.old.holders.items) (chain_of forest.now.edges i)) (born forest.now old k) }
+        ensures edges { self.new.edges ≡ self.old.edges }
+        ensures numbers { self.new.numbers ≡ self.old.numbers }
+        ensures holders { OnOk result (self.new.holders.items ≡ all_held forest.now.edges (born forest.now old k) self.old.holders.items) }
+    {
+        let ids = born(alloc, forest, old, k)?;
+        note_holders(alloc, forest, ids.as_slice(), &mut self.holders)
     }
 }

@@ -62,7 +62,7 @@ impl PointSet {
     }
 
     /// Whether a point is one of the set.
-    fn holds(&self, point: &Point) -> bool
+    pub fn holds(&self, point: &Point) -> bool
         ensures { result ≡ has_point self.now point.now }
     {
         self.place_of(point).is_some()

@@ -2,8 +2,5 @@
 use Rattle.tgap_build.proofs.Removed.{none_removed}
 use Rattle.tgap_build.proofs.forest_of.Goals as goal
 
-pub merge_all-requires-clause-removed : goal.merge_all-requires-clause-removed
-merge_all-requires-clause-removed c = none_removed c.in_ok-forest.forest c.in_ok-forest.ensures.nothing
-
 pub sweep_all-requires-clause-removed : goal.sweep_all-requires-clause-removed
 sweep_all-requires-clause-removed c = none_removed c.in_ok-forest.forest c.in_ok-forest.ensures.nothing

@@ -1,7 +1,10 @@
-use Rattle.std.proofs.Common.{◌≡◌, false}
+use Rattle.std.proofs.Common.{◌≡◌, false, map}
+use Rattle.std.specs.List.{range_with_len}
 use Rattle.tgap_model.specs.Merged.{merged}
 use Rattle.tgap_model.specs.Removals.{removals_to}
+use Rattle.tgap_model.specs.Records.{step_record}
 use Rattle.tgap_build.specs.Built.{HasRemoved}
+use Rattle.tgap_build.specs.Holders.{AreHolders}
 use Rattle.tgap_build.specs.Running.{AreRunning}
 use Rattle.tgap_build.proofs.sweep_all.Given as goal
 
@@ -13,4 +16,6 @@ invariant-loop-i l = record {
   unclosed : l.forest.closed ≡ false;
   removed : HasRemoved l.forest l.i;
   running : AreRunning l.forest l.i (removals_to (merged l.forest.base) l.i) l.live.edges l.live.numbers.items;
+  holders : AreHolders (merged l.forest.base) l.i l.live.holders.items;
+  records : l.records ≡ map (step_record (merged l.fn.forest.base)) (range_with_len 1 l.i);
 }

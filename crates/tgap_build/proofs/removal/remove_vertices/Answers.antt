@@ -4,17 +4,19 @@ use Rattle.std.specs.List.{list_any}
 use Rattle.std.specs.Global.{Vec}
 use Rattle.std.specs.Int.{w128}
 use Rattle.std.proofs.lemmas.Int.{to_z-of_z}
+use Rattle.tgap_model.specs.declared.merge.MergeStep.{MergeStep}
 use Rattle.tgap_model.specs.declared.slice.Edge.{Edge}
 use Rattle.tgap_model.specs.declared.slice.Removal.{Removal}
 use Rattle.tgap_model.specs.Base.{same_point}
 use Rattle.tgap_model.specs.History.{history_of}
 use Rattle.tgap_model.specs.Merged.{merged}
-use Rattle.tgap_model.specs.Removals.{removals_to, has_side, without}
+use Rattle.tgap_model.specs.Removals.{removals_to, has_side, is_removed, without}
 use Rattle.removal_laws.specs.StandLaws.{edges_less}
 use Rattle.removal_laws.specs.Trace.{edges_before_sweep}
 use Rattle.grid_index.specs.Live.{AreLive}
 use Rattle.edge_forest.specs.Forest.{is_gone}
 use Rattle.tgap_build.proofs.EachLive.{after_live}
+use Rattle.tgap_build.proofs.ReadMends.{now_is, countable, mends_read}
 use Rattle.tgap_build.proofs.Removed.{step_removed}
 use Rattle.tgap_build.proofs.Run.{running_less}
 use Rattle.tgap_build.proofs.Swept.{list_is, list_steps, list_apart, list_there, list_left}
@@ -31,7 +33,7 @@ remove-requires-clause-steps c =
     let live = c.requires.running.edges in
     let removals = c.in_ok-removals.removals in
     let area = to_z-of_z w128 c.args.loser_area c.ranges.loser_area ∙ c.requires.area in
-    subst (λ (n : ℕ). All (λ (r : Removal). r.step ≡ n) removals) (sym c.requires.made) (list_steps f k base planar c.requires.some within c.requires.removed c.args.live.now.edges live _ _ _ removals c.requires.ratio c.requires.face area c.in_ok-removals.ensures)
+    subst (λ (n : ℕ). All (λ (r : Removal). r.step ≡ n) removals) (sym c.requires.made) (list_steps f k base planar c.requires.some within c.requires.removed c.args.live.now.edges live _ _ _ removals c.requires.ratio (ap (λ (s : MergeStep). s.made) c.requires.step) area c.in_ok-removals.ensures)
 
 pub remove-requires-clause-apart : goal.remove-requires-clause-apart
 remove-requires-clause-apart c =
@@ -43,7 +45,7 @@ remove-requires-clause-apart c =
     let live = c.requires.running.edges in
     let removals = c.in_ok-removals.removals in
     let area = to_z-of_z w128 c.args.loser_area c.ranges.loser_area ∙ c.requires.area in
-    list_apart f k base planar c.requires.some within c.requires.removed c.args.live.now.edges live _ _ _ removals c.requires.ratio c.requires.face area c.in_ok-removals.ensures
+    list_apart f k base planar c.requires.some within c.requires.removed c.args.live.now.edges live _ _ _ removals c.requires.ratio (ap (λ (s : MergeStep). s.made) c.requires.step) area c.in_ok-removals.ensures
 
 pub remove-requires-clause-there : goal.remove-requires-clause-there
 remove-requires-clause-there c =
@@ -55,7 +57,7 @@ remove-requires-clause-there c =
     let live = c.requires.running.edges in
     let removals = c.in_ok-removals.removals in
     let area = to_z-of_z w128 c.args.loser_area c.ranges.loser_area ∙ c.requires.area in
-    list_there f k base planar c.requires.some within c.requires.removed c.args.live.now.edges live _ _ _ removals c.requires.ratio c.requires.face area c.in_ok-removals.ensures
+    list_there f k base planar c.requires.some within c.requires.removed c.args.live.now.edges live _ _ _ removals c.requires.ratio (ap (λ (s : MergeStep). s.made) c.requires.step) area c.in_ok-removals.ensures
 
 pub remove-requires-clause-left : goal.remove-requires-clause-left
 remove-requires-clause-left c =
@@ -67,7 +69,7 @@ remove-requires-clause-left c =
     let live = c.requires.running.edges in
     let removals = c.in_ok-removals.removals in
     let area = to_z-of_z w128 c.args.loser_area c.ranges.loser_area ∙ c.requires.area in
-    subst (λ (n : ℕ). All (λ (r : Removal). is_gone f n r.point ≡ false) removals) (sym c.requires.made) (list_left f k base planar c.requires.some within c.requires.removed c.args.live.now.edges live _ _ _ removals c.requires.ratio c.requires.face area c.in_ok-removals.ensures)
+    subst (λ (n : ℕ). All (λ (r : Removal). is_gone f n r.point ≡ false) removals) (sym c.requires.made) (list_left f k base planar c.requires.some within c.requires.removed c.args.live.now.edges live _ _ _ removals c.requires.ratio (ap (λ (s : MergeStep). s.made) c.requires.step) area c.in_ok-removals.ensures)
 
 pub remove-requires-2-clause-live : goal.remove-requires-2-clause-live
 remove-requires-2-clause-live c =
@@ -79,7 +81,7 @@ remove-requires-2-clause-live c =
     let live = c.requires.running.edges in
     let removals = c.in_ok-removals.removals in
     let area = to_z-of_z w128 c.args.loser_area c.ranges.loser_area ∙ c.requires.area in
-    let is = list_is f k base planar c.requires.some within c.requires.removed c.args.live.now.edges live _ _ _ removals c.requires.ratio c.requires.face area c.in_ok-removals.ensures in
+    let is = list_is f k base planar c.requires.some within c.requires.removed c.args.live.now.edges live _ _ _ removals c.requires.ratio (ap (λ (s : MergeStep). s.made) c.requires.step) area c.in_ok-removals.ensures in
     subst AreLive (sym (ap (edges_less removals) live ∙ taken_is f.base base planar k c.requires.some within removals is)) (after_live f.base base planar k within)
 
 pub remove-requires-2-clause-others : goal.remove-requires-2-clause-others
@@ -92,9 +94,9 @@ remove-requires-2-clause-others c =
     let live = c.requires.running.edges in
     let removals = c.in_ok-removals.removals in
     let area = to_z-of_z w128 c.args.loser_area c.ranges.loser_area ∙ c.requires.area in
-    let is = list_is f k base planar c.requires.some within c.requires.removed c.args.live.now.edges live _ _ _ removals c.requires.ratio c.requires.face area c.in_ok-removals.ensures in
-    subst (All (λ (e : Edge). has_side c.args.made e ≡ false → without removals e.points ≡ e.points)) (sym live)
-    (subst (λ (n : ℕ). All (λ (e : Edge). has_side n e ≡ false → without removals e.points ≡ e.points) (edges_before_sweep (merged f.base) k)) (sym c.requires.face)
+    let is = list_is f k base planar c.requires.some within c.requires.removed c.args.live.now.edges live _ _ _ removals c.requires.ratio (ap (λ (s : MergeStep). s.made) c.requires.step) area c.in_ok-removals.ensures in
+    subst (All (λ (e : Edge). has_side c.args.step.now.made e ≡ false → without removals e.points ≡ e.points)) (sym live)
+    (subst (λ (n : ℕ). All (λ (e : Edge). has_side n e ≡ false → without removals e.points ≡ e.points) (edges_before_sweep (merged f.base) k)) (sym (ap (λ (s : MergeStep). s.made) c.requires.step))
     (others_stay f.base base planar k c.requires.some within removals is))
 
 pub returns-clause-removed : goal.returns-clause-removed
@@ -107,7 +109,7 @@ returns-clause-removed c =
     let live = c.requires.running.edges in
     let removals = c.in_ok-removals.removals in
     let area = to_z-of_z w128 c.args.loser_area c.ranges.loser_area ∙ c.requires.area in
-    let is = list_is f k base planar c.requires.some within c.requires.removed c.args.live.now.edges live _ _ _ removals c.requires.ratio c.requires.face area c.in_ok-removals.ensures in
+    let is = list_is f k base planar c.requires.some within c.requires.removed c.args.live.now.edges live _ _ _ removals c.requires.ratio (ap (λ (s : MergeStep). s.made) c.requires.step) area c.in_ok-removals.ensures in
     step_removed f c.remove.new.self k base planar c.requires.some within c.remove.ensures.base c.requires.removed (λ i p.
     c.remove.ensures.gone i p
     ∙ ap₂ (λ (n : ℕ) (rs : List Removal). is_gone f i p || (nat_le n i && list_any (λ (r : Removal). same_point r.point p) rs)) c.requires.made is)
@@ -122,8 +124,29 @@ returns-clause-running c =
     let live = c.requires.running.edges in
     let removals = c.in_ok-removals.removals in
     let area = to_z-of_z w128 c.args.loser_area c.ranges.loser_area ∙ c.requires.area in
-    let is = list_is f k base planar c.requires.some within c.requires.removed c.args.live.now.edges live _ _ _ removals c.requires.ratio c.requires.face area c.in_ok-removals.ensures in
+    let is = list_is f k base planar c.requires.some within c.requires.removed c.args.live.now.edges live _ _ _ removals c.requires.ratio (ap (λ (s : MergeStep). s.made) c.requires.step) area c.in_ok-removals.ensures in
     let edges = c.in_ok-remove.ensures.edges ∙ ap (edges_less removals) live ∙ taken_is f.base base planar k c.requires.some within removals is in
     running_less f c.remove.new.self k (removals_to (merged f.base) (k - 1)) (removals_to (merged f.base) k) c.args.live.now.edges c.remove-2.new.self.edges
     c.args.live.now.numbers.items c.remove-2.new.self.numbers.items c.requires.running.forest c.remove.ensures.base c.remove.ensures.made c.remove.ensures.edges
     (ap (λ (v : Vec ℕ). v.items) c.in_ok-remove.ensures.numbers) edges c.requires.running
+
+pub mends_of-requires-clause-edges : goal.mends_of-requires-clause-edges
+mends_of-requires-clause-edges c =
+    let f = c.args.forest.now in
+    let k = c.args.k in
+    countable f k (removals_to (merged f.base) (k - 1)) c.args.live.now.edges c.args.live.now.numbers.items (omega (arith, c.requires.made)) c.requires.running
+
+pub returns-clause-mends : goal.returns-clause-mends
+returns-clause-mends c =
+    let f = c.args.forest.now in
+    let k = c.args.k in
+    let base = c.requires.running.forest.base in
+    let planar = c.requires.running.forest.partition in
+    let within : k ≤ length (history_of f.base) = omega (arith, c.requires.running.forest.steps, c.requires.made) in
+    let live = c.requires.running.edges in
+    let removals = c.in_ok-removals.removals in
+    let area = to_z-of_z w128 c.args.loser_area c.ranges.loser_area ∙ c.requires.area in
+    let is = list_is f k base planar c.requires.some within c.requires.removed c.args.live.now.edges live _ _ _ removals c.requires.ratio (ap (λ (s : MergeStep). s.made) c.requires.step) area c.in_ok-removals.ensures in
+    c.in_ok-mends.ensures removals (λ p. c.in_ok-gone.ensures p ∙ ap (λ (rs : List Removal). is_removed rs p) c.as_slice.ensures)
+    ∙ mends_read f k (omega (arith, c.requires.some)) (omega (arith, c.requires.made)) c.args.live.now.edges c.args.live.now.numbers.items c.args.live.now.holders.items c.requires.running c.requires.holders
+    (c.requires.removed.by_then (k - 1) (omega arith)) c.args.step.now c.requires.step removals (is ∙ now_is f.base base planar k c.requires.some within)

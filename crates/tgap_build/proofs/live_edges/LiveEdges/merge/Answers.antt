@@ -165,8 +165,8 @@ note_numbers-requires-clause-room c =
     subst (All (λ i. (edge_at f.edges i).key < length table)) (sym (c.as_slice-3.ensures ∙ c.in_ok-born.ensures))
     (born_room f c.requires.forest k up_to removals _ refl c.args.old c.requires.old c.args.self.now.edges table c.requires.behind)
 
-pub returns : goal.returns
-returns c =
+pub returns-clause-running : goal.returns-clause-running
+returns-clause-running c =
     let f = c.args.forest.now in
     let w = c.requires.forest in
     let k = c.args.k in

@@ -1,0 +1,2 @@
+mod Down
+mod Packets

@@ -1,0 +1,67 @@
+//! Copies of records.
+
+ghost use Rattle.std.specs.Prelude.{◌≡◌, IfOk};
+
+use std::alloc::Global;
+use tgap_model::{Edge, List, Memory, Mend, StepRecord};
+
+/// A copy of an edge.
+fn copied_edge(alloc: Global, edge: &Edge) -> Result<Edge, Memory>
+    ensures { IfOk result (λ copy. copy ≡ edge.now) }
+{
+    Ok(Edge {
+        key: edge.key,
+        left: edge.left,
+        right: edge.right,
+        points: List::from(edge.points.as_slice().to_vec(alloc)?),
+    })
+}
+
+/// Copies of edges.
+fn copied_edges(alloc: Global, edges: &[Edge]) -> Result<List<Edge>, Memory>
+    ensures { IfOk result (λ copies. copies ≡ edges.now) }
+{
+    let mut copies = List::with_capacity(alloc, edges.len())?;
+    for edge in edges {
+        copies.push(copied_edge(alloc, edge)?)?;
+    }
+    Ok(copies)
+}
+
+/// A copy of a mend.
+fn copied_mend(alloc: Global, mend: &Mend) -> Result<Mend, Memory>
+    ensures { IfOk result (λ copy. copy ≡ mend.now) }
+{
+    Ok(Mend {
+        key: mend.key,
+        puts: List::from(mend.puts.as_slice().to_vec(alloc)?),
+        pieces: List::from(mend.pieces.as_slice().to_vec(alloc)?),
+    })
+}
+
+/// Copies of mends.
+fn copied_mends(alloc: Global, mends: &[Mend]) -> Result<List<Mend>, Memory>
+    ensures { IfOk result (λ copies. copies ≡ mends.now) }
+{
+    let mut copies = List::with_capacity(alloc, mends.len())?;
+    for mend in mends {
+        copies.push(copied_mend(alloc, mend)?)?;
+    }
+    Ok(copies)
+}
+
+/// A copy of a record.
+pub fn copied_record(alloc: Global, step: &StepRecord) -> Result<StepRecord, Memory>
+    ensures { IfOk result (λ copy. copy ≡ step.now) }
+{
+    Ok(StepRecord {
+        step: step.step,
+        loser: step.loser,
+        loser_class: step.loser_class,
+        winner: step.winner,
+        winner_class: step.winner_class,
+        made: step.made,
+        mends: copied_mends(alloc, step.mends.as_slice())?,
+        ended: copied_edges(alloc, step.ended.as_slice())?,
+    })
+}
