@@ -1,10 +1,9 @@
 -- Slots that are emptied by key, and given to what comes.
-use Rattle.std.proofs.Common.{◌≡◌, ◌⊎◌, inl, inr, ℕ, zero, suc, ◌+◌, ◌<◌, ◌≤◌, Bool, true, false, cond, not, nat_eq, ◌&&◌, ◌||◌, ◌==◌, List, [], ◌∷◌, ◌++◌, length, filter, map, get_or, take, All, Contains, IsPermutation, Option, Some, None, refl, sym, ap, ap₂, ◌∙◌, subst, subst₂, append_assoc, true≢false, arith}
+use Rattle.std.proofs.Common.{◌≡◌, ◌⊎◌, inl, inr, ℕ, zero, suc, ◌+◌, ◌<◌, ◌≤◌, Bool, true, false, cond, not, nat_eq, ◌&&◌, ◌||◌, ◌==◌, List, [], ◌∷◌, ◌++◌, length, filter, map, get_or, take, Contains, IsPermutation, Option, Some, None, refl, sym, ap, ap₂, ◌∙◌, subst, subst₂, append_assoc, true≢false, arith}
 use Rattle.std.specs.Prelude.{option_to_list, slice_set}
-use Rattle.std.specs.List.{list_any}
 use Rattle.std.proofs.lemmas.Bool.{cases_lt, cases_eq}
 use Rattle.std.proofs.lemmas.Bool.Decides.{nat_tests}
-use Rattle.std.proofs.lemmas.List.{length-set, get_or-set_same, get_or-set_other, get_or_past, take_more, map_push}
+use Rattle.std.proofs.lemmas.List.{length-set, get_or-set_same, get_or-set_other, take_more, map_push}
 use Rattle.std.proofs.lemmas.List.Elements.{All-contains, All-filter, filter-append, Contains-append_left, Contains-append_right}
 use Rattle.std.proofs.lemmas.List.Sorted.{IsPermutation-trans, IsPermutation-append_comm, IsPermutation-append_left, IsPermutation-append_right}
 use Rattle.tgap_model.specs.declared.geometry.Window.{Window}
@@ -15,7 +14,7 @@ use Rattle.grid_index.specs.Near.{near_boxes, IsNextNear}
 use Rattle.grid_index.specs.Picked.{no_box}
 use Rattle.grid_index.specs.Slots.{held, slot_at, stays, has_key, is_near, AreNear, IsBounded}
 use Rattle.grid_index.proofs.Finding.{none_near}
-use Rattle.grid_index.proofs.Holding.{held_set, slot_within}
+use Rattle.grid_index.proofs.Holding.{held_set}
 use Rattle.grid_index.proofs.Placing.{filter_twice, neither}
 
 -- ---- the slots with a key

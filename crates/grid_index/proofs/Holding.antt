@@ -1,11 +1,9 @@
 -- What slots have, where one of them changes.
-use Rattle.std.proofs.Common.{◌≡◌, ◌≢◌, ◌⊎◌, inl, inr, ℕ, zero, suc, ◌+◌, ◌<◌, ◌≤◌, Bool, true, false, cond, List, [], ◌∷◌, ◌++◌, length, filter, get_or, take, drop, replicate, All, IsPermutation, Option, Some, None, refl, sym, ap, ap₂, ◌∙◌, subst, subst₂, append_assoc, true≢false, arith}
-use Rattle.std.specs.Prelude.{option_to_list, option_map, slice_set, is_some, IfNone, not, ◌==◌}
-use Rattle.std.specs.List.{list_any}
+use Rattle.std.proofs.Common.{◌≡◌, ◌≢◌, ◌⊎◌, inl, inr, ℕ, zero, suc, ◌+◌, ◌<◌, ◌≤◌, Bool, true, false, List, [], ◌∷◌, ◌++◌, length, get_or, take, replicate, All, IsPermutation, Option, Some, None, refl, sym, ap, ap₂, ◌∙◌, subst, subst₂, append_assoc, true≢false, arith}
+use Rattle.std.specs.Prelude.{option_to_list, slice_set, is_some, IfNone, not}
 use Rattle.std.proofs.lemmas.Grind.{flat_map-append}
-use Rattle.std.proofs.lemmas.List.{append-nil, take_all, take_more, drop_more, take_more_set, drop-set-lt, length-set, length-append, length-replicate, get_or_append_left, get_or_push}
+use Rattle.std.proofs.lemmas.List.{append-nil, take_all, take_more, take_more_set, length-set, length-append, length-replicate, get_or_append_left, get_or_push}
 use Rattle.std.proofs.lemmas.Bool.{cases_lt}
-use Rattle.std.proofs.lemmas.List.Elements.{filter-append}
 use Rattle.std.proofs.lemmas.List.Sorted.{IsPermutation-trans, IsPermutation-append, IsPermutation-append_comm, IsPermutation-append_left, IsPermutation-append_right, length_permutation}
 use Rattle.tgap_model.specs.declared.geometry.Window.{Window}
 use Rattle.grid_index.specs.declared.segments.Entry.{Entry}

@@ -1,5 +1,5 @@
 -- Edges in order of key, changed where they stand.
-use Rattle.std.proofs.Common.{◌≡◌, ◌≢◌, ◌⊎◌, inl, inr, ⊎_elim, ℕ, zero, suc, ◌+◌, ◌<◌, ◌≤◌, Bool, true, false, cond, not, ◌&&◌, ◌||◌, ◌==◌, List, [], ◌∷◌, ◌++◌, length, filter, map, get_or, take, All, AllPairs, Contains, IsPermutation, Result, Ok, Err, refl, sym, ap, ap₂, ◌∙◌, subst, subst₂, append_assoc, true≢false, arith}
+use Rattle.std.proofs.Common.{◌≡◌, ◌≢◌, ◌⊎◌, inl, inr, ℕ, zero, suc, ◌+◌, ◌<◌, ◌≤◌, Bool, true, false, cond, not, ◌&&◌, ◌||◌, ◌==◌, List, [], ◌∷◌, ◌++◌, length, filter, get_or, take, All, AllPairs, Contains, IsPermutation, Ok, Err, refl, sym, ap, ap₂, ◌∙◌, subst, subst₂, append_assoc, true≢false, arith}
 use Rattle.std.specs.Prelude.{Option, Some, None, is_some, IfSome, slice_set}
 use Rattle.std.specs.List.{list_any, SwappedAt}
 use Rattle.std.specs.List.Sorted.{IsNonDecreasing, IsBinarySearchResult}
@@ -12,7 +12,7 @@ use Rattle.std.proofs.lemmas.List.Elements.{All-head, All-tail, All-contains, fi
 use Rattle.std.proofs.lemmas.List.Filters.{FiltersInPlace, FiltersInPlace-all, FiltersInPlace-more_no, FiltersInPlace-more_swap}
 use Rattle.std.proofs.lemmas.List.Folds.{list_any-append, list_any_none}
 use Rattle.std.proofs.lemmas.List.Kept.{AllPairs-filter}
-use Rattle.std.proofs.lemmas.List.Sorted.{IsPermutation-cons, IsPermutation-trans, IsPermutation-refl, IsPermutation-sym, IsPermutation-append_comm, IsPermutation-append_left, IsPermutation-append_right}
+use Rattle.std.proofs.lemmas.List.Sorted.{IsPermutation-cons, IsPermutation-trans, IsPermutation-refl, IsPermutation-append_comm, IsPermutation-append_left, IsPermutation-append_right}
 use Rattle.tgap_model.specs.declared.slice.Edge.{Edge}
 use Rattle.lemmas.proofs.Members.{AllPairs-head, AllPairs-tail, Contains-filter, Contains-from_map, filter_agree_on}
 use Rattle.lemmas.proofs.Permutations.{IsPermutation-filter}

@@ -1,5 +1,5 @@
 -- The boxes of edges, in slots.
-use Rattle.std.specs.Prelude.{◌≡◌, ℕ, ◌==◌, ◌++◌, nat_eq, filter, not, Bool, true, false, List, [], map, length, get_or, slice_set, All, IsPermutation, Option, Some, None, option_to_list}
+use Rattle.std.specs.Prelude.{◌≡◌, ℕ, ◌==◌, nat_eq, not, Bool, true, false, List, [], map, length, get_or, All, IsPermutation, Option, Some, None, option_to_list}
 use Rattle.std.specs.List.{flat_map, list_any}
 use Rattle.tgap_model.specs.declared.geometry.Window.{Window}
 use Rattle.tgap_model.specs.declared.slice.Edge.{Edge}

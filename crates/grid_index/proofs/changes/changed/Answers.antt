@@ -5,7 +5,7 @@ use Rattle.std.proofs.lemmas.List.Kept.{IsNonDecreasingBy-filter}
 use Rattle.tgap_model.specs.declared.slice.Edge.{Edge}
 use Rattle.grid_index.specs.Live.{keys, without_keys}
 use Rattle.grid_index.specs.Changes.{is_new}
-use Rattle.grid_index.proofs.Placing.{each_key, come_stay, ended_is, all_apart}
+use Rattle.grid_index.proofs.Placing.{each_key, come_stay, ended_is}
 use Rattle.grid_index.proofs.changes.changed.Goals as goal
 
 pub changed_in_place-requires-clause-ended : goal.changed_in_place-requires-clause-ended

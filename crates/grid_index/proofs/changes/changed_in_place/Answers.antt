@@ -1,4 +1,4 @@
-use Rattle.std.proofs.Common.{◌<◌, ◌++◌, List, AllPairs, All, Contains, IsPermutation, sym, ap, ◌∙◌, subst, subst₂}
+use Rattle.std.proofs.Common.{◌<◌, ◌++◌, List, AllPairs, All, Contains, IsPermutation, sym, ap, ◌∙◌, subst}
 use Rattle.tgap_model.specs.declared.slice.Edge.{Edge}
 use Rattle.grid_index.specs.Live.{keys, without_keys}
 use Rattle.grid_index.proofs.Placing.{ascend_alike, changed_same, ascend_without}

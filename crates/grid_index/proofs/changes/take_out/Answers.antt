@@ -1,4 +1,4 @@
-use Rattle.std.proofs.Common.{◌≡◌, ◌<◌, ℕ, List, [], true, false, length, sym, ap, ◌∙◌, arith, rules}
+use Rattle.std.proofs.Common.{◌≡◌, ◌<◌, ℕ, List, true, false, length, sym, ap, ◌∙◌, arith, rules}
 use Rattle.grid_index.specs.Live.{without_keys}
 use Rattle.grid_index.proofs.Placing.{none_tested, without_none, IsSwept-start, IsSwept-go, IsSwept-stay, IsSwept-same, IsSwept-end}
 use Rattle.grid_index.proofs.changes.take_out.Goals.{then-not-is_next, else-not-is_next}

@@ -5,7 +5,7 @@ use Rattle.tgap_model.specs.declared.geometry.Window.{Window}
 use Rattle.tgap_model.specs.declared.slice.Edge.{Edge}
 use Rattle.grid_index.specs.declared.segments.TheConstants.{NOWHERE}
 use Rattle.grid_index.specs.Boxes.{segment_box}
-use Rattle.grid_index.specs.Slots.{no_edge, edge_at, entry_of, AreNear}
+use Rattle.grid_index.specs.Slots.{no_edge, entry_of, AreNear}
 use Rattle.grid_index.proofs.Sought.{no_point, near_found, near_none}
 use Rattle.grid_index.proofs.entries.box_of_key.Goals as goal
 

@@ -1,9 +1,9 @@
-use Rattle.std.proofs.Common.{◌≡◌, ◌<◌, ◌+◌, ℕ, List, Option, Some, None, length, sym, ap, ◌∙◌, subst, subst₂, arith}
-use Rattle.std.specs.Prelude.{IfSome, slice_set}
+use Rattle.std.proofs.Common.{◌<◌, ◌+◌, ℕ, List, Option, None, length, sym, ap, ◌∙◌, subst, subst₂, arith}
+use Rattle.std.specs.Prelude.{IfSome}
 use Rattle.std.proofs.lemmas.List.{length-set}
 use Rattle.grid_index.specs.declared.segments.Entry.{Entry}
 use Rattle.grid_index.specs.Slots.{IsBounded}
-use Rattle.grid_index.proofs.Emptied.{IsEmptied, IsEmptied-start, IsEmptied-pass, IsEmptied-clear, IsEmptied-leave, IsEmptied-end, IsEmptied-same}
+use Rattle.grid_index.proofs.Emptied.{IsEmptied, IsEmptied-start, IsEmptied-pass, IsEmptied-clear, IsEmptied-leave, IsEmptied-end}
 use Rattle.grid_index.proofs.slots.Slots.take_out.Goals.{then-has_key, else-has_key}
 use Rattle.grid_index.proofs.slots.Slots.take_out.Goals as goal
 
