@@ -77,7 +77,7 @@ entry_in slots h = unwrap_or (slot_at slots h.slot) no_entry
 -- ---- what the slots have that is near
 
 -- what a box holds that does not meet the area does not meet it
-none_near : (area up : Window) (k : ℕ) (boxes : List Window) → All (Covers up) boxes → meets area up ≡ false → boxes_near area k boxes ≡ []
+pub none_near : (area up : Window) (k : ℕ) (boxes : List Window) → All (Covers up) boxes → meets area up ≡ false → boxes_near area k boxes ≡ []
 none_near area up k [] h e = refl
 none_near area up k (b ∷ boxes) h e =
     let out : meets area b ≡ false = false_from_ne_true (meets area b) (λ m. true≢false (sym (meets_wider area up b (All-head (Covers up) b boxes h) m) ∙ e)) in

@@ -1,16 +1,14 @@
 -- What slots have, where one of them changes.
-use Rattle.std.proofs.Common.{◌≡◌, ◌≢◌, ◌⊎◌, inl, inr, ℕ, zero, suc, ◌+◌, ◌<◌, ◌≤◌, Bool, true, false, cond, List, [], ◌∷◌, ◌++◌, length, filter, get_or, take, drop, replicate, All, IsPermutation, Option, Some, None, refl, sym, ap, ap₂, ◌∙◌, subst, subst₂, append_assoc, true≢false, arith}
-use Rattle.std.specs.Prelude.{option_to_list, option_map, slice_set, is_some, IfNone, not, ◌==◌}
-use Rattle.std.specs.List.{list_any}
+use Rattle.std.proofs.Common.{◌≡◌, ◌≢◌, ◌⊎◌, inl, inr, ℕ, zero, suc, ◌+◌, ◌<◌, ◌≤◌, Bool, true, false, List, [], ◌∷◌, ◌++◌, length, get_or, take, replicate, All, IsPermutation, Option, Some, None, refl, sym, ap, ap₂, ◌∙◌, subst, subst₂, append_assoc, true≢false, arith}
+use Rattle.std.specs.Prelude.{option_to_list, slice_set, is_some, IfNone, not}
 use Rattle.std.proofs.lemmas.Grind.{flat_map-append}
-use Rattle.std.proofs.lemmas.List.{append-nil, take_all, take_more, drop_more, take_more_set, drop-set-lt, length-set, length-append, length-replicate, get_or_append_left, get_or_push}
+use Rattle.std.proofs.lemmas.List.{append-nil, take_all, take_more, take_more_set, length-set, length-append, length-replicate, get_or_append_left, get_or_push}
 use Rattle.std.proofs.lemmas.Bool.{cases_lt}
-use Rattle.std.proofs.lemmas.List.Elements.{filter-append}
 use Rattle.std.proofs.lemmas.List.Sorted.{IsPermutation-trans, IsPermutation-append, IsPermutation-append_comm, IsPermutation-append_left, IsPermutation-append_right, length_permutation}
 use Rattle.tgap_model.specs.declared.geometry.Window.{Window}
 use Rattle.grid_index.specs.declared.segments.Entry.{Entry}
 use Rattle.grid_index.specs.Boxes.{Covers}
-use Rattle.grid_index.specs.Slots.{held, slot_at, stays, IsBounded, IsChanged}
+use Rattle.grid_index.specs.Slots.{held, slot_at, IsBounded}
 
 -- two rows exchanged, with a third behind them
 pub rows_exchanged : {A : Type 0} (xs ys zs : List A) → IsPermutation (xs ++ (ys ++ zs)) (ys ++ (xs ++ zs))
@@ -54,81 +52,9 @@ slot_within [] i e h = absurd cc
 slot_within (x ∷ xs) zero e h = omega arith
 slot_within (x ∷ xs) (suc i) e h = let r = slot_within xs i e h in omega arith
 
--- what has one of the keys does not stay, and what has none does
-pub gone_is_out : (gone : List ℕ) (slot : Option Entry) (key : ℕ) → option_map (λ e. e.key) slot ≡ Some key → list_any (λ k. k == key) gone ≡ true → filter (stays gone) (option_to_list slot) ≡ []
-gone_is_out gone None key is h = absurd cc
-gone_is_out gone (Some e) key is h =
-    let same : e.key ≡ key = cc in
-    ap (λ (t : Bool). cond (not t) (e ∷ []) []) (ap (λ (n : ℕ). list_any (λ k. k == n) gone) same ∙ h)
-
-pub stays_is_in : (gone : List ℕ) (slot : Option Entry) (key : ℕ) → option_map (λ e. e.key) slot ≡ Some key → list_any (λ k. k == key) gone ≡ false → filter (stays gone) (option_to_list slot) ≡ option_to_list slot
-stays_is_in gone None key is h = refl
-stays_is_in gone (Some e) key is h =
-    let same : e.key ≡ key = cc in
-    ap (λ (t : Bool). cond (not t) (e ∷ []) []) (ap (λ (n : ℕ). list_any (λ k. k == n) gone) same ∙ h)
-
--- ---- one slot after the other
-
--- the slots before a place are done, and the others are as they were
-pub record IsRenewed (gone : List ℕ) (old come : List (Option Entry)) (i : ℕ) (new left : List (Option Entry)) : Type 0 where
-  pub moved : IsPermutation (filter (stays gone) (held (take i old)) ++ held come) (held (take i new) ++ held left)
-  pub rest : drop i new ≡ drop i old
-  pub long : length new ≡ length old
-  pub keys : length left ≡ length come
-
+-- one slot more
 held_more : (xs : List (Option Entry)) (i : ℕ) → i < length xs → held (take (i + 1) xs) ≡ held (take i xs) ++ option_to_list (slot_at xs i)
 held_more xs i l = ap held (take_more xs i None l) ∙ held-append (take i xs) (slot_at xs i ∷ []) ∙ ap (λ ys. held (take i xs) ++ ys) (append-nil (option_to_list (slot_at xs i)))
-
-head_is : (xs ys : List (Option Entry)) (i : ℕ) → i < length xs → i < length ys → drop i xs ≡ drop i ys → slot_at xs i ≡ slot_at ys i
-head_is xs ys i l m e = ap (λ (zs : List (Option Entry)). get_or zs 0 None) (sym (drop_more xs i None l) ∙ e ∙ drop_more ys i None m)
-
-rest_is : (xs ys : List (Option Entry)) (i : ℕ) → i < length xs → i < length ys → drop i xs ≡ drop i ys → drop (i + 1) xs ≡ drop (i + 1) ys
-rest_is xs ys i l m e = ap (λ (zs : List (Option Entry)). drop 1 zs) (sym (drop_more xs i None l) ∙ e ∙ drop_more ys i None m)
-
-pub IsRenewed-next : (gone : List ℕ) (old come : List (Option Entry)) (i : ℕ) (new left newer less : List (Option Entry)) → i < length old → IsRenewed gone old come i new left
-    → IsChanged gone i new newer left less → length less ≡ length left → IsRenewed gone old come (i + 1) newer less
-IsRenewed-next gone old come i new left newer less l r h n = record {
-  moved = subst₂ IsPermutation before after moved;
-  rest = ap (drop (i + 1)) h.new_is ∙ drop-set-lt (i + 1) new i h.next (omega arith) ∙ rest_is new old i short l r.rest;
-  long = ap length h.new_is ∙ length-set new i h.next ∙ r.long;
-  keys = n ∙ r.keys;
-}
-  where
-    short : i < length new
-    short = let e = r.long in omega arith
-
-    F : List Entry
-    F = filter (stays gone) (held (take i old))
-
-    f : List Entry
-    f = filter (stays gone) (option_to_list (slot_at new i))
-
-    H : List Entry
-    H = held (take i new)
-
-    o : List Entry
-    o = option_to_list h.next
-
-    step : IsPermutation (f ++ (F ++ held come)) (H ++ (o ++ held less))
-    step =
-        IsPermutation-trans (f ++ (F ++ held come)) (f ++ (H ++ held left)) (H ++ (o ++ held less)) (IsPermutation-append_right f (F ++ held come) (H ++ held left) r.moved)
-        (IsPermutation-trans (f ++ (H ++ held left)) (H ++ (f ++ held left)) (H ++ (o ++ held less)) (rows_exchanged f H (held left))
-        (IsPermutation-append_right H (f ++ held left) (o ++ held less) h.moved))
-
-    moved : IsPermutation ((F ++ f) ++ held come) ((H ++ o) ++ held less)
-    moved = subst₂ IsPermutation refl (sym (append_assoc H o (held less)))
-        (IsPermutation-trans ((F ++ f) ++ held come) (f ++ (F ++ held come)) (H ++ (o ++ held less))
-        (subst (λ xs. IsPermutation xs (f ++ (F ++ held come))) (sym (append_assoc F f (held come))) (rows_exchanged F f (held come))) step)
-
-    before : (F ++ f) ++ held come ≡ filter (stays gone) (held (take (i + 1) old)) ++ held come
-    before = ap (λ xs. xs ++ held come)
-        (ap (λ (x : Option Entry). F ++ filter (stays gone) (option_to_list x)) (head_is new old i short l r.rest)
-        ∙ sym (ap (filter (stays gone)) (held_more old i l) ∙ filter-append (stays gone) (held (take i old)) (option_to_list (slot_at old i))))
-
-    after : (H ++ o) ++ held less ≡ held (take (i + 1) newer) ++ held less
-    after = ap (λ xs. xs ++ held less)
-        (sym (ap (λ (zs : List (Option Entry)). held (take (i + 1) zs)) h.new_is ∙ ap held (take_more_set new i h.next short) ∙ held-append (take i new) (h.next ∷ [])
-        ∙ ap (λ ys. H ++ ys) (append-nil o)))
 
 -- ---- what comes goes into empty slots
 

@@ -12,4 +12,7 @@ pub mod KeyLists
 pub mod Finding
 pub mod Merging
 pub mod Living
+pub mod Placing
+pub mod Emptied
+pub mod Sought
 pub mod Skipping

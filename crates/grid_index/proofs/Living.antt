@@ -1,7 +1,7 @@
 -- The slots of a list of edges, and how both change.
 use Rattle.std.proofs.Common.{◌≡◌, ◌≢◌, inl, inr, ℕ, suc, ◌+◌, ◌<◌, ◌≤◌, Bool, true, false, cond, not, ◌==◌, ◌||◌, List, [], ◌∷◌, ◌++◌, length, filter, map, get_or, take, All, AllPairs, Contains, IsPermutation, Option, Some, refl, sym, ap, ap₂, ◌∙◌, subst, subst₂, true≢false, arith}
 use Rattle.std.specs.List.{flat_map, list_any, range_with_len}
-use Rattle.std.specs.List.Sorted.{IsNonDecreasingBy}
+use Rattle.std.specs.List.Sorted.{IsNonDecreasing, IsNonDecreasingBy}
 use Rattle.std.proofs.lemmas.Bool.Decides.{nat_tests}
 use Rattle.std.proofs.lemmas.List.{take_more, map_push, get_or-map, length-map, map-append, get_or_default}
 use Rattle.std.proofs.lemmas.List.Elements.{All-head, All-tail, All-append, All-filter}
@@ -13,9 +13,10 @@ use Rattle.tgap_model.specs.declared.slice.Edge.{Edge}
 use Rattle.lemmas.proofs.Members.{in_cases, AllPairs-head, AllPairs-tail, Contains-from_map, filter_agree_on}
 use Rattle.lemmas.proofs.Permutations.{IsPermutation-filter}
 use Rattle.lemmas.proofs.Sorting.{AllPairs-permutation}
+use Rattle.grid_index.specs.declared.keys.KeyBox.{KeyBox}
 use Rattle.grid_index.specs.declared.segments.Entry.{Entry}
 use Rattle.grid_index.specs.Live.{near_segments, keys, without_keys, AreLive, IsLiveEdge}
-use Rattle.grid_index.specs.Slots.{held, stays, no_edge, entry_of, edge_at, entry_near, IsIndexed}
+use Rattle.grid_index.specs.Slots.{held, stays, no_edge, entry_of, edge_at, entry_near, is_near, AreNear, IsIndexed}
 use Rattle.grid_index.proofs.Ordering.{map-filter}
 use Rattle.grid_index.proofs.Holding.{held-append}
 
@@ -167,3 +168,16 @@ IsIndexed-changed gone edges come new slots newer live alive h moved changed up 
       (IsPermutation-trans (map entry_of (without_keys gone edges) ++ map entry_of come) (filter (stays gone) (held slots) ++ map entry_of come) (held newer)
       (IsPermutation-append_left (map entry_of come) (map entry_of (without_keys gone edges)) (filter (stays gone) (held slots)) (stay_held gone edges slots h)) moved));
 }
+
+-- ---- what is sought
+
+pub keys_rise : (edges : List Edge) → IsNonDecreasingBy (λ e. e.key) edges → IsNonDecreasing (keys edges)
+keys_rise edges up i j d le l =
+    let f : Edge → ℕ = λ e. e.key in
+    let short : j < length edges = omega (arith, l, length-map edges f) in
+    subst₂ (λ (m n : ℕ). m ≤ n) (sym (get_or-map f edges i no_edge d (omega arith))) (sym (get_or-map f edges j no_edge d short)) (up i j no_edge le short)
+
+pub all_near : (sought : List KeyBox) (entries held0 held1 : List Entry) → IsPermutation entries held0 → held1 ≡ held0 → All (λ s. AreNear s.area s.key entries) sought → All (λ s. AreNear s.area s.key held1) sought
+all_near sought entries held0 held1 moved same near k d l =
+    let s = get_or sought k d in
+    subst (AreNear s.area s.key) (sym same) (All-permutation (λ (e : Entry). e.key ≡ s.key → is_near s.area e ≡ true) entries held0 moved (near k d l))

@@ -5,3 +5,4 @@ pub mod Picked
 pub mod Live
 pub mod Slots
 pub mod Merged
+pub mod Changes

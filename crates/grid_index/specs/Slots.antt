@@ -1,5 +1,5 @@
 -- The boxes of edges, in slots.
-use Rattle.std.specs.Prelude.{◌≡◌, ℕ, ◌==◌, ◌++◌, nat_eq, filter, not, Bool, List, [], map, length, get_or, slice_set, All, IsPermutation, Option, Some, None, option_to_list}
+use Rattle.std.specs.Prelude.{◌≡◌, ℕ, ◌==◌, nat_eq, not, Bool, true, false, List, [], map, length, get_or, All, IsPermutation, Option, Some, None, option_to_list}
 use Rattle.std.specs.List.{flat_map, list_any}
 use Rattle.tgap_model.specs.declared.geometry.Window.{Window}
 use Rattle.tgap_model.specs.declared.slice.Edge.{Edge}
@@ -34,6 +34,11 @@ held slots = flat_map option_to_list slots
 abbrev pub slot_at : List (Option Entry) → ℕ → Option Entry
 slot_at slots i = get_or slots i None
 
+-- what a slot has is under this key
+abbrev pub has_key : ℕ → Option Entry → Bool
+has_key key None = false
+has_key key (Some e) = key == e.key
+
 -- what the slots of these places have, in their order
 abbrev pub taken : List (Option Entry) → List ℕ → List Entry
 taken slots places = flat_map (λ i. option_to_list (slot_at slots i)) places
@@ -41,6 +46,10 @@ taken slots places = flat_map (λ i. option_to_list (slot_at slots i)) places
 -- a segment of it has a box that meets the area
 abbrev pub is_near : Window → Entry → Bool
 is_near area e = not (nat_eq (length (near_boxes area e.boxes)) 0)
+
+-- what has this key is near the area
+abbrev pub AreNear : Window → ℕ → List Entry → Type 0
+AreNear area key entries = All (λ e. e.key ≡ key → is_near area e ≡ true) entries
 
 -- the key of the entry is not among these
 abbrev pub stays : List ℕ → Entry → Bool
@@ -54,13 +63,6 @@ pub record IsBounded (slots : List (Option Entry)) (row : List Window) : Type 0 
 -- the slots of a row that have something, each by the key of what it has
 pub record IsHolder (slots : List (Option Entry)) (holder : Holder) : Type 0 where
   pub is : (e : Entry) × (slot_at slots holder.slot ≡ Some e) × (holder.key ≡ e.key)
-
--- one slot has something else, or nothing: what it had stays if its key is not among these, and else it is taken from what
--- comes
-pub record IsChanged (gone : List ℕ) (place : ℕ) (old new come left : List (Option Entry)) : Type 0 where
-  pub next : Option Entry
-  pub new_is : new ≡ slice_set old place next
-  pub moved : IsPermutation (filter (stays gone) (option_to_list (slot_at old place)) ++ held come) (option_to_list next ++ held left)
 
 -- the slots have these edges
 pub record IsIndexed (edges : List Edge) (slots : List (Option Entry)) : Type 0 where

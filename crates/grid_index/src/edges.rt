@@ -4,7 +4,7 @@ ghost use Rattle.std.specs.Prelude.{◌≡◌, ◌≢◌, ◌<◌, ◌≤◌, �
 ghost use Rattle.std.specs.Vec.{vec_capacity, vec_len};
 ghost use Rattle.std.specs.List.Sorted.{IsNonDecreasing, IsNonDecreasingBy};
 ghost use Rattle.tgap_model.specs.declared.slice.Edge.{Edge as Line};
-ghost use Rattle.grid_index.specs.Live.{without_keys};
+ghost use Rattle.grid_index.specs.Live.{keys, without_keys};
 ghost use Rattle.grid_index.specs.Merged.{in_order, IsFront};
 
 use crate::keys::is_among;
@@ -53,7 +53,7 @@ pub fn by_key(edges: List<Edge>) -> Vec<Edge>
 
 /// Their keys.
 pub fn keys_of(alloc: Global, edges: &[Edge]) -> Result<Vec<u32>, Memory>
-    ensures { IfOk result (λ keys. length keys.items ≡ length edges.now) }
+    ensures { IfOk result (λ found. found.items ≡ keys edges.now) }
 {
     let mut keys = Vec::with_capacity(alloc, edges.len())?;
     for edge in edges {
@@ -95,7 +95,7 @@ fn push_all(changed: &mut Vec<Edge>, come: Vec<Edge>)
 
 /// The edges whose keys are not among these, and those that come, in order of key. The keys of both lists descend. There is
 /// room for all.
-fn merged(rest: Vec<Edge>, gone: &[u32], come: Vec<Edge>, room: Vec<Edge>) -> Vec<Edge>
+fn interleaved(rest: Vec<Edge>, gone: &[u32], come: Vec<Edge>, room: Vec<Edge>) -> Vec<Edge>
     requires gone { IsNonDecreasing gone.now }
     requires rest { AllPairs (λ e f. f.key < e.key) rest.items }
     requires come { AllPairs (λ e f. f.key < e.key) come.items }
@@ -119,7 +119,7 @@ fn merged(rest: Vec<Edge>, gone: &[u32], come: Vec<Edge>, room: Vec<Edge>) -> Ve
 
 /// The edges whose keys are not among these, and those that come, in order of key. The keys of what comes ascend. There is
 /// room for all.
-pub fn changed(edges: List<Edge>, gone: &[u32], come: Vec<Edge>, room: Vec<Edge>) -> List<Edge>
+pub fn merged(edges: List<Edge>, gone: &[u32], come: Vec<Edge>, room: Vec<Edge>) -> List<Edge>
     requires gone { IsNonDecreasing gone.now }
     requires edges { AllPairs (λ e f. e.key < f.key) edges }
     requires come { AllPairs (λ e f. e.key < f.key) come.items }
@@ -133,5 +133,5 @@ pub fn changed(edges: List<Edge>, gone: &[u32], come: Vec<Edge>, room: Vec<Edge>
     rest.reverse();
     let mut come = come;
     come.reverse();
-    List::from(merged(rest, gone, come, room))
+    List::from(interleaved(rest, gone, come, room))
 }

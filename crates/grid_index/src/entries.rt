@@ -1,11 +1,14 @@
 //! The boxes of edges, in their order or in one in which near ones stand beside one another.
 
-ghost use Rattle.std.specs.Prelude.{◌≡◌, ◌<◌, length, map, All, IfOk, IsPermutation};
-ghost use Rattle.grid_index.specs.Live.{IsLiveEdge};
-ghost use Rattle.grid_index.specs.Slots.{held, entry_of, edge_at};
+ghost use Rattle.std.specs.Prelude.{◌≡◌, ◌<◌, length, map, All, AllPairs, IfOk, IsPermutation};
+ghost use Rattle.grid_index.specs.Live.{AreLive, IsLiveEdge};
+ghost use Rattle.grid_index.specs.Slots.{held, entry_of, edge_at, AreNear};
 
+use crate::changes::place_of;
+use crate::keys::KeyBox;
 use crate::order::order_of;
 use crate::segments::{Entry, NOWHERE};
+use crate::window::segment_box;
 use std::alloc::Global;
 use tgap_model::{Edge, List, Memory, Point, Window};
 
@@ -58,6 +61,37 @@ fn entries_at(alloc: Global, edges: &[Edge], places: &[usize]) -> Result<Vec<Opt
         entries.push(Some(Entry::of(alloc, &edges[*place])?))?;
     }
     Ok(entries)
+}
+
+/// A box that meets that of a segment of the edge with this key, among edges whose keys ascend.
+fn box_of_key(edges: &[Edge], key: u32) -> Window
+    requires ascending { AllPairs (λ e f. e.key < f.key) edges.now }
+    requires live { All IsLiveEdge edges.now }
+    ensures { AreNear result key (map entry_of edges.now) }
+{
+    match place_of(edges, key) {
+        Some(place) => {
+            let points = edges[place].points.as_slice();
+            segment_box(&points[0], &points[1])
+        }
+        None => NOWHERE,
+    }
+}
+
+/// Each of these keys with such a box.
+pub fn boxes_of_keys(alloc: Global, edges: &[Edge], keys: &[u32]) -> Result<Vec<KeyBox>, Memory>
+    requires { AreLive edges.now }
+    ensures keys { IfOk result (λ sought. map (λ s. s.key) sought.items ≡ keys.now) }
+    ensures near { IfOk result (λ sought. All (λ s. AreNear s.area s.key (map entry_of edges.now)) sought.items) }
+{
+    let mut sought = Vec::with_capacity(alloc, keys.len())?;
+    for key in keys {
+        sought.push(KeyBox {
+            key: *key,
+            area: box_of_key(edges, *key),
+        })?;
+    }
+    Ok(sought)
 }
 
 /// The boxes of edges, near ones beside one another.

@@ -5,7 +5,14 @@ ghost use Rattle.std.specs.List.{list_any};
 ghost use Rattle.std.specs.List.Sorted.{IsNonDecreasing};
 
 use std::alloc::Global;
-use tgap_model::Memory;
+use tgap_model::{Memory, Window};
+
+/// The key of an edge, and a box that meets that of one of its segments.
+#[derive(Clone, Copy, Debug)]
+pub struct KeyBox {
+    pub key: u32,
+    pub area: Window,
+}
 
 /// The keys, ascending.
 pub fn ascending(alloc: Global, keys: &[u32]) -> Result<Vec<u32>, Memory>

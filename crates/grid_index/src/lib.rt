@@ -3,6 +3,7 @@
 #![tactic(auto)]
 
 mod boxes;
+mod changes;
 mod edges;
 mod entries;
 mod keys;

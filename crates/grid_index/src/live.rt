@@ -3,8 +3,9 @@
 ghost use Rattle.std.specs.Prelude.{◌≡◌, ◌≢◌, ◌++◌, Contains, IsPermutation, All, AllPairs, IfOk, OnOk, OnErr};
 ghost use Rattle.grid_index.specs.Live.{near_segments, keys, without_keys, AreLive, IsLiveEdge};
 
-use crate::edges::{by_key, changed, copied_edges, keys_of};
-use crate::entries::{entries_laid, entries_of};
+use crate::changes::{changed, keys_without, room_for};
+use crate::edges::{by_key, copied_edges, keys_of};
+use crate::entries::{boxes_of_keys, entries_laid, entries_of};
 use crate::keys::ascending;
 use crate::slots::Slots;
 use std::alloc::Global;
@@ -66,7 +67,8 @@ impl Live {
         self.slots.near(alloc, &area)
     }
 
-    /// Takes the edges with these keys out, and puts others in.
+    /// Takes the edges with these keys out, and puts others in. The time is that of what goes and comes, and where a key goes
+    /// for good also that of one pass over the list; a key that comes anew makes a new list.
     pub fn replace(
         &mut self,
         alloc: Global,
@@ -85,12 +87,14 @@ impl Live {
         let come = by_key(come);
         let entries = entries_of(alloc, &come)?;
         let keys = keys_of(alloc, &come)?;
+        let sought = boxes_of_keys(alloc, self.edges.as_slice(), &gone)?;
+        let ended = keys_without(alloc, &gone, &keys)?;
+        let room = room_for(alloc, self.edges.as_slice(), &keys)?;
         let count = self.edges.as_slice().len();
-        let room = Vec::with_capacity(alloc, count + come.len())?;
         self.slots.widen(alloc, count - gone.len() + come.len())?;
-        self.slots.replace(alloc, &gone, &keys, entries);
+        self.slots.replace(alloc, &sought, &keys, entries)?;
         let edges = mem::replace(&mut self.edges, List::new(alloc));
-        self.edges = changed(edges, &gone, come, room);
+        self.edges = changed(edges, &gone, &ended, come, room);
         Ok(())
     }
 }

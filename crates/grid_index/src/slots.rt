@@ -1,15 +1,15 @@
 //! Slots for the boxes of edges, with a tree over them. What comes takes the slot of what goes.
 
-ghost use Rattle.std.specs.Prelude.{◌≡◌, ◌<◌, ◌≤◌, ◌+◌, ◌++◌, [], List, length, map, filter, slice_set, replicate, Some, None, Option, option_map, option_to_list, All, AllPairs, IfOk, OnOk, IfNone, IsPermutation};
+ghost use Rattle.std.specs.Prelude.{◌≡◌, ◌<◌, ◌≤◌, ◌+◌, ◌++◌, [], List, length, map, filter, slice_set, replicate, Some, None, Option, option_to_list, ◌∷◌, All, AllPairs, IfOk, OnOk, OnErr, IfNone, IfSome, IsPermutation};
 ghost use Rattle.std.specs.Vec.{vec_capacity, vec_len};
 ghost use Rattle.std.specs.List.{flat_map};
-ghost use Rattle.std.specs.List.Sorted.{IsNonDecreasing, IsNonDecreasingBy};
+ghost use Rattle.std.specs.List.Sorted.{IsNonDecreasingBy};
 ghost use Rattle.grid_index.specs.declared.segments.Entry.{Entry as Held};
 ghost use Rattle.grid_index.specs.Boxes.{Covers};
-ghost use Rattle.grid_index.specs.Slots.{held, slot_at, taken, stays, is_near, entry_near, IsBounded, IsHolder, IsChanged};
+ghost use Rattle.grid_index.specs.Slots.{held, slot_at, taken, stays, has_key, is_near, entry_near, AreNear, IsBounded, IsHolder};
 
 use crate::boxes::copied;
-use crate::keys::is_among;
+use crate::keys::KeyBox;
 use crate::live::SegmentPlace;
 use crate::segments::{Entry, NOWHERE};
 use crate::tree::BoxTree;
@@ -151,14 +151,14 @@ impl Slots {
         self.slots[place] = entry;
     }
 
-    /// The key of what a slot has.
-    fn key_at(&self, place: usize) -> Option<u32>
+    /// Whether what a slot has is under this key.
+    fn has_key(&self, place: usize, key: u32) -> bool
         requires { place < length self.now }
-        ensures { result ≡ option_map (λ e. e.key) (slot_at self.now place) }
+        ensures { result ≡ has_key key (slot_at self.now place) }
     {
         match &self.slots[place] {
-            Some(entry) => Some(entry.key),
-            None => None,
+            Some(entry) => key == entry.key,
+            None => false,
         }
     }
 
@@ -178,40 +178,107 @@ impl Slots {
         Ok(())
     }
 
-    /// Where the key of what a slot has is among those that go, the slot is given to what comes under the same key, or
-    /// emptied.
-    fn renew_slot(
-        &mut self,
-        alloc: Global,
-        place: usize,
-        gone: &[u32],
-        keys: &[u32],
-        come: &mut Vec<Option<Entry>>,
-    )
-        requires place { place < length self.old }
-        requires ascending { IsNonDecreasing gone.now }
-        requires keys { length keys.now ≡ length come.old.items }
-        ensures changed { IsChanged gone.now place self.old self.new come.old.items come.new.items }
-        ensures len { length come.new.items ≡ length come.old.items }
+    /// Empties a slot. The box over it stays as it is, which is right for an empty slot too.
+    fn clear(&mut self, place: usize)
+        requires { place < length self.old }
+        ensures { self.new ≡ slice_set self.old place None }
     {
-        let Some(key) = self.key_at(place) else {
-            return;
-        };
-        if is_among(gone, key) {
-            let next = take_by_key(keys, come, key);
-            self.put(alloc, place, next);
+        self.slots[place] = None;
+    }
+
+    /// Empties the slot with this key, of which a segment meets the area, and tells where it is.
+    fn take_out(&mut self, sought: &KeyBox) -> Option<usize>
+        requires { AreNear sought.now.area sought.now.key (held self.old) }
+        ensures held { held self.new ≡ filter (stays (sought.now.key ∷ [])) (held self.old) }
+        ensures len { length self.new ≡ length self.old }
+        ensures within { IfSome result (λ i. i < length self.new) }
+    {
+        let mut found = None;
+        let mut at = self.bounds.next(&sought.area, 0);
+        'walk: while at < self.slots.len() {
+            if self.has_key(at, sought.key) {
+                self.clear(at);
+                found = Some(at);
+            }
+            at = self.bounds.next(&sought.area, at + 1);
+        }
+        found
+    }
+
+    /// Empties the slots with these keys, and puts them after those of `freed`, for which there is room.
+    fn take_all_out(&mut self, sought: &[KeyBox], freed: &mut Vec<Holder>)
+        requires near { All (λ s. AreNear s.area s.key (held self.old)) sought.now }
+        requires room { vec_len freed.old + length sought.now ≤ vec_capacity freed.old }
+        requires within { All (λ h. h.slot < length self.old) freed.old.items }
+        ensures held { held self.new ≡ filter (stays (map (λ s. s.key) sought.now)) (held self.old) }
+        ensures len { length self.new ≡ length self.old }
+        ensures within { All (λ h. h.slot < length self.new) freed.new.items }
+    {
+        for one in sought {
+            if let Some(slot) = self.take_out(one) {
+                freed.push_reserved(Holder { key: one.key, slot });
+            }
         }
     }
 
-    /// Gives the slots of what goes to what comes under the same keys, and empties the others of them.
-    fn renew(&mut self, alloc: Global, gone: &[u32], keys: &[u32], come: &mut Vec<Option<Entry>>)
-        requires ascending { IsNonDecreasing gone.now }
+    /// Gives a slot, if it is empty, to what comes under the key that it had.
+    fn give_back(
+        &mut self,
+        alloc: Global,
+        holder: &Holder,
+        keys: &[u32],
+        come: &mut Vec<Option<Entry>>,
+    )
+        requires place { holder.now.slot < length self.old }
         requires keys { length keys.now ≡ length come.old.items }
-        ensures moved { IsPermutation (filter (stays gone.now) (held self.old) ++ held come.old.items) (held self.new ++ held come.new.items) }
+        ensures moved { IsPermutation (held self.old ++ held come.old.items) (held self.new ++ held come.new.items) }
+        ensures len { length self.new ≡ length self.old }
+        ensures keys { length come.new.items ≡ length come.old.items }
+    {
+        if self.slots[holder.slot].is_none() {
+            let entry = take_by_key(keys, come, holder.key);
+            self.put(alloc, holder.slot, entry);
+        }
+    }
+
+    /// Gives the slots that were freed to what comes under their keys.
+    fn give_all_back(
+        &mut self,
+        alloc: Global,
+        freed: &[Holder],
+        keys: &[u32],
+        come: &mut Vec<Option<Entry>>,
+    )
+        requires places { All (λ h. h.slot < length self.old) freed.now }
+        requires keys { length keys.now ≡ length come.old.items }
+        ensures moved { IsPermutation (held self.old ++ held come.old.items) (held self.new ++ held come.new.items) }
         ensures len { length self.new ≡ length self.old }
     {
-        for place in 0..self.slots.len() {
-            self.renew_slot(alloc, place, gone, keys, come);
+        for holder in freed {
+            self.give_back(alloc, holder, keys, come);
+        }
+    }
+
+    /// Gives a slot, if it is empty, to what comes next.
+    fn give_on(&mut self, alloc: Global, place: usize, come: &mut Vec<Option<Entry>>)
+        requires { place < length self.old }
+        ensures moved { IsPermutation (held self.old ++ held come.old.items) (held self.new ++ held come.new.items) }
+        ensures len { length self.new ≡ length self.old }
+    {
+        if self.slots[place].is_none() {
+            let entry = pop_entry(come);
+            self.put(alloc, place, entry);
+        }
+    }
+
+    /// Gives the slots that were freed and are still empty to what else comes.
+    fn give_all_on(&mut self, alloc: Global, freed: &[Holder], come: &mut Vec<Option<Entry>>)
+        requires { All (λ h. h.slot < length self.old) freed.now }
+        ensures moved { IsPermutation (held self.old ++ held come.old.items) (held self.new ++ held come.new.items) }
+        ensures len { length self.new ≡ length self.old }
+    {
+        for holder in freed {
+            self.give_on(alloc, holder.slot, come);
         }
     }
 
@@ -233,17 +300,28 @@ impl Slots {
         }
     }
 
-    /// Takes out what has one of these keys, which ascend, and puts in what comes, for which there is room. The keys of what
-    /// comes stand beside it.
-    pub fn replace(&mut self, alloc: Global, gone: &[u32], keys: &[u32], come: Vec<Option<Entry>>)
-        requires ascending { IsNonDecreasing gone.now }
+    /// Takes out what has one of these keys, and puts in what comes, for which there is room. The keys of what comes stand
+    /// beside it. The time is that of what goes and comes, where no more comes than goes.
+    pub fn replace(
+        &mut self,
+        alloc: Global,
+        sought: &[KeyBox],
+        keys: &[u32],
+        come: Vec<Option<Entry>>,
+    ) -> Result<(), Memory>
+        requires near { All (λ s. AreNear s.area s.key (held self.old)) sought.now }
         requires keys { length keys.now ≡ length come.items }
-        requires room { length (filter (stays gone.now) (held self.old)) + length (held come.items) ≤ length self.old }
-        ensures { IsPermutation (filter (stays gone.now) (held self.old) ++ held come.items) (held self.new) }
+        requires room { length (filter (stays (map (λ s. s.key) sought.now)) (held self.old)) + length (held come.items) ≤ length self.old }
+        ensures ok { OnOk result (IsPermutation (filter (stays (map (λ s. s.key) sought.now)) (held self.old) ++ held come.items) (held self.new)) }
+        ensures err { OnErr result (self.new ≡ self.old) }
     {
+        let mut freed = Vec::with_capacity(alloc, sought.len())?;
         let mut come = come;
-        self.renew(alloc, gone, keys, &mut come);
+        self.take_all_out(sought, &mut freed);
+        self.give_all_back(alloc, &freed, keys, &mut come);
+        self.give_all_on(alloc, &freed, &mut come);
         self.fill(alloc, come);
+        Ok(())
     }
 
     /// The slots whose boxes meet the area and that have something, in order of key.

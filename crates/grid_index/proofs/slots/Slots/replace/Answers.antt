@@ -1,19 +1,40 @@
-use Rattle.std.proofs.Common.{◌++◌, filter, arith}
+use Rattle.std.proofs.Common.{◌++◌, List, length, IsPermutation, ap, subst, arith}
 use Rattle.std.proofs.lemmas.List.{length-append}
 use Rattle.std.proofs.lemmas.List.Sorted.{IsPermutation-trans, length_permutation}
-use Rattle.grid_index.specs.Slots.{held, stays}
+use Rattle.grid_index.specs.declared.segments.Entry.{Entry}
+use Rattle.grid_index.specs.Slots.{held}
 use Rattle.grid_index.proofs.slots.Slots.replace.Goals as goal
 
 pub fill-requires : goal.fill-requires
 fill-requires c =
-    let stay = filter (stays c.args.gone.now) (held c.args.self.now) in
     let come = held c.args.come.items in
-    let now = held c.renew.new.self in
-    let left = held c.renew.new.come.items in
-    let count = length_permutation (stay ++ come) (now ++ left) c.renew.ensures.moved in
-    omega (arith, count, length-append stay come, length-append now left, c.requires.room, c.renew.ensures.len)
+    let one = held c.take_all_out.new.self in
+    let two = held c.give_all_back.new.self in
+    let left = held c.give_all_back.new.come.items in
+    let three = held c.give_all_on.new.self in
+    let rest = held c.give_all_on.new.come.items in
+    let first = length_permutation (one ++ come) (two ++ left) c.give_all_back.ensures.moved in
+    let then = length_permutation (two ++ left) (three ++ rest) c.give_all_on.ensures.moved in
+    omega (
+      arith,
+      first,
+      then,
+      length-append one come,
+      length-append two left,
+      length-append three rest,
+      ap (λ (es : List Entry). length es) c.take_all_out.ensures.held,
+      c.requires.room,
+      c.take_all_out.ensures.len,
+      c.give_all_back.ensures.len,
+      c.give_all_on.ensures.len,
+    )
 
-pub returns : goal.returns
-returns c =
-    let stay = filter (stays c.args.gone.now) (held c.args.self.now) in
-    IsPermutation-trans (stay ++ held c.args.come.items) (held c.renew.new.self ++ held c.renew.new.come.items) (held c.fill.new.self) c.renew.ensures.moved c.fill.ensures
+pub returns-clause-ok : goal.returns-clause-ok
+returns-clause-ok c =
+    let come = held c.args.come.items in
+    let one = held c.take_all_out.new.self in
+    let two = held c.give_all_back.new.self ++ held c.give_all_back.new.come.items in
+    let three = held c.give_all_on.new.self ++ held c.give_all_on.new.come.items in
+    let end = held c.fill.new.self in
+    subst (λ (es : List Entry). IsPermutation (es ++ come) end) c.take_all_out.ensures.held
+    (IsPermutation-trans (one ++ come) two end c.give_all_back.ensures.moved (IsPermutation-trans two three end c.give_all_on.ensures.moved c.fill.ensures))

@@ -2,7 +2,7 @@
 use Rattle.std.proofs.Common.{◌+◌, ◌≤◌, length}
 use Rattle.std.specs.Vec.{vec_capacity, vec_len}
 use Rattle.grid_index.proofs.Merging.{IsMerging}
-use Rattle.grid_index.proofs.edges.merged.Given as goal
+use Rattle.grid_index.proofs.edges.interleaved.Given as goal
 
 abbrev pub invariant-loop-edge : goal.invariant-loop-edge
 invariant-loop-edge l = record {
