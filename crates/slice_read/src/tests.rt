@@ -1,6 +1,6 @@
 //! The slices of two squares side by side, 10 wide and 10 high.
 
-use crate::{ReadFail, slice_at};
+use crate::{ReadFail, slice_at, window_at};
 use base_check::check;
 use edge_forest::Forest;
 use std::alloc::Global;
@@ -8,7 +8,7 @@ use std::test::Fail;
 use std::thread::Threads;
 use tgap_build::{Built, build};
 use tgap_model::{
-    Base, BaseArc, Checked, Edge, FaceRow, List, Memory, Or, Point, Rules, Transform,
+    Base, BaseArc, Checked, Edge, FaceRow, List, Memory, Or, Point, Rules, Transform, Window,
 };
 
 const LEFT: [(i64, i64); 4] = [(10, 10), (0, 10), (0, 0), (10, 0)];
@@ -139,6 +139,30 @@ fn one_face(rt: HostRuntime) -> Result<(), Fail> {
         (10, 10),
     ];
     assert!(rt; is_edge(ring, 0, 3, 0, &round));
+    Ok(())
+}
+
+#[test]
+fn a_window_on_the_right_square(rt: HostRuntime) -> Result<(), Fail> {
+    let built = built_squares(&rt, rt.alloc())?.ok_or("no map")?;
+    let area = Window {
+        x0: 12,
+        y0: 2,
+        x1: 30,
+        y1: 4,
+    };
+    let window = window_at(rt.alloc(), &built, 0, area)
+        .ok()
+        .ok_or("no window")?;
+    assert_eq!(rt; window.step, 0);
+    assert_eq!(rt;
+        window.faces.as_slice(),
+        [FaceRow { face: 2, class: 0 }].as_slice()
+    );
+    let [right] = window.edges.as_slice() else {
+        return Err("other edges".into());
+    };
+    assert!(rt; is_edge(right, 1, 2, 0, &RIGHT));
     Ok(())
 }
 
