@@ -1,2 +1,5 @@
 pub mod Rows
 pub mod Slices
+pub mod WindowBoxes
+pub mod WindowEdges
+pub mod WindowFaces

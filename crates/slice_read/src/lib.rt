@@ -14,12 +14,14 @@ ghost use Rattle.slice_read.specs.Reading.{HasAdjacentFaces, HasUnions};
 
 mod faces;
 mod fail;
+mod window;
 
 use faces::faces_at;
 pub use fail::ReadFail;
 use std::alloc::Global;
 use tgap_build::{Built, edges_of};
 use tgap_model::Slice;
+pub use window::window_at;
 
 /// The slice of a built map after k steps of its merge history: the faces that are live then, by number, and the edges
 /// between them, by key. There is none after more steps than the history has.

@@ -1,6 +1,6 @@
 //! The slices of two squares side by side, 10 wide and 10 high.
 
-use crate::{ReadFail, slice_at};
+use crate::{ReadFail, slice_at, window_at};
 use base_check::check;
 use edge_forest::Forest;
 use std::alloc::Global;
@@ -8,7 +8,7 @@ use std::test::Fail;
 use std::thread::Threads;
 use tgap_build::{Built, build};
 use tgap_model::{
-    Base, BaseArc, Checked, Edge, FaceRow, List, Memory, Or, Point, Rules, Transform,
+    Base, BaseArc, Checked, Edge, FaceRow, List, Memory, Or, Point, Rules, Slice, Transform, Window,
 };
 
 const LEFT: [(i64, i64); 4] = [(10, 10), (0, 10), (0, 0), (10, 0)];
@@ -139,6 +139,33 @@ fn one_face(rt: HostRuntime) -> Result<(), Fail> {
         (10, 10),
     ];
     assert!(rt; is_edge(ring, 0, 3, 0, &round));
+    Ok(())
+}
+
+/// Whether the window has the right square alone.
+fn is_right_square(window: &Slice) -> bool {
+    let [face] = window.faces.as_slice() else {
+        return false;
+    };
+    let [edge] = window.edges.as_slice() else {
+        return false;
+    };
+    window.step == 0 && face.face == 2 && is_edge(edge, 1, 2, 0, &RIGHT)
+}
+
+#[test]
+fn a_window_on_the_right_square(rt: HostRuntime) -> Result<(), Fail> {
+    let built = built_squares(&rt, rt.alloc())?.ok_or("no map")?;
+    let area = Window {
+        x0: 12,
+        y0: 2,
+        x1: 30,
+        y1: 4,
+    };
+    let window = window_at(rt.alloc(), &built, 0, area)
+        .ok()
+        .ok_or("no window")?;
+    assert!(rt; is_right_square(&window));
     Ok(())
 }
 
