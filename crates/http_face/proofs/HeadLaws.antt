@@ -66,8 +66,8 @@ front_has : (bytes : List ℕ) (h : RequestHead) → StartsWith bytes h → HasN
 front_has bytes h s none =
     let short : length (print_request h) ≤ 8192 = s.short in
     let whole : 8192 ≡ length (print_request h) + (8192 - length (print_request h)) = omega arith in
-    let front : take 8192 bytes ≡ print_request h ++ take (8192 - length (print_request h)) s.rest = 
-        ap (take 8192) s.reads.1 ∙ ap (λ n. take n (print_request h ++ s.rest)) whole ∙ take-append-add (print_request h) s.rest (8192 - length (print_request h)) in
+    let front : take 8192 bytes ≡ print_request h ++ take (8192 - length (print_request h)) s.rest =
+    ap (take 8192) s.reads.1 ∙ ap (λ n. take n (print_request h ++ s.rest)) whole ∙ take-append-add (print_request h) s.rest (8192 - length (print_request h)) in
     none h (take (8192 - length (print_request h)) s.rest) (s.reads.0, front)
 
 -- a whole head and no hope: the head has too many headers

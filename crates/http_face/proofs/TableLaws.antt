@@ -85,9 +85,10 @@ form_of : (r : Resource) (segments parameters : Row) → parameters_of r segment
 form_of r segments parameters h =
     let front = bind_some (after_word [] segments) (λ a. after_word (word_of r) a >>= λ b. if are_parameters (parameter_count r) b then Some b else None) parameters h in
     let word = bind_some (after_word (word_of r) front.0) (λ b. if are_parameters (parameter_count r) b then Some b else None) parameters front.2 in
-    let some = cond_some (are_parameters (parameter_count r) word.0) word.0 parameters word.2 in
-    (after_word_is [] segments front.0 front.1 ∙ ap (λ xs. [] ∷ xs) (after_word_is (word_of r) front.0 word.0 word.1) ∙ ap (λ xs. [] ∷ word_of r ∷ xs) some.1,
-    ap (are_parameters (parameter_count r)) (sym some.1) ∙ some.0)
+    let some = cond_some (are_parameters (parameter_count r) word.0) word.0 parameters word.2 in (
+      after_word_is [] segments front.0 front.1 ∙ ap (λ xs. [] ∷ xs) (after_word_is (word_of r) front.0 word.0 word.1) ∙ ap (λ xs. [] ∷ word_of r ∷ xs) some.1,
+      ap (are_parameters (parameter_count r)) (sym some.1) ∙ some.0,
+    )
 
 -- the row that is found has the parameters that are found
 pub found_is : (rows : List Resource) (segments : Row) (r : Resource) (parameters : Row) → find_in rows segments ≡ Some (r, parameters) → parameters_of r segments ≡ Some parameters
