@@ -1,5 +1,5 @@
 -- The row of a path, by the router and by the table.
-use Rattle.std.proofs.Common.{◌≡◌, ℕ, zero, suc, ◌<◌, if◌then◌else◌, Bool, true, false, codes, Fits, w8, List, [], ◌∷◌, ◌++◌, length, get_or, Option, Some, None, option_map, refl, sym, ap, ◌∙◌, subst, arith}
+use Rattle.std.proofs.Common.{◌≡◌, ℕ, zero, suc, if◌then◌else◌, true, codes, Fits, w8, List, [], ◌∷◌, ◌++◌, length, get_or, Option, Some, None, option_map, refl, sym, ap, ◌∙◌, subst, arith}
 use Rattle.std.specs.List.{join_with_byte}
 use Rattle.std.proofs.lemmas.Bool.{and_parts}
 use Rattle.std.proofs.lemmas.Option.{cond_some}
@@ -13,7 +13,7 @@ use Rattle.plain_io.proofs.Steps.{bind_some, after_word_is}
 use Rattle.http_face.specs.declared.request.Resource.{Resource}
 use Rattle.http_face.specs.declared.request.Resource.TheVariants as resource
 use Rattle.http_face.specs.Routes.{word_of, parameter_count, resources, segments_of, are_parameters, parameters_of, find_in}
-use Rattle.http_face.specs.Table.{the_rows, entry, Rows}
+use Rattle.http_face.specs.Table.{the_rows, entry}
 use Rattle.http_face.proofs.Seeking.{after, found_after, slots, AllParts, found_parameters, split_parts}
 
 -- ---- the rows after the front of each path
