@@ -1,5 +1,5 @@
 -- The headers that spans cover, one after another.
-use Rattle.std.proofs.Common.{◌≡◌, ℕ, ◌+◌, ◌<◌, ◌≤◌, Bool, true, false, codes, nat_lt, ◌||◌, List, [], ◌∷◌, ◌++◌, length, take, drop, get_or, map, filter, refl, sym, ap, ◌∙◌, arith, Option, Some, None, is_some, option_map, option_to_list, Err, suc, drop-cons}
+use Rattle.std.proofs.Common.{◌≡◌, ℕ, ◌<◌, ◌≤◌, Bool, true, false, codes, nat_lt, ◌||◌, List, [], ◌∷◌, ◌++◌, length, take, drop, get_or, map, filter, refl, sym, ap, ◌∙◌, arith, Option, Some, None, is_some, option_map, option_to_list, Err, suc, drop-cons}
 use Rattle.std.specs.List.{list_any}
 use Rattle.std.proofs.lemmas.List.{length-map, take-append-drop, map-append}
 use Rattle.std.proofs.lemmas.List.Elements.{filter-append}

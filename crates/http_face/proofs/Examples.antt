@@ -1,16 +1,16 @@
 -- The definitions on small cases.
 use Rattle.std.proofs.Common.{refl}
 use Rattle.std.specs.Prelude.{◌≡◌, pos, negsuc, ℕ, true, false, List, [], ◌∷◌, ◌++◌, codes, Some, None, Ok, Err}
-use Rattle.httparse.specs.Grammar.{RequestHead, Field, LineEnd, crlf, print_request, trim_ows}
+use Rattle.httparse.specs.Grammar.{RequestHead, crlf, print_request, trim_ows}
 use Rattle.std.specs.Fmt.{digits}
 use Rattle.std.specs.Str.{is_utf8, chars}
 use lib.Utf8.{encode}
 use Rattle.tgap_model.specs.Texts.{number_of}
-use Rattle.http_face.specs.declared.head.HeadEnds.TheVariants.{Whole, Bad}
+use Rattle.http_face.specs.declared.head.HeadEnds.TheVariants.{Whole}
 use Rattle.http_face.specs.declared.request.Allow.TheVariants.{Get, Post}
 use Rattle.http_face.specs.declared.request.Route.TheVariants as route
 use Rattle.http_face.specs.Heads.{Header, body_of, closes, ends_of}
-use Rattle.http_face.specs.Routes.{route_of, path_of}
+use Rattle.http_face.specs.Routes.{route_of}
 use Rattle.http_face.specs.Replies.{reply_text, memory_reply}
 
 -- ---- heads

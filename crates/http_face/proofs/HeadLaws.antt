@@ -3,7 +3,7 @@ use Rattle.std.proofs.Common.{◌≡◌, ◌≢◌, ℕ, ◌+◌, ◌-◌, ◌<�
 use Rattle.std.specs.List.{list_any}
 use Rattle.std.specs.Str.Parse.{digits_value}
 use Rattle.std.proofs.lemmas.Bool.{ltb-false}
-use Rattle.std.proofs.Math.Seq.{take-append-add}
+use Rattle.std.proofs.Math.Seq.{take-append-add, drop-append_seam}
 use Rattle.std.proofs.lemmas.List.{take-append-drop, take-append-le, append-nil, length-map}
 use Rattle.httparse.specs.Grammar.{RequestHead, print_request, ReadsRequest, HasNoRequest, NeverHasRequest, EndsInTarget, MayBecomeRequest}
 use Rattle.httparse.specs.Spans.{RequestOverflows, RequestExceeds}
@@ -14,7 +14,7 @@ use Rattle.http_face.specs.declared.head.HeadEnds.{HeadEnds}
 use Rattle.http_face.specs.declared.head.HeadEnds.TheVariants.{Whole, More, Bad}
 use Rattle.http_face.specs.declared.head_reading.Found.{Found}
 use Rattle.http_face.specs.declared.head_reading.Found.TheVariants as found
-use Rattle.http_face.specs.Heads.{Header, is_named, is_length, values_of, body_of_value, body_of_values, closes, IsWithinLimits, headers_of, body_of, told_of, ends_of, StartsWith, HasHead, HasManyHeaders, IsUnfinished, IsHopeless, TellsHead, IsOpen}
+use Rattle.http_face.specs.Heads.{Header, is_named, is_length, values_of, body_of_value, body_of_values, closes, IsWithinLimits, headers_of, body_of, told_of, ends_of, StartsWith, HasHead, HasManyHeaders, IsUnfinished, IsHopeless, TellsHead, IsGoodHead, IsOpen}
 use Rattle.http_face.specs.Found.{TellsWhole, TellsFound}
 
 -- ---- bytes that follow
@@ -66,8 +66,8 @@ front_has : (bytes : List ℕ) (h : RequestHead) → StartsWith bytes h → HasN
 front_has bytes h s none =
     let short : length (print_request h) ≤ 8192 = s.short in
     let whole : 8192 ≡ length (print_request h) + (8192 - length (print_request h)) = omega arith in
-    let front : take 8192 bytes ≡ print_request h ++ take (8192 - length (print_request h)) s.rest = 
-        ap (take 8192) s.reads.1 ∙ ap (λ n. take n (print_request h ++ s.rest)) whole ∙ take-append-add (print_request h) s.rest (8192 - length (print_request h)) in
+    let front : take 8192 bytes ≡ print_request h ++ take (8192 - length (print_request h)) s.rest =
+    ap (take 8192) s.reads.1 ∙ ap (λ n. take n (print_request h ++ s.rest)) whole ∙ take-append-add (print_request h) s.rest (8192 - length (print_request h)) in
     none h (take (8192 - length (print_request h)) s.rest) (s.reads.0, front)
 
 -- a whole head and no hope: the head has too many headers
@@ -177,3 +177,18 @@ told_within bytes (Whole size body close) h = head_within bytes (Whole size body
 told_within bytes More h = h.few
 told_within bytes (Bad status) (inl h) = head_within bytes (Bad status) h
 told_within bytes (Bad status) (inr h) = inl h.0
+
+-- ---- a whole head that is good
+
+told_whole : (size0 : ℕ) (close0 : Bool) (body0 : Result ℕ ℕ) (size body : ℕ) (close : Bool) → told_of size0 close0 body0 ≡ Whole size body close
+    → (size0 ≡ size) × (body0 ≡ Ok body) × (close0 ≡ close)
+told_whole size0 close0 (Ok n) size body close e = (cc, cc, cc)
+told_whole size0 close0 (Err status) size body close e = absurd cc
+
+-- a whole head is one of the grammar
+pub good_head : (bytes : List ℕ) (size body : ℕ) (close : Bool) → TellsHead bytes (Whole size body close) → (h : RequestHead) × IsGoodHead bytes h size body close
+good_head bytes size body close h =
+    let its = told_whole (length (print_request h.0)) (closes h.0.minor (headers_of h.0)) (body_of (headers_of h.0)) size body close h.2 in
+    let rest : drop size bytes ≡ h.1.rest =
+    ap (λ n. drop n bytes) (sym its.0) ∙ ap (drop (length (print_request h.0))) h.1.reads.1 ∙ drop-append_seam (print_request h.0) h.1.rest in
+    (h.0, record { reads = subst (ReadsRequest bytes h.0) (sym rest) h.1.reads; size_is = its.0; body_is = its.1; close_is = its.2 })

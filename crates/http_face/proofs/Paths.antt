@@ -1,6 +1,5 @@
 -- The path of a target, and its parameters.
-use Rattle.std.proofs.Common.{◌≡◌, ◌≢◌, ℕ, suc, ◌+◌, ◌-◌, ◌<◌, ◌≤◌, ◌==◌, Bool, true, false, nat_lt, List, [], ◌∷◌, length, take, get_or, slice_range, refl, sym, ap, ◌∙◌, arith, ne_eqb, eq-eqb, IsUtf8}
-use Rattle.std.specs.List.{before_first}
+use Rattle.std.proofs.Common.{◌≡◌, ◌≢◌, ℕ, suc, ◌+◌, ◌-◌, ◌<◌, ◌==◌, Bool, true, false, nat_lt, List, ◌∷◌, length, take, get_or, slice_range, refl, sym, ap, ◌∙◌, arith, ne_eqb, eq-eqb, IsUtf8}
 use Rattle.std.proofs.lemmas.List.{take_all}
 use Rattle.std.proofs.lemmas.List.Sums.{position_or_len_is}
 use Rattle.tgap_model.specs.Words.{Row}

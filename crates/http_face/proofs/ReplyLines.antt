@@ -9,7 +9,7 @@ regroup version status space reason end type name pin allow close length size = 
 
 pub head_text : (status reason pin allow close size : List ℕ)
     → (((((((((((codes "HTTP/1.1 " ++ status) ++ codes " ") ++ reason) ++ codes "\r\nContent-Type: text/plain\r\nTgap-Version: ") ++ pin) ++ codes "\r\n") ++ allow) ++ close)
-        ++ codes "Content-Length: ") ++ size) ++ codes "\r\n\r\n")
+    ++ codes "Content-Length: ") ++ size) ++ codes "\r\n\r\n")
     ≡ head_line (codes "HTTP/1.1 " ++ status ++ codes " " ++ reason)
     ++ head_line (codes "Content-Type: text/plain")
     ++ head_line (codes "Tgap-Version: " ++ pin)

@@ -1,11 +1,11 @@
 -- How a router finds a path that has the form of one of its rows.
-use Rattle.std.proofs.Common.{◌≡◌, ℕ, zero, suc, ◌+◌, ◌-◌, ◌<◌, ◌≤◌, ◌==◌, nat_eq, Bool, true, false, cond, List, [], ◌∷◌, ◌++◌, length, drop, Option, Some, None, refl, sym, ap, ◌∙◌, arith, ltb, length-append}
-use Rattle.std.specs.List.{join_with_byte, slice_split, onto_first, ends_with}
+use Rattle.std.proofs.Common.{◌≡◌, ℕ, zero, suc, ◌+◌, ◌-◌, ◌<◌, ◌==◌, Bool, true, false, cond, List, [], ◌∷◌, ◌++◌, length, Some, None, refl, ap, arith, ltb, length-append}
+use Rattle.std.specs.List.{join_with_byte, slice_split, onto_first}
 use Rattle.std.proofs.Math.Seq.{drop-append_seam}
 use Rattle.std.proofs.lemmas.Bool.{and_parts}
 use Rattle.std.proofs.lemmas.Bool.Decides.{nat_tests}
 use Rattle.matchit.specs.Rows.{RowsOf}
-use Rattle.matchit.specs.Seek.{seek, step, own, or_else, param_step, segment, has_slash, cuts, longest_suffix}
+use Rattle.matchit.specs.Seek.{seek, step, own, param_step, segment, has_slash, cuts}
 use Rattle.matchit.specs.Level.{IsText}
 use Rattle.tgap_model.specs.Words.{Row}
 use Rattle.http_face.specs.Routes.{are_parameters}

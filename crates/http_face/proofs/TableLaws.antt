@@ -1,5 +1,5 @@
 -- The row of a path, by the router and by the table.
-use Rattle.std.proofs.Common.{◌≡◌, ℕ, zero, suc, ◌<◌, if◌then◌else◌, Bool, true, false, codes, Fits, w8, List, [], ◌∷◌, ◌++◌, length, get_or, Option, Some, None, option_map, refl, sym, ap, ◌∙◌, subst, arith}
+use Rattle.std.proofs.Common.{◌≡◌, ℕ, zero, suc, if◌then◌else◌, true, codes, Fits, w8, List, [], ◌∷◌, ◌++◌, length, get_or, Option, Some, None, option_map, refl, sym, ap, ◌∙◌, subst, arith}
 use Rattle.std.specs.List.{join_with_byte}
 use Rattle.std.proofs.lemmas.Bool.{and_parts}
 use Rattle.std.proofs.lemmas.Option.{cond_some}
@@ -13,7 +13,7 @@ use Rattle.plain_io.proofs.Steps.{bind_some, after_word_is}
 use Rattle.http_face.specs.declared.request.Resource.{Resource}
 use Rattle.http_face.specs.declared.request.Resource.TheVariants as resource
 use Rattle.http_face.specs.Routes.{word_of, parameter_count, resources, segments_of, are_parameters, parameters_of, find_in}
-use Rattle.http_face.specs.Table.{the_rows, entry, Rows}
+use Rattle.http_face.specs.Table.{the_rows, entry}
 use Rattle.http_face.proofs.Seeking.{after, found_after, slots, AllParts, found_parameters, split_parts}
 
 -- ---- the rows after the front of each path
@@ -85,9 +85,10 @@ form_of : (r : Resource) (segments parameters : Row) → parameters_of r segment
 form_of r segments parameters h =
     let front = bind_some (after_word [] segments) (λ a. after_word (word_of r) a >>= λ b. if are_parameters (parameter_count r) b then Some b else None) parameters h in
     let word = bind_some (after_word (word_of r) front.0) (λ b. if are_parameters (parameter_count r) b then Some b else None) parameters front.2 in
-    let some = cond_some (are_parameters (parameter_count r) word.0) word.0 parameters word.2 in
-    (after_word_is [] segments front.0 front.1 ∙ ap (λ xs. [] ∷ xs) (after_word_is (word_of r) front.0 word.0 word.1) ∙ ap (λ xs. [] ∷ word_of r ∷ xs) some.1,
-    ap (are_parameters (parameter_count r)) (sym some.1) ∙ some.0)
+    let some = cond_some (are_parameters (parameter_count r) word.0) word.0 parameters word.2 in (
+      after_word_is [] segments front.0 front.1 ∙ ap (λ xs. [] ∷ xs) (after_word_is (word_of r) front.0 word.0 word.1) ∙ ap (λ xs. [] ∷ word_of r ∷ xs) some.1,
+      ap (are_parameters (parameter_count r)) (sym some.1) ∙ some.0,
+    )
 
 -- the row that is found has the parameters that are found
 pub found_is : (rows : List Resource) (segments : Row) (r : Resource) (parameters : Row) → find_in rows segments ≡ Some (r, parameters) → parameters_of r segments ≡ Some parameters

@@ -1,5 +1,5 @@
 -- The head of a request (RFC 9112, sections 2, 3, 5, 6 and 9.6), and what the bytes of a request so far tell of it.
-use Rattle.std.specs.Prelude.{◌≡◌, ℕ, ◌<◌, ◌≤◌, ◌⊎◌, Bool, ◌&&◌, ◌||◌, not, ◌==◌, nat_lt, nat_le, List, [], ◌∷◌, length, take, map, codes, Result, Ok, Err, if◌then◌else◌}
+use Rattle.std.specs.Prelude.{◌≡◌, ℕ, ◌<◌, ◌≤◌, ◌⊎◌, Bool, ◌&&◌, ◌||◌, not, ◌==◌, nat_lt, nat_le, List, [], ◌∷◌, length, take, drop, map, codes, Result, Ok, Err, if◌then◌else◌}
 use Rattle.std.specs.List.{filter, list_any, list_all, slice_split}
 use Rattle.std.specs.Char.{is_ascii_digit}
 use Rattle.std.specs.Str.{str_eq_ignore_ascii_case}
@@ -135,6 +135,14 @@ TellsState bytes (WholeHead head) =
     × (head.method ≡ h.method) × (head.target ≡ h.target)
 TellsState bytes MoreBytes = TellsHead bytes More
 TellsState bytes (BadHead status) = TellsHead bytes (Bad status)
+
+-- A good head stands at the front: so many bytes are its text, so many are announced for its body, and it asks for the end of
+-- the connection or not.
+pub record IsGoodHead (bytes : List ℕ) (h : RequestHead) (size body : ℕ) (close : Bool) : Type 0 where
+  pub reads : ReadsRequest bytes h (drop size bytes)
+  pub size_is : length (print_request h) ≡ size
+  pub body_is : body_of (headers_of h) ≡ Ok body
+  pub close_is : closes h.minor (headers_of h) ≡ close
 
 -- what is told keeps the limits: a whole head, its body, and the bytes that are unfinished
 abbrev pub IsWithinLimits : List ℕ → HeadEnds → Type 0

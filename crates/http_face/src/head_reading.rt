@@ -1,10 +1,10 @@
 //! How the head of a request is read.
 
-ghost use Rattle.std.specs.Prelude.{◌≡◌, ◌≢◌, ◌⊎◌, ◌≤◌, ℕ, List, ◌++◌, length, take, IfOk};
+ghost use Rattle.std.specs.Prelude.{◌≡◌, ◌≢◌, ◌⊎◌, ◌≤◌, ℕ, Bool, List, ◌++◌, length, take, IfOk};
 ghost use Rattle.httparse.specs.Grammar.{RequestHead, HasNoRequest, MayBecomeRequest};
 ghost use Rattle.httparse.specs.Spans.{IsRequestAt, IsRequestWithin};
-ghost use Rattle.http_face.specs.declared.head.HeadEnds.TheVariants.{More};
-ghost use Rattle.http_face.specs.Heads.{TellsHead, TellsState, state_ends, IsOpen, IsWithinLimits};
+ghost use Rattle.http_face.specs.declared.head.HeadEnds.TheVariants.{Whole, More};
+ghost use Rattle.http_face.specs.Heads.{TellsHead, TellsState, state_ends, IsGoodHead, IsOpen, IsWithinLimits};
 ghost use Rattle.http_face.specs.Found.{TellsFound, TellsWhole};
 
 use crate::framing::{body_of, bytes_of, closes};
@@ -59,6 +59,8 @@ pub fn read_head(alloc: Global, bytes: &[u8]) -> Result<HeadState, Memory>
 pub fn head_ends(bytes: &[u8]) -> HeadEnds
     ensures told { TellsHead bytes.now result }
     ensures alone { (other : HeadEnds) → TellsHead bytes.now other → (other ≡ result) ⊎ IsOpen bytes.now }
+    ensures whole { (size body : ℕ) (close : Bool) → result ≡ Whole size body close
+        → (h : RequestHead) × IsGoodHead bytes.now h size body close }
     ensures limits { IsWithinLimits bytes.now result }
     ensures stays { (more : List ℕ) → result ≢ More → TellsHead (bytes.now ++ more) result }
 {

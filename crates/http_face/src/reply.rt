@@ -1,6 +1,6 @@
 //! The bytes of a reply.
 
-ghost use Rattle.std.specs.Prelude.{◌≡◌, ◌+◌, ◌≤◌, ◌++◌, length, codes, IfOk};
+ghost use Rattle.std.specs.Prelude.{◌≡◌, ◌≤◌, length, IfOk};
 ghost use Rattle.http_face.specs.Replies.{IsReply, reply_text, reply_head, reason_of, allow_line, close_line, memory_reply};
 
 use crate::fixed_text::FixedText;

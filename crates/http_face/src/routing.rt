@@ -1,7 +1,6 @@
 //! How the route of a request is found.
 
-ghost use Rattle.std.specs.Prelude.{◌≡◌, ◌<◌, ℕ, IfOk, Some, All};
-ghost use Rattle.tgap_model.specs.Words.{Row};
+ghost use Rattle.std.specs.Prelude.{◌≡◌};
 ghost use Rattle.http_face.specs.Routes.{route_of, route_of_path, path_of, segments_of, parameters_of, are_parameters, find_in, resources, read_parameters, request_of};
 ghost use Rattle.tgap_model.specs.ListingLines.{coordinate_at};
 ghost use Rattle.plain_io.specs.Taking.{Takes};

@@ -1,6 +1,6 @@
 //! The table of routes, by which a path is looked up.
 
-ghost use Rattle.std.specs.Prelude.{◌≡◌, ℕ, List, Some, IfOk};
+ghost use Rattle.std.specs.Prelude.{◌≡◌, Some, IfOk};
 ghost use Rattle.tgap_model.specs.Words.{Row};
 ghost use Rattle.http_face.specs.Routes.{find_in, resources, segments_of};
 ghost use Rattle.http_face.specs.Table.{the_rows};

@@ -1,5 +1,5 @@
+//! The rows of heads, routes and replies, and each call that takes memory.
 use super::*;
-use std::alloc::Global;
 use std::test::Fail;
 use tgap_model::Text;
 
@@ -20,7 +20,10 @@ fn heads(rt: HostRuntime) -> Result<(), Fail> {
     };
     assert_eq!(rt; head_ends(b"GET /info HTTP/1.0\n\n"), old);
     assert_eq!(rt; head_ends(b"GET /info HTT"), HeadEnds::More);
-    assert_eq!(rt; head_ends(b"GET\n/ HTTP/1.1"), HeadEnds::Bad { status: 400 });
+    assert_eq!(rt;
+        head_ends(b"GET\n/ HTTP/1.1"),
+        HeadEnds::Bad { status: 400 }
+    );
     let long = b"POST /edit HTTP/1.1\r\nContent-Length: 1048577\r\n\r\n";
     assert_eq!(rt; head_ends(long), HeadEnds::Bad { status: 413 });
     Ok(())
@@ -34,8 +37,8 @@ fn read(rt: HostRuntime) -> Result<(), Fail> {
         assert!(rt; false);
         return Ok(());
     };
-    assert_eq!(rt; head.method.as_slice(), b"POST");
-    assert_eq!(rt; head.target.as_slice(), b"/pin?x");
+    assert_eq!(rt; head.method.as_slice(), b"POST".as_slice());
+    assert_eq!(rt; head.target.as_slice(), b"/pin?x".as_slice());
     assert_eq!(rt; (head.length, head.body, head.close), (46, 0, true));
     Ok(())
 }
@@ -61,20 +64,26 @@ fn paths(rt: HostRuntime) -> Result<(), Fail> {
 #[test]
 fn replies(rt: HostRuntime) -> Result<(), Fail> {
     let body = b"version 0 steps 1 faces 2 arcs 3 points 10\n";
+    let Ok(body) = Text::from_slice(rt.alloc(), body) else {
+        assert!(rt; false);
+        return Ok(());
+    };
     let reply = Reply {
         status: 200,
         pin: 0,
         allow: None,
         close: false,
-        body: text(rt.alloc(), body)?,
+        body,
     };
     let Ok(bytes) = reply_bytes(rt.alloc(), &reply) else {
         assert!(rt; false);
         return Ok(());
     };
-    let expected = b"HTTP/1.1 200 OK\r\nContent-Type: text/plain\r\nTgap-Version: 0\r\nContent-Length: 43\r\n\r\nversion 0 steps 1 faces 2 arcs 3 points 10\n";
-    assert_eq!(rt; bytes.as_slice(), expected);
-    let expected = b"HTTP/1.1 503 Service Unavailable\r\nContent-Type: text/plain\r\nTgap-Version: 12\r\nConnection: close\r\nContent-Length: 7\r\n\r\nmemory\n";
-    assert_eq!(rt; short_reply(12, true).bytes(), expected);
+    let expected =
+        b"HTTP/1.1 200 OK\r\nContent-Type: text/plain\r\nTgap-Version: 0\r\nContent-Length: 43\r\n\r\nversion 0 steps 1 faces 2 arcs 3 points 10\n";
+    assert_eq!(rt; bytes.as_slice(), expected.as_slice());
+    let expected =
+        b"HTTP/1.1 503 Service Unavailable\r\nContent-Type: text/plain\r\nTgap-Version: 12\r\nConnection: close\r\nContent-Length: 7\r\n\r\nmemory\n";
+    assert_eq!(rt; short_reply(12, true).bytes(), expected.as_slice());
     Ok(())
 }

@@ -1,4 +1,4 @@
-use Rattle.std.proofs.Common.{rules, arith}
+use Rattle.std.proofs.Common.{rules}
 use Rattle.http_face.proofs.Chains.{any_parts}
 use Rattle.http_face.proofs.framing.closes.Goals as goal
 

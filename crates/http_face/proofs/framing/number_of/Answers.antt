@@ -1,4 +1,4 @@
-use Rattle.std.proofs.Common.{◌<◌, arith, sym, ◌∙◌}
+use Rattle.std.proofs.Common.{arith}
 use Rattle.http_face.proofs.Digits.{few_digits, next_digit}
 use Rattle.http_face.proofs.framing.number_of.Goals as goal
 

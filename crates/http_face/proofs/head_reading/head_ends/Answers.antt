@@ -1,5 +1,7 @@
+use Rattle.std.proofs.Common.{subst}
 use Rattle.http_face.specs.declared.head.HeadEnds.TheVariants.{Whole, More, Bad}
-use Rattle.http_face.proofs.HeadLaws.{told_alone, told_stays, told_within}
+use Rattle.http_face.specs.Heads.{TellsHead}
+use Rattle.http_face.proofs.HeadLaws.{told_alone, told_stays, told_within, good_head}
 use Rattle.http_face.proofs.head_reading.head_ends.Goals as goal
 
 pub returns-in-Whole-clause-alone : goal.returns-in-Whole-clause-alone
@@ -21,3 +23,7 @@ returns-in-More-clause-limits c = told_within c.args.bytes.now More c.in-More.en
 
 pub returns-in-Bad-clause-limits : goal.returns-in-Bad-clause-limits
 returns-in-Bad-clause-limits c = told_within c.args.bytes.now (Bad c.in-Bad.status) c.in-Bad.ensures
+
+pub returns-in-Whole-clause-whole : goal.returns-in-Whole-clause-whole
+returns-in-Whole-clause-whole c = λ size body close e.
+    good_head c.args.bytes.now size body close (subst (TellsHead c.args.bytes.now) e (c.in-Whole.ensures.0, c.in-Whole.ensures.1, c.in-Whole.ensures.2.0))

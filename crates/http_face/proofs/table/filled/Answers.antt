@@ -6,5 +6,13 @@ use Rattle.http_face.proofs.table.filled.Goals as goal
 pub returns : goal.returns
 unfolding matchit_on_literals the_rows
 returns c =
-    rw (c.in_ok-insert-7.ensures.1, c.in_ok-insert-6.ensures.1, c.in_ok-insert-5.ensures.1, c.in_ok-insert-4.ensures.1, c.in_ok-insert-3.ensures.1, c.in_ok-insert-2.ensures.1,
-    c.in_ok-insert.ensures.1, c.new-router.ensures) refl
+    rw (
+      c.in_ok-insert-7.ensures.1,
+      c.in_ok-insert-6.ensures.1,
+      c.in_ok-insert-5.ensures.1,
+      c.in_ok-insert-4.ensures.1,
+      c.in_ok-insert-3.ensures.1,
+      c.in_ok-insert-2.ensures.1,
+      c.in_ok-insert.ensures.1,
+      c.new-router.ensures,
+    ) refl
