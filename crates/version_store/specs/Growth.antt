@@ -1,0 +1,11 @@
+-- A list of versions that only grows.
+use Rattle.std.specs.Prelude.{◌≡◌, ℕ, List, ◌++◌, Some, slice_get}
+
+module _ {V : Type 0} where
+  -- the second list begins with the first
+  abbrev pub IsPrefix : List V → List V → Type 0
+  IsPrefix front list = (rest : List V) × (list ≡ front ++ rest)
+
+  -- the version at each place has the number of that place
+  abbrev pub AreNumbered : (V → ℕ) → List V → Type 0
+  AreNumbered number list = (place : ℕ) (version : V) → slice_get list place ≡ Some version → number version ≡ place
