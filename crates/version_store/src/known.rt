@@ -1,6 +1,7 @@
 //! What the places of a store know, and the rule that each of their steps keeps.
 
 use atomic_table::{Seat, TableRule};
+use std::collections::LinkedList;
 use std::sync::Arc;
 use tgap_model::Holds;
 
@@ -16,12 +17,12 @@ pub struct Known<V> {
     pub filled: u64,
     /// 1 while that slot is with the press.
     pub out: u64,
-    /// The version with which the press has filled slots. A clause reads an array as a list, of any length.
-    pub next: [V; 0],
+    /// The version with which the press has filled slots.
+    pub next: LinkedList<V>,
     /// The versions that the place has seen.
-    pub list: [V; 0],
+    pub list: LinkedList<V>,
     /// The versions that it was told of.
-    pub told: [V; 0],
+    pub told: LinkedList<V>,
 }
 
 /// The rule of a list of versions that only grows.

@@ -26,16 +26,17 @@ impl<V: Holds + Drop, N: StoreName> PressOf<V, N, Growing> {
         requires number { V.numbered version.now ≡ length (press_versions self.old) }
         ensures { press_versions self.new ≡ press_versions self.old ++ version.now ∷ [] }
     {
-        let PressOf {
-            table,
+        let table = &self.table;
+        let place = &mut self.place;
+        fill_all(
+            &table.shared,
             place,
-            count,
-            ..
-        } = self;
-        let shared = &table.shared;
-        fill_all(shared, place, version, 16 * *count as usize, owners);
-        raise(shared, place, version, *count + 1);
-        *count += 1;
+            version,
+            16 * self.count as usize,
+            owners,
+        );
+        raise(&table.shared, place, version, self.count + 1);
+        self.count += 1;
     }
 
     /// Publishes a version that was made from the version `named`, where that is the newest.

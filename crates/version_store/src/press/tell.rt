@@ -20,20 +20,20 @@ impl<V: Holds + Drop, N: StoreName> PressOf<V, N, Growing> {
         ensures note { (result.table_id ≡ N.store) × (result.me ≡ (note (press_versions self.old), [])) }
         ensures same { press_versions self.new ≡ press_versions self.old }
     {
-        let PressOf { table, place, .. } = self;
-        table.shared.split_seat::<MakeNote>(place)
+        let table = &self.table;
+        table.shared.split_seat::<MakeNote>(&mut self.place)
     }
 
     /// Hears of the versions of a note. They begin the press's list, since the press alone publishes.
     fn hear(&mut self, told: Place<V>)
-        requires { (told.table_id ≡ N.store) × (told.me.1 ≡ []) }
+        requires { (told.table_id ≡ N.store) × (told.me.0.role ≡ 0) × (told.me.1 ≡ []) }
         ensures front { IsPrefix told.me.0.list (press_versions self.old) }
         ensures same { press_versions self.new ≡ press_versions self.old }
     {
-        let PressOf { table, place, .. } = self;
-        let shared = &table.shared;
-        shared.join_seat::<Hear>(place, told);
-        shared.load::<Compare>(place, 0);
+        let table = &self.table;
+        let place = &mut self.place;
+        table.shared.join_seat::<Hear>(place, told);
+        table.shared.load::<Compare>(place, 0);
     }
 
     /// Tells the list to a seat, which has seen all of it then.
