@@ -1,5 +1,5 @@
 -- What a place knows after two steps in a row, or after a step and an exchange.
-use Rattle.std.proofs.Common.{◌≡◌, ◌<◌, ◌≤◌, ◌+◌, ◌-◌, ◌*◌, ℕ, zero, suc, List, [], ◌∷◌, ◌++◌, length, Option, Some, None, refl, sym, ap, ◌∙◌, subst, arith}
+use Rattle.std.proofs.Common.{◌≡◌, ◌<◌, ◌+◌, ◌*◌, ℕ, zero, suc, List, [], ◌∷◌, ◌++◌, length, Some, None, refl, sym, ap, ◌∙◌, subst, arith}
 use Rattle.std.specs.Arc.{arc_value}
 use Rattle.std.specs.declared.alloc.Global.{Global}
 use Rattle.std.specs.declared.sync.Arc.{Arc}
@@ -7,7 +7,7 @@ use mathlib.Core.Option as maybe
 use Rattle.atomic_table.specs.Table.{step, Allows, rest}
 use Rattle.version_store.specs.declared.known.Known.{Known}
 use Rattle.version_store.specs.Rule.{Slot, Kept, AreOwners, filling, with_version}
-use Rattle.version_store.specs.Steps.{Holder, lays, raises}
+use Rattle.version_store.specs.Steps.{Holder, lays}
 use Rattle.version_store.proofs.RuleKept.{lays_kept}
 
 module _ {V : Type 0} where
@@ -26,7 +26,7 @@ module _ {V : Type 0} where
       → Allows (Kept number limit) slots id n 0 (λ k. k) (lays (step slots 0 0 0 maybe.none) n)
   lays_slot number limit slots id d owner n e role low next =
       subst (λ (m : Holder V). Allows (Kept number limit) slots id m 0 (λ k. k) (lays (step slots 0 0 0 maybe.none) m)) (sym e)
-          (lays_kept number limit slots id (record d { out = 1 }) owner [] role refl low next)
+      (lays_kept number limit slots id (record d { out = 1 }) owner [] role refl low next)
 
   owner_of : Arc V Global → List (ℕ × Slot V) → Arc V Global
   owner_of d [] = d

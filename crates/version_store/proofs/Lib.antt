@@ -3,3 +3,4 @@ pub mod Laws
 pub mod Prefixes
 pub mod RuleKept
 pub mod Holders
+pub mod Lists

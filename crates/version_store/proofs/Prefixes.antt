@@ -1,7 +1,7 @@
 -- Lists of which one begins another, and lists with one version more.
-use Rattle.std.proofs.Common.{◌≡◌, ◌<◌, ◌≤◌, ◌+◌, ◌-◌, ℕ, zero, suc, List, [], ◌∷◌, ◌++◌, length, get_or, Option, Some, None, refl, sym, ap, ◌∙◌, subst, arith}
+use Rattle.std.proofs.Common.{◌≡◌, ◌<◌, ◌≤◌, ◌+◌, ℕ, zero, suc, List, [], ◌∷◌, ◌++◌, length, get_or, Option, Some, None, refl, sym, ap, ◌∙◌, arith}
 use Rattle.std.specs.Prelude.{slice_get}
-use Rattle.std.proofs.lemmas.List.{append-nil, append_assoc, length-append, append_cancel_left, nil_from_length}
+use Rattle.std.proofs.lemmas.List.{append-nil, append_assoc, length-append, nil_from_length}
 use Rattle.std.proofs.lemmas.Option.{slice_get_within}
 use Rattle.atomic_table.specs.Table.{rest}
 use Rattle.version_store.specs.Growth.{IsPrefix, AreNumbered}
@@ -55,7 +55,6 @@ module _ {V : Type 0} where
 
   pub numbered_nil : (number : V → ℕ) → AreNumbered number []
   numbered_nil number i x e = absurd (let l : i < length {A = V} [] = slice_get_within [] i x e in omega arith)
-
   -- ---- what a place has taken
 
 module _ {S : Type 0} where

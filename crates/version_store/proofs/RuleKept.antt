@@ -1,8 +1,8 @@
 -- Each step keeps the rule of the store, and tells what it is to tell.
-use Rattle.std.proofs.Common.{◌≡◌, ◌<◌, ◌≤◌, ◌+◌, ◌-◌, ◌*◌, ◌⊎◌, inl, inr, ⊎_elim, ℕ, zero, suc, List, [], ◌∷◌, ◌++◌, length, map, set, get_or, Option, Some, None, refl, sym, ap, ◌∙◌, subst, arith, rules}
+use Rattle.std.proofs.Common.{◌≡◌, ◌<◌, ◌≤◌, ◌+◌, ◌-◌, ◌*◌, ◌⊎◌, inl, inr, ⊎_elim, ℕ, zero, suc, List, [], ◌∷◌, ◌++◌, length, map, set, get_or, Some, None, refl, sym, ap, ◌∙◌, subst, arith, rules}
 use Rattle.std.specs.Prelude.{slice_get, replicate}
 use Rattle.std.proofs.lemmas.Bool.{cases_eq, cases_lt}
-use Rattle.std.proofs.lemmas.List.{length-append, length-set, length_push, length-replicate, length-map}
+use Rattle.std.proofs.lemmas.List.{length-set, length_push, length-replicate, length-map}
 use Rattle.std.proofs.lemmas.Option.{slice_get_within}
 use mathlib.Core.Option.{some, some-injective, some-ne-none}
 use mathlib.Core.Option as maybe
@@ -10,12 +10,12 @@ use lib.ListN.{get_elem?}
 use Rattle.std.specs.Arc.{arc_value}
 use Rattle.std.specs.declared.alloc.Global.{Global}
 use Rattle.std.specs.declared.sync.Arc.{Arc}
-use Rattle.atomic_table.specs.Table.{State, Me, step, Act, keeps, takes, gives, Allows, Splits, Joins, opening, rest}
+use Rattle.atomic_table.specs.Table.{State, step, keeps, takes, gives, Allows, Splits, Joins, opening}
 use Rattle.atomic_table.proofs.Lists.{at_set, set_here, set_else}
 use Rattle.version_store.specs.declared.known.Known.{Known}
 use Rattle.version_store.specs.Growth.{IsPrefix, AreNumbered}
-use Rattle.version_store.specs.Rule.{Slot, Homes, IsFilled, IsHome, IsPress, IsSeat, Fits, Kept, first_press, with_seat, new_seat, note, hearing, filling, with_version}
-use Rattle.version_store.specs.Steps.{Holder, Sees, sees, compares, lifts, lays, raises}
+use Rattle.version_store.specs.Rule.{Slot, Homes, Fits, Kept, first_press, with_seat, new_seat, note, hearing}
+use Rattle.version_store.specs.Steps.{Holder, sees, compares, lifts, lays, raises}
 use Rattle.version_store.proofs.Prefixes.{prefix_self, prefix_nil, prefix_push, prefix_trans, prefix_length, prefix_whole, get_last, get_left, some_inside, some_same, head_same, numbered_nil}
 
 -- where one list ends and another begins
@@ -81,13 +81,13 @@ module _ {V : Type 0} (number : V → ℕ) (limit : ℕ) where
     each = λ j e a. ⊎_elim (λ t. r.each j e t) (λ t. subst (Fits limit r.seats r.list s.homes) t.1 mine) (at_end s.views w e j a);
     apart = λ i j x y ai aj pos same. ⊎_elim
         (λ p. ⊎_elim
-            (λ q. r.apart i j x y p q pos same)
-            (λ q. let e : y.role ≡ w.role = ap (λ (k : Known V). k.role) (sym q.1) in absurd (alone (subst (λ (k : ℕ). 0 < k) (same ∙ e) pos) i x p (same ∙ e)))
-            (at_end s.views w y j aj))
+        (λ q. r.apart i j x y p q pos same)
+        (λ q. let e : y.role ≡ w.role = ap (λ (k : Known V). k.role) (sym q.1) in absurd (alone (subst (λ (k : ℕ). 0 < k) (same ∙ e) pos) i x p (same ∙ e)))
+        (at_end s.views w y j aj))
         (λ p. let e : x.role ≡ w.role = ap (λ (k : Known V). k.role) (sym p.1) in ⊎_elim
-            (λ q. absurd (alone (subst (λ (k : ℕ). 0 < k) e pos) j y q (sym same ∙ e)))
-            (λ q. p.0 ∙ sym q.0)
-            (at_end s.views w y j aj))
+        (λ q. absurd (alone (subst (λ (k : ℕ). 0 < k) e pos) j y q (sym same ∙ e)))
+        (λ q. p.0 ∙ sym q.0)
+        (at_end s.views w y j aj))
         (at_end s.views w x i ai);
   }
 
@@ -117,7 +117,7 @@ module _ {V : Type 0} (number : V → ℕ) (limit : ℕ) where
   unfolding stays renewed
   notes id d s r at =
       joined record { words = s.words; homes = s.homes; views = set s.views id d } (stays s r id d d s.words at refl r.word (r.each id d at)) (note d.list)
-          (note_fits r.seats r.list d.list s.homes (r.each id d at).seen) (λ l. absurd (omega arith))
+      (note_fits r.seats r.list d.list s.homes (r.each id d at).seen) (λ l. absurd (omega arith))
 
   pub hears : (id : ℕ) (d : Known V) (other : ℕ) (w : Known V) → w.role ≡ 0 → Joins (Kept number limit) id d other w (hearing d w) (note [])
   unfolding stays renewed
@@ -125,7 +125,7 @@ module _ {V : Type 0} (number : V → ℕ) (limit : ℕ) where
       let old : get_elem? s.views other ≡ some w = ⊎_elim (λ t. absurd (apart t.0)) (λ t. t.1) (at_set s.views id other (hearing d w) w other_at) in
       let first = stays s r id d (hearing d w) s.words at refl r.word (hearing_fits r.seats r.list s.homes d w (r.each id d at) (r.each other w old).seen) in
       stays record { words = s.words; homes = s.homes; views = set s.views id (hearing d w) } first other w (note []) s.words other_at (sym role) r.word
-          (note_fits r.seats r.list [] s.homes (prefix_nil r.list))
+      (note_fits r.seats r.list [] s.homes (prefix_nil r.list))
 
   pub seats_one : (id : ℕ) (d : Known V) → d.role ≡ 1 → d.seats < 16 → Splits (Kept number limit) id d (with_seat d) (new_seat d)
   unfolding renewed
@@ -160,10 +160,10 @@ module _ {V : Type 0} (number : V → ℕ) (limit : ℕ) where
         };
       } in
       joined record { words = s.words; homes = s.homes; views = set s.views id (with_seat d) } first (new_seat d) new
-          (λ _ i e a same. ⊎_elim
-              (λ t. let c : d.role ≡ e.role = ap (λ (z : Known V). z.role) t.1 in let c' : e.role ≡ d.seats + 2 = same in omega (arith, role))
-              (λ t. let o = ((r.each i e t.1).seat d.seats same).one in omega arith)
-              (at_set s.views id i (with_seat d) e a))
+      (λ _ i e a same. ⊎_elim
+      (λ t. let c : d.role ≡ e.role = ap (λ (z : Known V). z.role) t.1 in let c' : e.role ≡ d.seats + 2 = same in omega (arith, role))
+      (λ t. let o = ((r.each i e t.1).seat d.seats same).one in omega arith)
+      (at_set s.views id i (with_seat d) e a))
 
   -- ---- steps that leave the slots
 
@@ -235,18 +235,17 @@ module _ {V : Type 0} (number : V → ℕ) (limit : ℕ) where
         | inl new ↦
             let x = some_inside list (count - 1) (omega arith) in
             let q = seat.waits (count - 1) x.0 (omega arith) x.1 in
-            let slot : ℕ = 16 * (count - 1) + n in
-            (
+            let slot : ℕ = 16 * (count - 1) + n in (
               w,
               takes slot (Some q.0),
               q.2,
               renewed s r id d w list r.seats words (set s.homes slot maybe.none) at refl word (length-set s.homes slot maybe.none ∙ r.slots) room r.few r.numbered
                   (seen_fits r.seats list s.homes (set s.homes slot maybe.none) n d role f)
                   (λ e no g. else_fits r.seats list s.homes slot maybe.none e g
-                      (λ one. let o = seat.one in let fw = r.few in omega arith)
-                      (λ m v m_role m_one inside same.
-                          let fw = r.few in let o = seat.one in
-                          no (omega (arith, role)) (let a : m ≡ n = omega arith in omega (arith, m_role, role)))),
+                  (λ one. let o = seat.one in let fw = r.few in omega arith)
+                  (λ m v m_role m_one inside same.
+                  let fw = r.few in let o = seat.one in
+                  no (omega (arith, role)) (let a : m ≡ n = omega arith in omega (arith, m_role, role)))),
               record {
                 same = refl;
                 grows = f.seen;
@@ -254,14 +253,16 @@ module _ {V : Type 0} (number : V → ℕ) (limit : ℕ) where
                 count = sym is;
                 room = omega arith;
                 numbered = r.numbered;
-                takes = λ _. (q.0, subst (λ (k : ℕ). slice_get list (k - 1) ≡ Some (arc_value q.0)) (sym is) (x.1 ∙ ap Some (sym q.1)),
-                    ap (λ (k : ℕ). (k, Some q.0) ∷ me.1) (let e : slot ≡ 16 * (found - 1) + (d.role - 2) = omega (arith, role) in e));
+                takes = λ _. (
+                  q.0,
+                  subst (λ (k : ℕ). slice_get list (k - 1) ≡ Some (arc_value q.0)) (sym is) (x.1 ∙ ap Some (sym q.1)),
+                  ap (λ (k : ℕ). (k, Some q.0) ∷ me.1) (let e : slot ≡ 16 * (found - 1) + (d.role - 2) = omega (arith, role) in e),
+                );
                 keeps = λ le. absurd (omega arith);
               },
             )
         | inr old ↦
-            let same : d.list ≡ list = prefix_whole d.list list f.seen old in
-            (
+            let same : d.list ≡ list = prefix_whole d.list list f.seen old in (
               w,
               keeps,
               tt,
@@ -303,15 +304,14 @@ module _ {V : Type 0} (number : V → ℕ) (limit : ℕ) where
           free = λ k le lt. let l : d.filled + 1 ≤ k = le in let t = p.free k (omega arith) lt in (t.0, set_else s.homes slot k maybe.none (λ h. omega arith) ∙ t.1);
         };
         seat = λ n is. absurd (let i : d.role ≡ n + 2 = is in omega (arith, role));
-      } in
-      (
+      } in (
         record d { out = 1 },
         takes slot q.0,
         q.1,
         renewed s r id d (record d { out = 1 }) r.list r.seats words homes at refl (word_stays s.words (length r.list) r.word) (length-set s.homes slot maybe.none ∙ r.slots) r.room r.few r.numbered mine
             (λ e no g. else_fits r.seats r.list s.homes slot maybe.none e g
-                (λ one. absurd (no (omega (arith, role)) (one ∙ sym role)))
-                (λ m v m_role m_one inside same. let a = p.from in let fw = r.few in omega arith)),
+            (λ one. absurd (no (omega (arith, role)) (one ∙ sym role)))
+            (λ m v m_role m_one inside same. let a = p.from in let fw = r.few in omega arith)),
         (q.0, refl),
       )
 
@@ -335,23 +335,26 @@ module _ {V : Type 0} (number : V → ℕ) (limit : ℕ) where
           counted = p.counted;
           from = (let a = p.from in omega arith);
           next = λ k x le lt is. elim (cases_eq k slot) [
-            | inl here ↦ (owner, head_same (arc_value owner) x is, subst (λ (j : ℕ). get_elem? homes j ≡ some (some (Some owner))) (sym here)
-                (set_here s.homes slot (some (Some owner)) (subst (λ (j : ℕ). slot < j) (sym r.slots) low)))
+            | inl here ↦ (
+              owner,
+              head_same (arc_value owner) x is,
+              subst (λ (j : ℕ). get_elem? homes j ≡ some (some (Some owner))) (sym here)
+                  (set_here s.homes slot (some (Some owner)) (subst (λ (j : ℕ). slot < j) (sym r.slots) low)),
+            )
             | inr there ↦ let l : k < slot + 1 = lt in let t = p.next k x le (omega arith) (next (omega arith) ∙ is) in
                 (t.0, t.1, set_else s.homes slot k (some (Some owner)) there ∙ t.2)
           ];
           free = λ k le lt. let l : slot + 1 + 0 ≤ k = le in let t = p.free k (omega arith) lt in (t.0, set_else s.homes slot k (some (Some owner)) (λ h. omega arith) ∙ t.1);
         };
         seat = λ n is. absurd (let i : d.role ≡ n + 2 = is in omega (arith, role));
-      } in
-      (
+      } in (
         w,
         gives,
         tt,
         renewed s r id d w r.list r.seats words homes at refl (word_stays s.words (length r.list) r.word) (length-set s.homes slot (some (Some owner)) ∙ r.slots) r.room r.few r.numbered mine
             (λ e no g. else_fits r.seats r.list s.homes slot (some (Some owner)) e g
-                (λ one. absurd (no (omega (arith, role)) (one ∙ sym role)))
-                (λ m v m_role m_one inside same. let a = p.from in let fw = r.few in omega arith)),
+            (λ one. absurd (no (omega (arith, role)) (one ∙ sym role)))
+            (λ m v m_role m_one inside same. let a = p.from in let fw = r.few in omega arith)),
         (owner, refl, refl),
       )
 
@@ -408,8 +411,7 @@ module _ {V : Type 0} (number : V → ℕ) (limit : ℕ) where
                 p.next (16 * v + n) y (omega arith) (omega arith) (next ∙ ap (λ (z : V). z ∷ []) same)
           ];
         };
-      } in
-      (
+      } in (
         w,
         keeps,
         tt,
@@ -445,6 +447,7 @@ module _ {V : Type 0} (number : V → ℕ) (limit : ℕ) where
       only : (i : ℕ) (d : Known V) → get_elem? (first_press {V = V} limit ∷ []) i ≡ some d → i ≡ 0
       only zero d e = refl
       only (suc i) d e = absurd (some-ne-none d (sym e))
+
       first_fits : (i : ℕ) (d : Known V) → get_elem? (first_press {V = V} limit ∷ []) i ≡ some d → Fits limit 0 [] (map some (replicate (16 * limit) None)) d
       first_fits zero d e = subst (Fits limit 0 [] _) (some-injective (first_press limit) d e) record {
         seen = prefix_nil [];

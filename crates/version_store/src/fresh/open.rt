@@ -2,6 +2,7 @@
 
 ghost use Rattle.std.specs.Prelude.{◌≡◌, ◌<◌, ◌≤◌, ◌*◌, [], ◌∷◌, length, vec_len, All, IfOk};
 ghost use Rattle.std.specs.Arc.{arc_value};
+ghost use Rattle.version_store.specs.Growth.{IsList};
 ghost use Rattle.version_store.specs.Store.{fresh_store, fresh_first, fresh_limit, fresh_places, press_versions, press_limit, IsNewSeat};
 
 use super::{Fresh, FreshOf};
@@ -60,6 +61,7 @@ impl<V: Holds + Drop> FreshOf<V, Growing> {
         // The press's list is the first version alone.
         ensures press { IfOk result (λ opened. press_versions opened.0 ≡ fresh_first self ∷ []) }
         ensures limit { IfOk result (λ opened. press_limit opened.0 ≡ fresh_limit self) }
+        ensures listed { IfOk result (λ opened. IsList V.numbered (press_limit opened.0) (press_versions opened.0)) }
         // So is the list of each seat, which has published none and was told nothing. There are as many as places.
         ensures seats { IfOk result (λ opened. All (IsNewSeat (fresh_first self) (fresh_limit self)) opened.1.items) }
         ensures places { IfOk result (λ opened. length opened.1.items ≡ fresh_places self) }

@@ -3,7 +3,7 @@
 ghost use Rattle.std.specs.Prelude.{◌≡◌, ◌<◌, ◌≤◌, ◌+◌, ◌*◌, ◌++◌, ℕ, [], ◌∷◌, length, vec_len, All, Err, IfOk, OnOk, OnErr, ◌↔◌};
 ghost use Rattle.std.specs.Arc.{arc_value};
 ghost use Rattle.version_store.specs.declared.press.fail.PublishFail.TheVariants.{Stale, VersionsFull};
-ghost use Rattle.version_store.specs.Growth.{IsPrefix};
+ghost use Rattle.version_store.specs.Growth.{IsPrefix, IsList};
 ghost use Rattle.version_store.specs.Store.{press_versions, press_limit, seat_versions, told_versions, seat_limit, published_count, tellings};
 ghost use Rattle.version_store.specs.Rule.{AreOwners};
 
@@ -66,6 +66,9 @@ impl<V: Holds + Drop, N: StoreName> PressOf<V, N, Growing> {
         ensures newest { (newest : ℕ) → result ≡ Err (Stale newest) → seat_versions seat.new ≡ press_versions self.old }
         // There is no room exactly where it is not stale and as many versions are published as there may be.
         ensures full { (limit : ℕ) → (result ≡ Err (VersionsFull limit)) ↔ ((named + 1 ≡ length (press_versions self.old)) × (length (press_versions self.old) ≡ press_limit self.old) × (limit ≡ press_limit self.old)) }
+        // The versions of both lists have the numbers of their places, and are no more than there may be. The store has one limit.
+        ensures listed { IsList V.numbered (press_limit self.new) (press_versions self.new) }
+        ensures limited { (press_limit self.new ≡ seat_limit seat.new) × (press_limit self.new ≡ N.limit) }
         // A refusal leaves the list and the count. The limit and the counts of tellings stay.
         ensures kept { OnErr result ((press_versions self.new ≡ press_versions self.old) × (published_count seat.new ≡ published_count seat.old)) }
         ensures others { (seat_limit seat.new ≡ seat_limit seat.old) × (tellings seat.new ≡ tellings seat.old) }

@@ -1,7 +1,7 @@
 //! The press tells its list to seats, and hears of what they have seen.
 
 ghost use Rattle.std.specs.Prelude.{◌≡◌, ◌+◌, [], length, IfOk, IsOk, OnErr};
-ghost use Rattle.version_store.specs.Growth.{IsPrefix};
+ghost use Rattle.version_store.specs.Growth.{IsPrefix, IsList};
 ghost use Rattle.version_store.specs.Rule.{note};
 ghost use Rattle.version_store.specs.Store.{press_versions, press_limit, seat_versions, told_versions, seat_limit, published_count, tellings, KeepsCounts, raised};
 
@@ -61,6 +61,8 @@ impl<V: Holds + Drop, N: StoreName> PressOf<V, N, Growing> {
         ensures same { press_versions self.new ≡ press_versions self.old }
         ensures grows { IsPrefix (seat_versions seat.old) (seat_versions seat.new) }
         ensures told { IsPrefix (told_versions seat.new) (seat_versions seat.new) }
+        // The list's versions have the numbers of their places, and are no more than there may be.
+        ensures listed { IsList V.numbered (press_limit self.new) (press_versions self.new) }
         ensures others { (seat_limit seat.new ≡ seat_limit seat.old) × (published_count seat.new ≡ published_count seat.old) }
     {
         self.tell(seat);

@@ -23,10 +23,7 @@ impl<V: Holds + Drop, N: StoreName> SeatOf<V, N, Growing> {
         let found = table.shared.load::<See>(place, 0);
         if found > self.count {
             let slot = 16 * (found - 1) + self.index;
-            self.newest = table
-                .shared
-                .exchange(place, slot as usize, None)
-                .unwrap();
+            self.newest = table.shared.exchange(place, slot as usize, None).unwrap();
             self.count = found;
         }
     }

@@ -1,8 +1,8 @@
 //! A seat pins the newest version.
 
 ghost use Rattle.std.specs.Prelude.{◌≡◌, IfOk};
-ghost use Rattle.version_store.specs.Growth.{IsPrefix};
-ghost use Rattle.version_store.specs.Store.{seat_versions, told_versions, KeepsCounts, IsLast};
+ghost use Rattle.version_store.specs.Growth.{IsPrefix, IsList};
+ghost use Rattle.version_store.specs.Store.{seat_versions, told_versions, seat_limit, KeepsCounts, IsLast};
 
 use super::SeatOf;
 use crate::known::Growing;
@@ -22,6 +22,8 @@ impl<V: Holds + Drop, N: StoreName> SeatOf<V, N, Growing> {
         // That list begins with all that the seat had seen before, and with all that it was told of.
         ensures grows { IsPrefix (seat_versions self.old) (seat_versions self.new) }
         ensures told { IsPrefix (told_versions self.old) (seat_versions self.new) }
+        // Its versions have the numbers of their places, and are no more than there may be.
+        ensures listed { IsList V.numbered (seat_limit self.new) (seat_versions self.new) }
         ensures same { (told_versions self.new ≡ told_versions self.old) × KeepsCounts self.old self.new }
     {
         self.see();

@@ -1,4 +1,4 @@
-use Rattle.std.proofs.Common.{rules, arith, sym, subst, ℕ, ◌<◌, ◌*◌, ◌≡◌}
+use Rattle.std.proofs.Common.{rules, arith}
 use Rattle.version_store.proofs.RuleKept.{lifts_kept}
 use Rattle.version_store.proofs.Holders.{slot_filled, lays_slot, slot_laid}
 use Rattle.version_store.proofs.shelf.fill.Goals as goal

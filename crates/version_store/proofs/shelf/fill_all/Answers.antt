@@ -1,8 +1,8 @@
-use Rattle.std.proofs.Common.{rules, arith, ◌≡◌, ◌<◌, ◌+◌, ℕ, List, [], ◌∷◌, length, vec_len, ap, subst, sym, ◌∙◌}
+use Rattle.std.proofs.Common.{rules, arith, ◌≡◌, ◌+◌, ℕ, List, [], length, vec_len, ap, subst, ◌∙◌}
 use Rattle.std.specs.declared.alloc.Global.{Global}
 use Rattle.std.specs.declared.sync.Arc.{Arc}
 use Rattle.version_store.specs.Rule.{AreOwners, filling}
-use Rattle.version_store.proofs.Holders.{IsFilling, filling_none, filling_more, filling_all, owners_first, owners_rest}
+use Rattle.version_store.proofs.Holders.{filling_more, filling_all, owners_first, owners_rest}
 use Rattle.version_store.proofs.shelf.fill_all.Goals as goal
 
 pub loop-owner-preserved : goal.loop-owner-preserved
@@ -10,8 +10,7 @@ loop-owner-preserved g c =
     let v = c.loop-owner.invariant in
     let steps = c.in-Some.ensures.steps.0 in
     let long : length c.loop-owner.owner-iterator.rest.items ≡ length c.next.new.self.rest.items + 1 = ap (λ (l : List (Arc g.row.V.Denot Global)). length l) steps ∙ (omega arith) in
-    let left = subst (AreOwners c.args.version.now) steps v.4 in
-    (
+    let left = subst (AreOwners c.args.version.now) steps v.4 in (
       search rules,
       filling_more _ _ _ _ _ _ _ v.1 c.fill.ensures.filled (owners_first _ _ _ left),
       (let n = v.2 in omega arith),

@@ -1,4 +1,4 @@
-use Rattle.std.proofs.Common.{◌≡◌, ◌≤◌, ◌+◌, vec_len, All}
+use Rattle.std.proofs.Common.{◌≡◌, ◌≤◌, vec_len, All}
 use Rattle.std.specs.Arc.{arc_value}
 use Rattle.std.specs.Vec.{vec_capacity}
 use Rattle.version_store.specs.Store.{IsNewSeat}
