@@ -1,5 +1,5 @@
 -- What holds of every list of events.
-use Rattle.std.proofs.Common.{◌≡◌, ◌≢◌, ◌<◌, ◌≤◌, ◌⊎◌, ◌↔◌, inl, inr, ℕ, zero, suc, ◌-◌, ◌+◌, List, [], ◌∷◌, ◌++◌, ◌==◌, if◌then◌else◌, length, map, set, get_or, Option, Some, None, All, AllPairs, refl, sym, ap, ◌∙◌, subst, arith}
+use Rattle.std.proofs.Common.{◌≡◌, ◌≢◌, ◌<◌, ◌≤◌, ◌⊎◌, ◌↔◌, inl, inr, ℕ, ◌+◌, List, [], ◌∷◌, ◌++◌, ◌==◌, if◌then◌else◌, length, map, Option, Some, None, All, AllPairs, refl, sym, ap, ◌∙◌, subst, arith}
 use Rattle.std.proofs.lemmas.Bool.{cases_eq, cases_lt, eq-eqb, ne_eqb}
 use Rattle.std.proofs.lemmas.List.{append-nil, append_assoc, length-append, get_or-set_same, get_or-set_other, get_or_past}
 use Rattle.std.proofs.lemmas.List.Elements.{All-cons}
@@ -7,12 +7,12 @@ use Rattle.std.proofs.lemmas.List.Kept.{AllPairs-cons}
 use Rattle.tgap_model.specs.declared.machine.Event.{Event}
 use Rattle.tgap_model.specs.declared.machine.Event.TheVariants.{Begin, Commit, Pin, Read, Leave}
 use Rattle.tgap_model.specs.declared.machine.Outcome.{Outcome}
-use Rattle.tgap_model.specs.declared.machine.Outcome.TheVariants.{Began, Published, Stale, Full, Pinned, At, Left, Idle}
+use Rattle.tgap_model.specs.declared.machine.Outcome.TheVariants.{Began, Published, At, Left}
 use Rattle.tgap_model.specs.Base.{BaseMap}
 use Rattle.tgap_model.specs.Machine.{Versions, newest, pin_of, with_pin, commit, by_pin, step, run}
 use Rattle.version_store.specs.Versions.{AreVersions, IsPin}
 use Rattle.version_store.specs.Runs.{states, Turn, turns, publish, published_maps, IsPublishedRight, pinned_by, last_pinned, ReadsRight, KeepsPins}
-use Rattle.version_store.proofs.Steps.{grown, by_pin_cases, commit_cases, pin_cases}
+use Rattle.version_store.proofs.Steps.{by_pin_cases, commit_cases, pin_cases}
 
 -- what comes of the events is what their turns say
 pub run_tells : (v : Versions) (events : List Event) → (run v events).1 ≡ map (λ t. t.outcome) (turns v events)

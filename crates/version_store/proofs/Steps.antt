@@ -1,10 +1,9 @@
 -- What a step can come to, case by case.
-use Rattle.std.proofs.Common.{◌≡◌, ◌≢◌, ◌<◌, ◌≤◌, ◌⊎◌, inl, inr, ℕ, ◌-◌, ◌+◌, Bool, true, false, not, nat_lt, ◌==◌, List, [], ◌∷◌, ◌++◌, length, set, get_or, Option, Some, None, refl, sym, ap, ◌∙◌, subst, arith}
+use Rattle.std.proofs.Common.{◌≡◌, ◌≢◌, ◌<◌, ◌≤◌, inl, inr, ℕ, [], ◌∷◌, ◌++◌, length, Option, Some, None, refl}
 use Rattle.std.proofs.lemmas.Bool.{cases_eq, cases_lt, eq-eqb, ne_eqb, lt-ltb, le-ltb}
-use Rattle.tgap_model.specs.declared.machine.Event.{Event}
-use Rattle.tgap_model.specs.declared.machine.Event.TheVariants.{Begin, Commit, Pin, Read, Leave}
+use Rattle.tgap_model.specs.declared.machine.Event.TheVariants.{Pin}
 use Rattle.tgap_model.specs.declared.machine.Outcome.{Outcome}
-use Rattle.tgap_model.specs.declared.machine.Outcome.TheVariants.{Began, Published, Stale, Full, Pinned, At, Left, Idle}
+use Rattle.tgap_model.specs.declared.machine.Outcome.TheVariants.{Published, Stale, Full, Pinned, Idle}
 use Rattle.tgap_model.specs.Base.{BaseMap}
 use Rattle.tgap_model.specs.Machine.{Versions, newest, pin_of, with_pin, commit, by_pin, step}
 

@@ -2,9 +2,23 @@
 //! and which commits are published. It stands on `tgap_model`, whose `Machine` defines what comes of each event.
 #![tactic(auto)]
 
+mod fresh;
+mod known;
 mod machine;
+mod name;
+mod pin;
+mod plays;
+mod press;
+mod seat;
+mod shelf;
 #[cfg(test)]
 mod tests;
 
+pub use fresh::{Fresh, FreshOf, start};
+pub use known::{Growing, Known};
 pub use machine::Machine;
+pub use name::StoreName;
+pub use pin::Pin;
+pub use press::{Press, PressOf, PublishFail};
+pub use seat::{Seat, SeatOf};
 pub use tgap_model::{Event, Outcome};

@@ -1,9 +1,11 @@
-//! Two actors on a map of which there may be two versions.
+//! Two actors on a map of which there may be two versions, and a store of such versions.
 
 use crate::{Event, Machine, Outcome};
 use std::alloc::Global;
 use std::test::Fail;
 use tgap_model::{Base, BaseArc, List, Memory, Point, Rules, Transform};
+
+mod store;
 
 /// A triangle whose right angle is at the origin, with this width.
 fn triangle(alloc: Global, width: i64) -> Result<Option<Base>, Memory> {

@@ -1,0 +1,38 @@
+-- What every press and every seat keeps of its list.
+use Rattle.std.proofs.Common.{◌≡◌, ◌≤◌, arith, sym, ◌∙◌}
+use Rattle.tgap_model.specs.declared.machine.Holds as Held
+use Rattle.version_store.specs.declared.name.StoreName as Named
+use Rattle.version_store.specs.declared.seat.SeatOf.{SeatOf}
+use Rattle.version_store.specs.declared.press.PressOf.{PressOf}
+use Rattle.version_store.specs.Growth.{IsList}
+use Rattle.version_store.specs.Store.{press_versions, press_limit, seat_versions, seat_limit}
+
+module _ {V N P : Type 0} {held : Held.Ghosts V} {named : Named.Ghosts N} where
+  pub seat_lists : (seat : SeatOf V N P held named) → IsList held.numbered (seat_limit seat) (seat_versions seat)
+  seat_lists seat = record {
+    numbered = seat.numbered;
+    some = (let n = seat.counted.0 in let p = seat.counted.2 in omega arith);
+    room = (let n = seat.counted.0 in let l = seat.counted.1 in omega arith);
+  }
+
+  pub press_lists : (press : PressOf V N P held named) → IsList held.numbered (press_limit press) (press_versions press)
+  press_lists press = record {
+    numbered = press.numbered;
+    some = (let n = press.counted.0 in let s = press.counted.2 in omega arith);
+    room = (let n = press.counted.0 in let l = press.counted.1 in omega arith);
+  }
+
+  -- the limit is that of the store
+  pub seat_limited : (seat : SeatOf V N P held named) → seat_limit seat ≡ named.limit
+  seat_limited seat = seat.of_store.2
+
+  pub press_limited : (press : PressOf V N P held named) → press_limit press ≡ named.limit
+  press_limited press = press.of_store.2
+
+  -- a press and a seat of one name have one limit
+  pub one_limit : (press : PressOf V N P held named) (seat : SeatOf V N P held named) → press_limit press ≡ seat_limit seat
+  one_limit press seat = press.of_store.2 ∙ sym seat.of_store.2
+
+  -- there are at most 64 versions
+  pub few_versions : (seat : SeatOf V N P held named) → seat_limit seat ≤ 64
+  few_versions seat = seat.sized.3

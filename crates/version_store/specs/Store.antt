@@ -1,0 +1,70 @@
+-- What a clause says of a store, of its press and of its seats.
+use Rattle.std.specs.Prelude.{◌≡◌, ◌+◌, ◌-◌, ◌^◌, ℕ, List, [], ◌∷◌, length, min, replicate, Some, slice_get, slice_index, slice_set}
+use Rattle.std.specs.Arc.{arc_value}
+use Rattle.atomic_table.specs.Seated.{TableId}
+use Rattle.tgap_model.specs.declared.machine.Holds as Held
+use Rattle.version_store.specs.declared.name.StoreName as Named
+use Rattle.version_store.specs.declared.seat.SeatOf.{SeatOf}
+use Rattle.version_store.specs.declared.press.PressOf.{PressOf}
+use Rattle.version_store.specs.declared.fresh.FreshOf.{FreshOf}
+use Rattle.version_store.specs.declared.pin.Pin.{Pin}
+
+module _ {V P : Type 0} {held : Held.Ghosts V} where
+  -- of a store without a name: which it is, its first version, how many versions it may have, and how many seats
+  abbrev pub fresh_store : FreshOf V P held → TableId
+  fresh_store f = f.place.table_id
+
+  abbrev pub fresh_first : FreshOf V P held → V
+  fresh_first f = arc_value f.first
+
+  abbrev pub fresh_limit : FreshOf V P held → ℕ
+  fresh_limit f = f.limit
+
+  abbrev pub fresh_places : FreshOf V P held → ℕ
+  fresh_places f = f.places
+
+module _ {V N P : Type 0} {held : Held.Ghosts V} {named : Named.Ghosts N} where
+  -- the list of the published versions, as the press knows it: all of them
+  abbrev pub press_versions : PressOf V N P held named → List V
+  press_versions press = press.place.me.0.list
+
+  -- how many versions there may be
+  abbrev pub press_limit : PressOf V N P held named → ℕ
+  press_limit press = press.limit
+
+  -- the list of the versions that the seat has seen
+  abbrev pub seat_versions : SeatOf V N P held named → List V
+  seat_versions seat = seat.place.me.0.list
+
+  -- the list of which the press told the seat last
+  abbrev pub told_versions : SeatOf V N P held named → List V
+  told_versions seat = seat.place.me.0.told
+
+  -- how many versions there may be
+  abbrev pub seat_limit : SeatOf V N P held named → ℕ
+  seat_limit seat = seat.limit
+
+  -- how many versions the seat has published
+  abbrev pub published_count : SeatOf V N P held named → ℕ
+  published_count seat = seat.published
+
+  -- for each number from 0 to 63, how many tellings ended there
+  abbrev pub tellings : SeatOf V N P held named → List ℕ
+  tellings seat = seat.tellings
+
+  -- the limit and all counts are as before
+  abbrev pub KeepsCounts : SeatOf V N P held named → SeatOf V N P held named → Type 0
+  KeepsCounts old new = (seat_limit new ≡ seat_limit old) × (published_count new ≡ published_count old) × (tellings new ≡ tellings old)
+
+  -- a seat that has seen the first version alone, published none and was told nothing
+  abbrev pub IsNewSeat : V → ℕ → SeatOf V N P held named → Type 0
+  IsNewSeat first limit seat =
+      (seat_versions seat ≡ first ∷ []) × (seat_limit seat ≡ limit) × (published_count seat ≡ 0) × (tellings seat ≡ replicate 64 0)
+
+-- counts with one more at n, where that is below 2^64
+abbrev pub raised : List ℕ → ℕ → List ℕ
+raised counts n = slice_set counts n (min (slice_index counts n + 1) (2 ^ 64 - 1))
+
+-- the pin is the last version of the list, with its number
+abbrev pub IsLast : {V : Type 0} → (V → ℕ) → List V → Pin V → Type 0
+IsLast number list pin = (pin.number + 1 ≡ length list) × (slice_get list pin.number ≡ Some (arc_value pin.held)) × (number (arc_value pin.held) ≡ pin.number)

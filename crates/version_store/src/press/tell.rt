@@ -1,0 +1,87 @@
+//! The press tells its list to seats, and hears of what they have seen.
+
+ghost use Rattle.std.specs.Prelude.{◌≡◌, ◌+◌, [], length, IfOk, IsOk, OnErr};
+ghost use Rattle.version_store.specs.Growth.{IsPrefix, IsList};
+ghost use Rattle.version_store.specs.Rule.{note};
+ghost use Rattle.version_store.specs.Store.{press_versions, press_limit, seat_versions, told_versions, seat_limit, published_count, tellings, KeepsCounts, raised};
+
+use super::PressOf;
+use crate::known::{Growing, Place};
+use crate::name::StoreName;
+use crate::plays::{Compare, Hear, MakeNote};
+use crate::seat::Seat;
+use std::alloc::Global;
+use std::sync::Wait;
+use tgap_model::{Holds, Memory};
+
+impl<V: Holds + Drop, N: StoreName> PressOf<V, N, Growing> {
+    /// A note of the published versions.
+    fn note(&mut self) -> Place<V>
+        ensures note { (result.table_id ≡ N.store) × (result.me ≡ (note (press_versions self.old), [])) }
+        ensures same { press_versions self.new ≡ press_versions self.old }
+    {
+        let table = &self.table;
+        table.shared.split_seat::<MakeNote>(&mut self.place)
+    }
+
+    /// Hears of the versions of a note. They begin the press's list, since the press alone publishes.
+    fn hear(&mut self, told: Place<V>)
+        requires { (told.table_id ≡ N.store) × (told.me.0.role ≡ 0) × (told.me.1 ≡ []) }
+        ensures front { IsPrefix told.me.0.list (press_versions self.old) }
+        ensures same { press_versions self.new ≡ press_versions self.old }
+    {
+        let table = &self.table;
+        let place = &mut self.place;
+        table.shared.join_seat::<Hear>(place, told);
+        table.shared.load::<Compare>(place, 0);
+    }
+
+    /// Tells the list to a seat, which has seen all of it then.
+    pub(super) fn tell(&mut self, seat: &mut Seat<V, N>)
+        ensures same { press_versions self.new ≡ press_versions self.old }
+        ensures seen { seat_versions seat.new ≡ press_versions self.old }
+        ensures told { told_versions seat.new ≡ press_versions self.old }
+        ensures grows { IsPrefix (seat_versions seat.old) (seat_versions seat.new) }
+        ensures counts { KeepsCounts seat.old seat.new }
+    {
+        seat.hear(self.note());
+        seat.see();
+        self.hear(seat.tell());
+    }
+
+    /// Tells the published versions to a seat, and answers the number of the newest. It waits for nobody.
+    pub fn newest(&mut self, _alloc: Global, seat: &mut Seat<V, N>) -> Result<u64, Memory>
+        // The seat has seen the press's list, whose last number is the answer.
+        ensures seen { IfOk result (λ newest. (seat_versions seat.new ≡ press_versions self.new) × (newest + 1 ≡ length (press_versions self.new))) }
+        // The count of tellings that ended at this number rises by one, and no other; it stays at 2^64 - 1.
+        ensures counted { IfOk result (λ newest. tellings seat.new ≡ raised (tellings seat.old) newest) }
+        ensures kept { OnErr result (tellings seat.new ≡ tellings seat.old) }
+        // It takes no memory.
+        ensures taken { IsOk result }
+        ensures same { press_versions self.new ≡ press_versions self.old }
+        ensures grows { IsPrefix (seat_versions seat.old) (seat_versions seat.new) }
+        ensures told { IsPrefix (told_versions seat.new) (seat_versions seat.new) }
+        // The list's versions have the numbers of their places, and are no more than there may be.
+        ensures listed { IsList V.numbered (press_limit self.new) (press_versions self.new) }
+        ensures others { (seat_limit seat.new ≡ seat_limit seat.old) × (published_count seat.new ≡ published_count seat.old) }
+    {
+        self.tell(seat);
+        let newest = self.count - 1;
+        seat.count_telling(newest);
+        Ok(newest)
+    }
+
+    /// Ends a seat. What it has seen begins the press's list. It takes no memory and waits for nobody.
+    pub fn gather(&mut self, seat: Seat<V, N>)
+        ensures front { IsPrefix (seat_versions seat) (press_versions self.new) }
+        ensures same { press_versions self.new ≡ press_versions self.old }
+    {
+        let mut seat = seat;
+        self.hear(seat.tell());
+    }
+
+    /// Ends the press. The versions last for as long as a seat or a pin holds them.
+    pub fn end<R: Wait>(self, _rt: &R) {
+        let _press = self;
+    }
+}
