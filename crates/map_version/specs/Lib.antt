@@ -1,0 +1,5 @@
+pub mod Lines
+pub mod Places
+pub mod Positions
+pub mod Faults
+pub mod Firsts

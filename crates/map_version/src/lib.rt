@@ -1,0 +1,17 @@
+//! Edits of a base map, a batch of lines at a time, and the versions that are built of them. It stands on `tgap_model`, whose
+//! `Edits` says what each line does and when it is refused, and on `plain_io`, which cuts a batch into lines and words.
+#![tactic(auto)]
+
+mod arcs;
+mod batch;
+mod cause;
+mod draft;
+mod fault;
+mod line;
+mod path;
+mod places;
+#[cfg(test)]
+mod tests;
+
+pub use batch::edited;
+pub use fault::EditFault;
