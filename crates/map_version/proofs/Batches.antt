@@ -1,12 +1,17 @@
 -- The lines of a batch, one after another.
-use Rattle.std.proofs.Common.{◌≡◌, ℕ, ◌≤◌, Bool, true, false, eqb, List, [], ◌∷◌, length, map, length-map, Option, Some, None, Result, Ok, Err, refl, sym, ap, subst, arith}
+use Rattle.std.proofs.Common.{◌≡◌, ◌∙◌, ℕ, ◌≤◌, Bool, true, false, eqb, List, [], ◌∷◌, length, map, Option, Some, None, Result, Ok, Err, refl, sym, ap, subst, arith}
 use Rattle.std.specs.Prelude.{if◌then◌else◌}
+use Rattle.std.proofs.lemmas.List.{length-map}
 use Rattle.std.specs.List.{slice_split, onto_first}
 use Rattle.std.proofs.lemmas.List.Splits.{slice_split-cons_yes, slice_split-cons_no}
 use Rattle.tgap_model.specs.Base.{BaseMap}
 use Rattle.tgap_model.specs.Texts.{rows_of}
 use Rattle.tgap_model.specs.Words.{Row}
 use Rattle.tgap_model.specs.Lines.{Lines, ◌>>=◌, next_number, whole_line, line_at, is_over}
+use Rattle.tgap_model.specs.declared.failure.Or.{Or}
+use Rattle.tgap_model.specs.declared.failure.Or.TheVariants.{Fault, Memory}
+use Rattle.plain_io.specs.Taking.{Refuses}
+use Rattle.map_version.specs.Faults.{fault_at, GivesEdited}
 use Rattle.edit_laws.proofs.Cases.{by_test}
 use Rattle.tgap_model.specs.Edits.{apply_line, at_line, edit_rows}
 
@@ -55,12 +60,28 @@ some_onto : {X : Type 0} (x : X) (parts : List (List X)) → 1 ≤ length parts 
 some_onto x [] some = absurd (omega arith)
 some_onto x (part ∷ parts) some = omega arith
 
+one_and_more : (parts : List (List ℕ)) → 1 ≤ length ([] ∷ parts)
+one_and_more parts = omega arith
+
 some_part : (test : ℕ → Bool) (xs : List ℕ) → 1 ≤ length (slice_split test xs)
 some_part test [] = omega arith
 some_part test (x ∷ xs) =
     by_test (test x)
-    (λ t. rw slice_split-cons_yes test x xs t (omega arith))
-    (λ f. rw slice_split-cons_no test x xs f (some_onto x (slice_split test xs) (some_part test xs)))
+    (λ t. subst (λ (parts : List (List ℕ)). 1 ≤ length parts) (sym (slice_split-cons_yes test x xs t)) (one_and_more (slice_split test xs)))
+    (λ f. subst (λ (parts : List (List ℕ)). 1 ≤ length parts) (sym (slice_split-cons_no test x xs f)) (some_onto x (slice_split test xs) (some_part test xs)))
 
 pub some_row : (bytes : List ℕ) → 1 ≤ length (rows_of bytes)
 some_row bytes = (let e = length-map (slice_split (λ b. eqb b 10) bytes) (slice_split (λ b. eqb b 32)) in let some = some_part (λ b. eqb b 10) bytes in omega arith)
+
+-- a line that is refused, with its number
+pub refused_with : {X : Type 0} (cause : Or ℕ) (n : ℕ) (read : Result BaseMap ℕ) (whole : Result X (ℕ × ℕ)) → Refuses cause read
+    → ((k : ℕ) → read ≡ Err k → whole ≡ Err (n, k)) → GivesEdited {X = X} (Err (fault_at n cause)) whole
+refused_with Memory n read whole h goes = tt
+refused_with (Fault k) n read whole h goes = goes k h
+
+-- the end of a batch
+pub over_gives : (lines : Lines) (m : BaseMap) (over : Bool) → 1 ≤ length lines.rows → line_at lines ≡ None → is_over lines.rows ≡ over
+    → (let fault : ℕ × ℕ = (lines.number, 1) in edit_rows lines.number lines.rows m ≡ (if over then Ok m else Err fault))
+over_gives lines m over some none e =
+    last_row lines m some none ∙ (let fault : ℕ × ℕ = (lines.number, 1) in let right : Result BaseMap (ℕ × ℕ) = Ok m in let wrong : Result BaseMap (ℕ × ℕ) = Err fault in
+    ap (λ (b : Bool). if b then right else wrong) e)

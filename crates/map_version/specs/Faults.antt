@@ -8,6 +8,11 @@ use Rattle.map_version.specs.declared.fault.EditFault.{EditFault}
 abbrev pub told_fault : EditFault → ℕ × ℕ
 told_fault fault = (fault.line, fault.cause)
 
+-- the fault of the line with this number, for this cause
+abbrev pub fault_at : ℕ → Or ℕ → Or EditFault
+fault_at line (Fault cause) = Fault (record { line = line; cause = cause })
+fault_at line Memory = Memory
+
 -- what a batch gives, want of memory apart
 abbrev pub GivesEdited : {X : Type 0} → Result X (Or EditFault) → Result X (ℕ × ℕ) → Type 0
 GivesEdited (Ok x) made = made ≡ Ok x

@@ -3,3 +3,4 @@ pub mod Places
 pub mod Positions
 pub mod Faults
 pub mod Firsts
+pub mod Drops

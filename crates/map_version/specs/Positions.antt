@@ -1,11 +1,19 @@
 -- Where a segment or an inner point stands among the points of an arc, and among all arcs.
-use Rattle.std.specs.Prelude.{ℕ, zero, suc, List, [], ◌∷◌, Option, Some, None, option_map, if◌then◌else◌}
+use Rattle.std.specs.Prelude.{ℕ, zero, suc, ◌+◌, ◌-◌, pos, Bool, slice_index_or, List, [], ◌∷◌, Option, Some, None, option_map, if◌then◌else◌}
 use Rattle.tgap_model.specs.declared.geometry.Point.{Point}
 use Rattle.tgap_model.specs.declared.base.BaseArc.{BaseArc}
 use Rattle.tgap_model.specs.Base.{same_point}
 use Rattle.tgap_model.specs.Edits.{are_ends, with_points}
 use Rattle.map_version.specs.declared.path.Sought.{Sought}
 use Rattle.map_version.specs.declared.path.Sought.TheVariants.{Segment, Inner}
+
+-- the point at a position
+abbrev pub point_of : List Point → ℕ → Point
+point_of points at = slice_index_or points at (record { x = pos 0; y = pos 0 })
+
+-- the points before and after a position are one
+abbrev pub turns_at : List Point → ℕ → Bool
+turns_at points at = same_point (point_of points (at - 1)) (point_of points (at + 1))
 
 -- the position of the second point of the first segment with these ends
 abbrev pub segment_at : Point → Point → List Point → Option ℕ

@@ -1,8 +1,8 @@
 //! A batch of edits.
 
-ghost use Rattle.std.specs.Prelude.{◌≡◌, IfOk};
+ghost use Rattle.std.specs.Prelude.{◌≡◌, ◌≤◌, length};
 ghost use Rattle.tgap_model.specs.Edits.{edit_rows, edited};
-ghost use Rattle.map_version.specs.Faults.{GivesEdited};
+ghost use Rattle.map_version.specs.Faults.{fault_at, GivesEdited};
 
 use crate::cause::NO_EDIT;
 use crate::draft::Draft;
@@ -12,7 +12,9 @@ use std::alloc::Global;
 use tgap_model::{Base, Or};
 
 /// The fault of the line with this number.
-fn at_line(line: u32, cause: Or<u8>) -> Or<EditFault> {
+fn at_line(line: u32, cause: Or<u8>) -> Or<EditFault>
+    ensures { result ≡ fault_at line cause }
+{
     match cause {
         Or::Fault(cause) => Or::Fault(EditFault { line, cause }),
         Or::Memory => Or::Memory,
@@ -21,6 +23,7 @@ fn at_line(line: u32, cause: Or<u8>) -> Or<EditFault> {
 
 /// The map after the lines of the batch that are left.
 fn apply_all(alloc: Global, mut draft: Draft, lines: &mut Lines) -> Result<Draft, Or<EditFault>>
+    requires { 1 ≤ length lines.old.rows }
     ensures { GivesEdited result (edit_rows lines.old.number lines.old.rows draft) }
 {
     let mut number = lines.number();

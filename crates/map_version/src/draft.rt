@@ -1,23 +1,25 @@
 //! A base map to which the lines of a batch are applied.
 
-ghost use Rattle.std.specs.Prelude.{◌≡◌, ◌≤◌, ◌<◌, ◌^◌, IfSome, IfOk, IsTrue};
-ghost use Rattle.tgap_model.specs.Base.{in_limits, is_base, same_point};
+ghost use Rattle.std.specs.Prelude.{◌≡◌, ◌≤◌, ◌<◌, ◌^◌, Some, IfSome, IfOk, IsTrue};
+ghost use Rattle.tgap_model.specs.Base.{in_limits, count_points};
 ghost use Rattle.tgap_model.specs.Edits.{named, set_class, move_point, add_point, drop_point, apply, apply_line};
 ghost use Rattle.plain_io.specs.Taking.{GivesWhole};
 ghost use Rattle.edit_laws.specs.EditLaws.{FitsLimits};
 ghost use Rattle.map_version.specs.Lines.{told};
+ghost use Rattle.map_version.specs.Positions.{inner_at, first_place};
+ghost use Rattle.map_version.specs.Drops.{dropped_at};
 
-use crate::arcs::IndexedArcs;
+use crate::arcs::{IndexedArcs, Place};
 use crate::cause::{
     IS_NODE, NO_EDIT, NO_ROOM, NO_SUCH_NUMBER, NO_SUCH_POINT, NO_SUCH_SEGMENT, POINT_TAKEN,
     TURNS_BACK, ensured, found,
 };
 use crate::line::{Edit, read_edit};
-use crate::path::Sought;
+use crate::path::{Sought, turns_back};
 use plain_io::{Pieces, read_number};
 use std::alloc::Global;
 use std::marker::Model;
-use tgap_model::{Base, List, MAX_POINTS, Memory, Or, Point, Rules, Transform};
+use tgap_model::{Base, BaseArc, List, MAX_POINTS, Memory, Or, Point, Rules, Transform};
 
 /// The parts of a base map, which it is at any time, with the places of its points and their number.
 #[derive(Drop)]
@@ -61,22 +63,26 @@ fn named(word: &[u8], least: u32, most: usize) -> Option<usize>
     Some(number as usize)
 }
 
+/// How many points all arcs have.
+fn count_points(arcs: &[BaseArc]) -> usize
+    requires { count_points arcs.now ≤ MAX_POINTS }
+    ensures { result ≡ count_points arcs.now }
+{
+    arcs.iter().map(|arc| arc.points.len()).sum()
+}
+
 impl Draft {
     /// A copy of a base map.
     pub fn of(alloc: Global, base: &Base) -> Result<Draft, Memory>
         ensures { IfOk result (λ draft. draft ≡ base.now) }
     {
         let arcs = base.arcs().as_slice();
-        let mut count = 0;
-        for arc in arcs {
-            count += arc.points.len();
-        }
         Ok(Draft {
             transform: *base.transform(),
             rules: copy_rules(alloc, base.rules())?,
             classes: Vec::from_slice(alloc, base.classes().as_slice())?,
             arcs: IndexedArcs::of(alloc, arcs)?,
-            count,
+            count: count_points(arcs),
         })
     }
 
@@ -102,7 +108,7 @@ impl Draft {
     /// The map after an edit whose new point, if it has one, is within the limits.
     fn apply(self, alloc: Global, edit: Edit) -> Result<Draft, Or<u8>>
         requires { FitsLimits (told edit) }
-        ensures { GivesWhole result (apply self (told edit)) }
+        ensures { GivesWhole result (apply self (told edit.entry)) }
     {
         match edit {
             Edit::Class { face, class } => self.set_class(face, class),
@@ -136,7 +142,6 @@ impl Draft {
     }
 
     /// The map with a point more between the ends of a segment.
-    #[tactic(auto, unfolding(tgap_model::specs::Edits::add_point))]
     fn add_point(mut self, alloc: Global, a: Point, b: Point, new: Point) -> Result<Draft, Or<u8>>
         requires { IsTrue (in_limits new) }
         ensures { GivesWhole result (add_point self a b new) }
@@ -151,16 +156,24 @@ impl Draft {
 
     /// The map with an inner point taken out.
     #[tactic(auto, unfolding(tgap_model::specs::Edits::drop_point))]
-    fn drop_point(mut self, alloc: Global, old: Point) -> Result<Draft, Or<u8>>
+    fn drop_point(self, alloc: Global, old: Point) -> Result<Draft, Or<u8>>
         ensures { GivesWhole result (drop_point self old) }
     {
         ensured(self.arcs.has_point(&old), NO_SUCH_POINT)?;
         ensured(!self.arcs.is_node(&old), IS_NODE)?;
-        let Some(place) = self.arcs.place_of(&Sought::Inner(old)) else {
-            return Ok(self);
-        };
-        let points = self.arcs.points(place.arc);
-        ensured(points[place.at - 1] != points[place.at + 1], TURNS_BACK)?;
+        match self.arcs.place_of(&Sought::Inner(old)) {
+            Some(place) => self.drop_at(alloc, &old, place),
+            None => Ok(self),
+        }
+    }
+
+    /// The map without this inner point, which stands at this place first.
+    fn drop_at(mut self, alloc: Global, old: &Point, place: Place) -> Result<Draft, Or<u8>>
+        requires { first_place (inner_at old.now) self.arcs ≡ Some (place.arc, place.at) }
+        ensures { GivesWhole result (dropped_at self (Some place)) }
+    {
+        let turns = turns_back(self.arcs.points(place.arc), place.at);
+        ensured(!turns, TURNS_BACK)?;
         self.arcs = self.arcs.remove(alloc, place);
         self.count -= 1;
         Ok(self)

@@ -1,11 +1,11 @@
 //! The points of one arc, and what is sought among them.
 
-ghost use Rattle.std.specs.Prelude.{◌≡◌, ◌≤◌, ◌<◌, ◌||◌, length, map, insert, remove, OnOk, IsTrue};
+ghost use Rattle.std.specs.Prelude.{◌≡◌, ◌≤◌, ◌<◌, ◌+◌, ◌||◌, length, map, insert, remove, OnOk, IsTrue};
 ghost use Rattle.std.specs.List.{list_any};
 ghost use Rattle.tgap_model.specs.Base.{same_point};
 ghost use Rattle.tgap_model.specs.Chains.{first_point, last_point};
 ghost use Rattle.tgap_model.specs.Edits.{are_ends, moved, with_points};
-ghost use Rattle.map_version.specs.Positions.{segment_at, inner_at, position, sought_point};
+ghost use Rattle.map_version.specs.Positions.{segment_at, inner_at, position, sought_point, turns_at};
 
 use std::alloc::Global;
 use std::mem;
@@ -84,6 +84,15 @@ pub fn is_end(points: &[Point], point: &Point) -> bool
     ensures { result ≡ (same_point point.now (first_point points.now) || same_point point.now (last_point points.now)) }
 {
     *point == points[0] || *point == points[points.len() - 1]
+}
+
+/// Whether the points before and after a position are one.
+pub fn turns_back(points: &[Point], at: usize) -> bool
+    requires before { 1 ≤ at }
+    requires after { at + 1 < length points.now }
+    ensures { result ≡ turns_at points.now at }
+{
+    points[at - 1] == points[at + 1]
 }
 
 /// Moves each point that is the old one to the new one.
