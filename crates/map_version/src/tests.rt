@@ -1,9 +1,14 @@
 //! Batches on two squares side by side.
 
-use crate::{EditFault, edited};
+use crate::{EditFault, RebuildFail, Version, edited, rebuild};
+use base_check::check;
 use std::alloc::Global;
 use std::test::Fail;
-use tgap_model::{Base, BaseArc, List, Memory, Or, Point, Rules, Transform};
+use std::thread::Threads;
+use tgap_build::build;
+use tgap_model::{
+    Base, BaseArc, Fraction, Holds, List, MapFault, Memory, Or, Point, Rules, Transform,
+};
 
 /// An arc through these points.
 fn arc(alloc: Global, left: u32, right: u32, points: &[(i64, i64)]) -> Result<BaseArc, Memory> {
@@ -106,5 +111,48 @@ fn the_first_fault_is_told(rt: HostRuntime) -> Result<(), Fail> {
     for (batch, fault) in cases {
         assert_eq!(rt; fault_of(alloc, &base, batch)?, fault);
     }
+    Ok(())
+}
+
+/// The two squares as version 0.
+fn version_of<R: Threads + Sync>(rt: &R, alloc: Global) -> Result<Option<Version>, Memory> {
+    let Some(base) = squares(alloc, &[(10, 0), (10, 10)])? else {
+        return Ok(None);
+    };
+    match check(rt, alloc, base) {
+        Ok(checked) => Ok(Some(Version {
+            number: 0,
+            built: build(rt, alloc, checked)?,
+        })),
+        Err(Or::Fault(_)) => Ok(None),
+        Err(Or::Memory) => Err(Memory),
+    }
+}
+
+#[test]
+fn the_next_version_is_built(rt: HostRuntime) -> Result<(), Fail> {
+    let alloc = rt.alloc();
+    let first = version_of(&rt, alloc)?.ok_or("no version")?;
+    let second = rebuild(&rt, alloc, &first, b"move 20 10 24 10\n")?;
+    assert_eq!(rt; second.number(), 1);
+    assert_eq!(rt; points_of(second.built.base(), 1).get(2).copied(), Some(Point { x: 24, y: 10 }));
+    Ok(())
+}
+
+#[test]
+fn an_edited_map_with_a_fault_is_refused(rt: HostRuntime) -> Result<(), Fail> {
+    let alloc = rt.alloc();
+    let first = version_of(&rt, alloc)?.ok_or("no version")?;
+    let fault = match rebuild(&rt, alloc, &first, b"move 20 0 0 5\n") {
+        Ok(_) => None,
+        Err(fail) => Some(fail),
+    };
+    let at = Fraction {
+        nx: 0,
+        ny: 500,
+        d: 100,
+    };
+    let expected = RebuildFail::Map(MapFault::Meets { i: 1, j: 3, at });
+    assert_eq!(rt; fault, Some(expected));
     Ok(())
 }
