@@ -178,7 +178,7 @@ listed_more i arc p point points k first before after lt here lists so_far =
     let b = list_any (same_point p) (take k points) in
     let e = eqb arc i in
     let more : list_any (same_point p) (take (k + 1) points) ≡ (b || same_point p point) =
-        list_any_more (same_point p) points k point lt ∙ ap (λ (q : Point). b || same_point p q) (sym here) in
+    list_any_more (same_point p) points k point lt ∙ ap (λ (q : Point). b || same_point p q) (sym here) in
     by_test (same_point p point)
     (λ t.
     let all : list_any (same_point p) (take (k + 1) points) ≡ (b || true) = more ∙ ap (λ (s : Bool). b || s) t in

@@ -160,7 +160,10 @@ impl IndexedArcs {
         requires free { has_point new self ≡ false }
         ensures { IfOk result (λ arcs. arcs ≡ move_all old.now new self) }
     {
-        let IndexedArcs { mut arcs, mut places } = self;
+        let IndexedArcs {
+            mut arcs,
+            mut places,
+        } = self;
         move_listed(alloc, &mut arcs, places.of_point(old), old, new);
         places.pass(alloc, old, new)?;
         Ok(IndexedArcs { arcs, places })
@@ -173,7 +176,10 @@ impl IndexedArcs {
         requires free { has_point new self ≡ false }
         ensures { IfOk result (λ arcs. arcs ≡ changed_at place.arc (λ points. insert points place.at new) self) }
     {
-        let IndexedArcs { mut arcs, mut places } = self;
+        let IndexedArcs {
+            mut arcs,
+            mut places,
+        } = self;
         insert_in(alloc, &mut arcs[place.arc], place.at, new)?;
         places.set(alloc, new, place.arc)?;
         Ok(IndexedArcs { arcs, places })

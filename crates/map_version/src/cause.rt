@@ -45,9 +45,5 @@ pub fn found<T>(value: Option<T>, cause: u8) -> Result<T, Or<u8>>
 pub fn ensured(holds: bool, cause: u8) -> Result<(), Or<u8>>
     ensures { result ≡ ensured holds (Fault cause) }
 {
-    if holds {
-        Ok(())
-    } else {
-        Err(Or::Fault(cause))
-    }
+    if holds { Ok(()) } else { Err(Or::Fault(cause)) }
 }

@@ -90,7 +90,13 @@ impl Draft {
     pub fn into_base(self) -> Base
         ensures { result ≡ self }
     {
-        let Draft { transform, rules, classes, arcs, .. } = self;
+        let Draft {
+            transform,
+            rules,
+            classes,
+            arcs,
+            ..
+        } = self;
         match Base::new(transform, rules, List::from(classes), arcs.into_list()) {
             Some(base) => base,
             None => unreachable!(),
@@ -124,7 +130,10 @@ impl Draft {
         ensures { GivesWhole result (set_class self face.now class.now) }
     {
         let face = found(named(face, 1, self.classes.len()), NO_SUCH_NUMBER)?;
-        let class = found(named(class, 0, self.rules.weights.len() - 1), NO_SUCH_NUMBER)?;
+        let class = found(
+            named(class, 0, self.rules.weights.len() - 1),
+            NO_SUCH_NUMBER,
+        )?;
         self.classes[face - 1] = class as u32;
         Ok(self)
     }

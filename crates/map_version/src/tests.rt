@@ -81,7 +81,8 @@ fn one_point_is_moved(rt: HostRuntime) -> Result<(), Fail> {
 fn each_line_sees_the_lines_before_it(rt: HostRuntime) -> Result<(), Fail> {
     let alloc = rt.alloc();
     let base = squares(alloc, &[(10, 0), (10, 10)])?.ok_or("no base map")?;
-    let batch = b"add 10 10 10 0 11 5\nclass 2 0\nmove 10 0 9 0\nmove 11 5 12 5\nadd 12 5 9 0 11 1\ndrop 12 5\n";
+    let batch =
+        b"add 10 10 10 0 11 5\nclass 2 0\nmove 10 0 9 0\nmove 11 5 12 5\nadd 12 5 9 0 11 1\ndrop 12 5\n";
     let made = edited(alloc, &base, batch)?;
     let expected = [
         Point { x: 9, y: 0 },
@@ -135,7 +136,10 @@ fn the_next_version_is_built(rt: HostRuntime) -> Result<(), Fail> {
     let first = version_of(&rt, alloc)?.ok_or("no version")?;
     let second = rebuild(&rt, alloc, &first, b"move 20 10 24 10\n")?;
     assert_eq!(rt; second.number(), 1);
-    assert_eq!(rt; points_of(second.built.base(), 1).get(2).copied(), Some(Point { x: 24, y: 10 }));
+    assert_eq!(rt;
+        points_of(second.built.base(), 1).get(2).copied(),
+        Some(Point { x: 24, y: 10 })
+    );
     Ok(())
 }
 

@@ -7,9 +7,11 @@ use Rattle.map_version.proofs.Batches.{line_taken, line_applied, line_refused, o
 use Rattle.map_version.proofs.batch.apply_all.Goals as goal
 
 pub loop-words-preserved : goal.loop-words-preserved
-loop-words-preserved c =
-    (c.loop-words.invariant.0 ∙ line_applied c.loop-words.lines c.in-Some.words c.next_line.new.self c.loop-words.draft c.in-Ok.next c.in-Some.ensures c.in-Ok.ensures,
-    c.number-number-in-Some.ensures, (line_taken c.loop-words.lines c.in-Some.words c.next_line.new.self c.in-Some.ensures).some)
+loop-words-preserved c = (
+  c.loop-words.invariant.0 ∙ line_applied c.loop-words.lines c.in-Some.words c.next_line.new.self c.loop-words.draft c.in-Ok.next c.in-Some.ensures c.in-Ok.ensures,
+  c.number-number-in-Some.ensures,
+  (line_taken c.loop-words.lines c.in-Some.words c.next_line.new.self c.in-Some.ensures).some,
+)
 
 pub returns-in-Err : goal.returns-in-Err
 returns-in-Err c =

@@ -15,7 +15,7 @@ invariant_of-result c =
     let arcs = c.self.inside.arcs.items in
     let moved_there : c.move_listed.new.arcs ≡ move_all old new arcs = c.move_listed.ensures ∙ ap (move_all old new) c.deref_mut.ensures.value in
     let written = all_written arcs c.move_listed.new.arcs c.self.inside.arcs.len
-        (omega (arith, c.self.inside.arcs.ok.0, c.move_listed.auto.arcs, ap (length {A = BaseArc}) c.deref_mut.ensures.value)) (omega (arith, c.self.inside.arcs.ok.0)) in
+    (omega (arith, c.self.inside.arcs.ok.0, c.move_listed.auto.arcs, ap (length {A = BaseArc}) c.deref_mut.ensures.value)) (omega (arith, c.self.inside.arcs.ok.0)) in
     let there = ap (has_point old) c.self.view_is ∙ c.requires.there in
     let free = ap (has_point new) c.self.view_is ∙ c.requires.free in
     subst (Covers (listed c.pass.new.self)) (sym (written ∙ moved_there))

@@ -44,9 +44,10 @@ invariant_of-self c =
     let changes = added_arcs c.args.a c.args.b c.args.new arcs c.in_ok-place.place first in
     let free : has_point c.args.new arcs ≡ false = sym c.has_point.ensures ∙ not-true c.has_point.result (ensured_holds (not c.has_point.result) _ _ c.in_ok-ensured.ensures) in
     let room = ltb-true c.self.inside.count MAX_POINTS (ensured_holds (nat_lt c.self.inside.count MAX_POINTS) _ _ c.in_ok-ensured-2.ensures) in
-    subst (λ (xs : List BaseArc). IsTrue (is_base (record m { arcs = xs })) × (c.self.inside.count + 1 ≡ count_points xs)) (sym c.in_ok-self-inside.ensures)
-    (add_again m c.args.a c.args.b c.args.new _ c.self.invariant.0 c.requires free changes (omega (arith, room, c.self.invariant.1)),
-    omega (arith, put_count c.args.a c.args.b c.args.new arcs _ changes, c.self.invariant.1))
+    subst (λ (xs : List BaseArc). IsTrue (is_base (record m { arcs = xs })) × (c.self.inside.count + 1 ≡ count_points xs)) (sym c.in_ok-self-inside.ensures) (
+      add_again m c.args.a c.args.b c.args.new _ c.self.invariant.0 c.requires free changes (omega (arith, room, c.self.invariant.1)),
+      omega (arith, put_count c.args.a c.args.b c.args.new arcs _ changes, c.self.invariant.1),
+    )
 
 pub returns : goal.returns
 returns c =

@@ -35,6 +35,6 @@ invariant_of-self c =
     let first = ap (λ (x : BaseMap). first_place (inner_at c.args.old.now) x.arcs) c.self.view_is ∙ c.requires in
     let changes = dropped_arcs c.args.old.now arcs c.args.place (sym first) in
     let apart = dropped_turns m c.args.old.now c.args.place (sym first)
-        ∙ (ap (λ (ps : List Point). turns_at ps c.args.place.at) (sym c.points.ensures) ∙ (sym c.turns_back-turns.ensures ∙ not-true c.turns_back-turns.result (ensured_holds (not c.turns_back-turns.result) _ _ c.in_ok-ensured.ensures))) in
+    ∙ (ap (λ (ps : List Point). turns_at ps c.args.place.at) (sym c.points.ensures) ∙ (sym c.turns_back-turns.ensures ∙ not-true c.turns_back-turns.result (ensured_holds (not c.turns_back-turns.result) _ _ c.in_ok-ensured.ensures))) in
     subst (λ (xs : List BaseArc). IsTrue (is_base (record m { arcs = xs })) × (c.self.inside.count - 1 ≡ count_points xs)) (sym c.remove.ensures)
     (drop_again m c.args.old.now _ c.self.invariant.0 apart changes, omega (arith, taken_count c.args.old.now arcs _ changes, c.self.invariant.1))
