@@ -1,5 +1,5 @@
 -- An edit that is not refused has passed its tests.
-use Rattle.std.proofs.Common.{◌≡◌, ℕ, Bool, true, false, not, nat_lt, List, Option, Some, None, Result, Ok, IsTrue, refl, subst}
+use Rattle.std.proofs.Common.{◌≡◌, ℕ, ◌-◌, Bool, true, false, not, nat_lt, List, length, set, Option, Some, None, Result, Ok, IsTrue, refl, subst, arith}
 use Rattle.std.specs.Prelude.{unwrap_or}
 use Rattle.std.specs.Option.{ok_or}
 use Rattle.std.proofs.lemmas.Bool.{ltb-true}
@@ -7,10 +7,29 @@ use Rattle.tgap_model.specs.declared.base.BaseArc.{BaseArc}
 use Rattle.tgap_model.specs.declared.limits.TheConstants.{MAX_POINTS}
 use Rattle.tgap_model.specs.Base.{BaseMap, is_base, count_points}
 use Rattle.tgap_model.specs.Json.{ensured}
+use Rattle.tgap_model.proofs.BaseFacts.{base_facts, rules_facts}
 use Rattle.tgap_model.specs.Lines.{◌>>=◌}
-use Rattle.tgap_model.specs.Edits.{has_point, is_node, move_all, put_between, take_out, change_first, turns_back, move_point, add_point, drop_point}
-use Rattle.edit_laws.specs.EditLaws.{MovesKeepMaps, AddsKeepMaps, DropsKeepMaps}
-use Rattle.edit_laws.proofs.Laws.{move_again, add_again, drop_again}
+use Rattle.tgap_model.specs.Edits.{named, set_class, has_point, is_node, move_all, put_between, take_out, change_first, turns_back, move_point, add_point, drop_point}
+use Rattle.edit_laws.specs.EditLaws.{ClassesKeepMaps, MovesKeepMaps, AddsKeepMaps, DropsKeepMaps}
+use Rattle.edit_laws.proofs.Numbers.{named_most}
+use Rattle.edit_laws.proofs.Laws.{classes_again, move_again, add_again, drop_again}
+
+pub classes_keep : ClassesKeepMaps
+unfolding set_class
+classes_keep m e face class base made =
+    by (named 1 (length m.classes) face) (named 0 (length m.rules.weights - 1) class) refl made
+  where
+    by : (f k : Option ℕ) → named 0 (length m.rules.weights - 1) class ≡ k
+        → (let result : Result BaseMap ℕ = ok_or f 2 >>= λ at. ok_or k 2 >>= λ set_to. Ok (record m { classes = set m.classes (at - 1) set_to }) in
+        let wanted : Result BaseMap ℕ = Ok e in result ≡ wanted)
+        → IsTrue (is_base e)
+    by None k read made = absurd cc
+    by (Some at) None read made = absurd cc
+    by (Some at) (Some set_to) read made =
+        (let same : record m { classes = set m.classes (at - 1) set_to } ≡ e = cc in
+        let most = named_most 0 (length m.rules.weights - 1) class set_to read in
+        let some = (rules_facts m.rules (base_facts m base).rules).some_class in
+        subst (λ (x : BaseMap). IsTrue (is_base x)) same (classes_again m (at - 1) set_to base (omega arith)))
 
 pub moves_keep : MovesKeepMaps
 unfolding move_point

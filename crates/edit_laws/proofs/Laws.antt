@@ -148,7 +148,7 @@ moved_keeps old new (a ∷ arcs) =
     let rest = moved_keeps old new arcs in
     record { count = ap suc rest.count; borders = λ f. ap (λ b. borders_face f a || b) (rest.borders f) }
 
-moved_count : (old new : Point) (arcs : List BaseArc) → count_points (move_all old new arcs) ≡ count_points arcs
+pub moved_count : (old new : Point) (arcs : List BaseArc) → count_points (move_all old new arcs) ≡ count_points arcs
 moved_count old new [] = refl
 moved_count old new (a ∷ arcs) =
     let before = sum_by-cons (λ (b : BaseArc). length b.points) a arcs in

@@ -1,4 +1,6 @@
 mod Examples
 pub mod Cases
 pub mod Laws
+pub mod Numbers
 pub mod EditsKeep
+pub mod Batches

@@ -1,0 +1,91 @@
+-- What the tests of an edit let pass.
+use Rattle.std.proofs.Common.{◌≡◌, ◌∙◌, ℕ, zero, suc, ◌-◌, ◌+◌, pos, arith, [], ◌∷◌, Bool, true, false, not, nat_lt, List, insert, remove, Option, Some, None, Result, Ok, Err, refl, sym, ap}
+use Rattle.std.specs.Prelude.{option_map}
+use Rattle.std.specs.Option.{ok_or}
+use Rattle.tgap_model.specs.declared.geometry.Point.{Point}
+use Rattle.tgap_model.specs.declared.base.BaseArc.{BaseArc}
+use Rattle.tgap_model.specs.declared.limits.TheConstants.{MAX_POINTS}
+use Rattle.tgap_model.specs.Base.{BaseMap, same_point, count_points, is_arc}
+use Rattle.tgap_model.specs.Chains.{arc_number}
+use Rattle.tgap_model.specs.Json.{ensured}
+use Rattle.tgap_model.specs.Lines.{◌>>=◌}
+use Rattle.tgap_model.specs.Edits.{has_point, is_node, put_between, take_out, change_first, turns_back, add_point, drop_point}
+use Rattle.edit_laws.proofs.Laws.{are_same, turns_back_is}
+use Rattle.map_version.specs.declared.arcs.Place.{Place}
+use Rattle.map_version.specs.Positions.{segment_at, inner_at, turns_at, first_place, changed_at}
+use Rattle.std.specs.List.{list_all}
+use Rattle.std.proofs.lemmas.Bool.{and_parts}
+use Rattle.tgap_model.proofs.BaseFacts.{arc_facts}
+use Rattle.map_version.specs.Places.{HavePoints}
+use Rattle.map_version.specs.Drops.{dropped_at}
+use Rattle.map_version.proofs.Firsts.{put_first, take_first, neighbours_first, nothing_to_find}
+use Rattle.map_version.proofs.Least.{pair_of}
+
+-- a test that lets pass holds
+pub ensured_holds : {F : Type 0} (b : Bool) (fault : F) (x : Unit {0}) → Ok x ≡ ensured b fault → b ≡ true
+ensured_holds true fault x e = refl
+ensured_holds false fault x e = absurd cc
+
+-- what is found is there
+pub found_is : {A F : Type 0} (o : Option A) (fault : F) (x : A) → Ok x ≡ ok_or o fault → o ≡ Some x
+found_is (Some y) fault x e = cc
+found_is None fault x e = absurd cc
+
+-- ---- a point that is added, by the place of its segment
+
+pub add_by : (m : BaseMap) (a b new : Point) (first : Option Place) → option_map pair_of first ≡ first_place (segment_at a b) m.arcs
+    → add_point m a b new ≡ (ok_or first 5 >>= λ s. ensured (not (has_point new m.arcs)) 4 >>= λ f. ensured (nat_lt (count_points m.arcs) MAX_POINTS) 8
+    >>= λ r. Ok (record m { arcs = changed_at s.arc (λ points. insert points s.at new) m.arcs }))
+unfolding add_point
+add_by m a b new None e = rw (put_first a b new m.arcs ∙ ap (option_map (λ (s : ℕ × ℕ). changed_at s.0 (λ points. insert points s.1 new) m.arcs)) (sym e)) refl
+add_by m a b new (Some s) e = rw (put_first a b new m.arcs ∙ ap (option_map (λ (s : ℕ × ℕ). changed_at s.0 (λ points. insert points s.1 new) m.arcs)) (sym e)) refl
+
+-- what a segment's place changes
+pub added_arcs : (a b new : Point) (arcs : List BaseArc) (s : Place) → Some (pair_of s) ≡ first_place (segment_at a b) arcs
+    → change_first (put_between a b new) arcs ≡ Some (changed_at s.arc (λ points. insert points s.at new) arcs)
+added_arcs a b new arcs s e = put_first a b new arcs ∙ ap (option_map (λ (s : ℕ × ℕ). changed_at s.0 (λ points. insert points s.1 new) arcs)) (sym e)
+
+-- the map with the point
+pub add_made : (m : BaseMap) (a b new : Point) (s : Place) → Some (pair_of s) ≡ first_place (segment_at a b) m.arcs → has_point new m.arcs ≡ false
+    → nat_lt (count_points m.arcs) MAX_POINTS ≡ true → add_point m a b new ≡ Ok (record m { arcs = changed_at s.arc (λ points. insert points s.at new) m.arcs })
+unfolding add_point
+add_made m a b new s e free room = (let changes = added_arcs a b new m.arcs s e in rw (changes, free, room) refl)
+
+-- ---- a point that is dropped, by its place
+
+pub dropped_arcs : (old : Point) (arcs : List BaseArc) (s : Place) → Some (pair_of s) ≡ first_place (inner_at old) arcs
+    → change_first (take_out old) arcs ≡ Some (changed_at s.arc (λ points. remove points s.at) arcs)
+dropped_arcs old arcs s e = take_first old arcs ∙ ap (option_map (λ (s : ℕ × ℕ). changed_at s.0 (λ points. remove points s.1) arcs)) (sym e)
+
+pub dropped_turns : (m : BaseMap) (old : Point) (s : Place) → Some (pair_of s) ≡ first_place (inner_at old) m.arcs
+    → turns_back old m.arcs ≡ turns_at (arc_number m.arcs s.arc).points s.at
+dropped_turns m old s e =
+    turns_back_is old m.arcs ∙ ap are_same (neighbours_first old m.arcs (record { x = pos 0; y = pos 0 }) (pair_of s) (sym e))
+
+pub drop_by : (m : BaseMap) (old : Point) (first : Option Place) → option_map pair_of first ≡ first_place (inner_at old) m.arcs
+    → drop_point m old ≡ (ensured (has_point old m.arcs) 3 >>= λ t. ensured (not (is_node old m.arcs)) 6 >>= λ i. dropped_at m first)
+unfolding drop_point
+drop_by m old None e =
+    let turns : turns_back old m.arcs ≡ false = turns_back_is old m.arcs ∙ ap are_same (nothing_to_find old m.arcs (sym e)) in
+    let stays : change_first (take_out old) m.arcs ≡ None = take_first old m.arcs ∙ ap (option_map (λ (s : ℕ × ℕ). changed_at s.0 (λ points. remove points s.1) m.arcs)) (sym e) in
+    rw (turns, stays) refl
+drop_by m old (Some s) e =
+    let turns = dropped_turns m old s e in
+    let changes = dropped_arcs old m.arcs s e in
+    rw (turns, changes) refl
+
+-- where the tests before hold
+pub drop_goes : (m : BaseMap) (old : Point) (first : Option Place) → option_map pair_of first ≡ first_place (inner_at old) m.arcs → has_point old m.arcs ≡ true
+    → is_node old m.arcs ≡ false → drop_point m old ≡ dropped_at m first
+drop_goes m old first e there inner = drop_by m old first e ∙ rw (there, inner) refl
+
+-- the map without the point
+pub drop_made : (m : BaseMap) (s : Place) → turns_at (arc_number m.arcs s.arc).points s.at ≡ false
+    → dropped_at m (Some s) ≡ Ok (record m { arcs = changed_at s.arc (λ points. remove points s.at) m.arcs })
+drop_made m s apart = rw apart refl
+
+-- each arc of a base map has a point
+pub have_points : (n : ℕ) (arcs : List BaseArc) → list_all (is_arc n) arcs ≡ true → HavePoints arcs
+have_points n [] all i lt = absurd (omega arith)
+have_points n (a ∷ arcs) all zero lt = (let long = (arc_facts n a (and_parts (is_arc n a) (list_all (is_arc n) arcs) all).0).two_points in omega arith)
+have_points n (a ∷ arcs) all (suc i) lt = have_points n arcs (and_parts (is_arc n a) (list_all (is_arc n) arcs) all).1 i (omega arith)

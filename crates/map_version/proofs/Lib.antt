@@ -1,0 +1,7 @@
+pub mod Positions
+pub mod Firsts
+pub mod Listed
+pub mod Least
+pub mod Moves
+pub mod Drafts
+pub mod Batches

@@ -1,0 +1,6 @@
+pub mod Lines
+pub mod Places
+pub mod Positions
+pub mod Faults
+pub mod Firsts
+pub mod Drops

@@ -1,0 +1,57 @@
+//! A batch of edits.
+
+ghost use Rattle.std.specs.Prelude.{◌≡◌, ◌≤◌, length};
+ghost use Rattle.tgap_model.specs.Edits.{edit_rows, edited};
+ghost use Rattle.map_version.specs.Faults.{fault_at, GivesEdited};
+
+use crate::cause::NO_EDIT;
+use crate::draft::Draft;
+use crate::fault::EditFault;
+use plain_io::Lines;
+use std::alloc::Global;
+use tgap_model::{Base, Or};
+
+/// The fault of the line with this number.
+fn at_line(line: u32, cause: Or<u8>) -> Or<EditFault>
+    ensures { result ≡ fault_at line cause }
+{
+    match cause {
+        Or::Fault(cause) => Or::Fault(EditFault { line, cause }),
+        Or::Memory => Or::Memory,
+    }
+}
+
+/// The map after the lines of the batch that are left.
+fn apply_all(alloc: Global, mut draft: Draft, lines: &mut Lines) -> Result<Draft, Or<EditFault>>
+    requires { 1 ≤ length lines.old.rows }
+    ensures { GivesEdited result (edit_rows lines.old.number lines.old.rows draft) }
+{
+    let mut number = lines.number();
+    while let Some(mut words) = lines.next_line() {
+        match draft.apply_line(alloc, &mut words) {
+            Ok(next) => draft = next,
+            Err(cause) => return Err(at_line(number, cause)),
+        }
+        number = lines.number();
+    }
+    if lines.is_over() {
+        Ok(draft)
+    } else {
+        Err(at_line(number, Or::Fault(NO_EDIT)))
+    }
+}
+
+/// The map that a batch of lines makes of a base map, each line applied to what the lines before it left, by 'Edit batches' of
+/// docs/formats.md. Where a line is at fault the answer is that line and its cause, and the base map stays as it is.
+///
+/// Lines are numbered from 1, and all from 4,294,967,295 on have that number. Its cost is one pass over the map, and for each
+/// line the logarithm of the number of points and the length of the arcs that have the points that it names.
+pub fn edited(alloc: Global, base: &Base, batch: &[u8]) -> Result<Base, Or<EditFault>>
+    // The edited map, or the first line at fault with its cause, by the function that computes on small batches.
+    ensures exact { GivesEdited result (edited base.now batch.now) }
+{
+    let draft = Draft::of(alloc, base)?;
+    let mut lines = Lines::of(batch);
+    let draft = apply_all(alloc, draft, &mut lines)?;
+    Ok(draft.into_base())
+}

@@ -1,0 +1,20 @@
+//! Edits of a base map, a batch of lines at a time, and the versions that are built of them. It stands on `tgap_model`, whose
+//! `Edits` says what each line does and when it is refused, and on `plain_io`, which cuts a batch into lines and words. A version
+//! is checked by `base_check` and built by `tgap_build`.
+#![tactic(auto)]
+
+mod arcs;
+mod batch;
+mod cause;
+mod draft;
+mod fault;
+mod line;
+mod path;
+mod places;
+#[cfg(test)]
+mod tests;
+mod version;
+
+pub use batch::edited;
+pub use fault::EditFault;
+pub use version::{RebuildFail, Version, rebuild};

@@ -1,0 +1,88 @@
+//! The versions of a map.
+
+ghost use Rattle.std.specs.Prelude.{◌≡◌, ◌<◌, ◌+◌, ◌-◌, ◌^◌, Ok, Err, Some, None, IfOk};
+ghost use Rattle.tgap_model.specs.Base.{BaseMap};
+ghost use Rattle.tgap_model.specs.declared.fault.MapFault.{MapFault as FaultOfMap};
+ghost use Rattle.tgap_model.specs.Partition.{map_fault};
+ghost use Rattle.tgap_model.specs.Edits.{edited};
+ghost use Rattle.map_version.specs.declared.fault.EditFault.{EditFault as FaultOfEdit};
+ghost use Rattle.map_version.specs.declared.version.RebuildFail.TheVariants.{Edit, Map};
+ghost use Rattle.map_version.specs.Faults.{told_fault};
+
+use crate::batch::edited;
+use crate::fault::EditFault;
+use base_check::check;
+use std::alloc::Global;
+use std::thread::Threads;
+use tgap_build::{Built, build};
+use tgap_model::{Holds, MapFault, Memory, Or};
+
+/// A version of a map: its number, and what was built of its base map.
+#[derive(Debug, Drop)]
+pub struct Version {
+    pub number: u64,
+    pub built: Built,
+}
+
+impl Holds for Version {
+    ghost numbered = { λ version. version.number };
+
+    ghost base = { λ version. version.built };
+
+    fn number(&self) -> u64 {
+        self.number
+    }
+}
+
+/// Why no version was built.
+#[derive(Clone, Copy, Debug, PartialEq, Eq)]
+pub enum RebuildFail {
+    /// A line of the batch is at fault.
+    Edit(EditFault),
+    /// The edited base map is no planar partition.
+    Map(MapFault),
+    /// An allocation was refused.
+    Memory,
+}
+
+/// The version after this one: what is built of its base map, after a batch of edits. The pinned version stays as it is.
+///
+/// `Edit` tells the first line of the batch that is at fault, and `Map` the first fault of the edited base map, which is checked
+/// after the last line. Its cost is that of `edited`, `check` and `build`.
+pub fn rebuild<R: Threads + Sync>(
+    rt: &R,
+    alloc: Global,
+    pinned: &Version,
+    batch: &[u8],
+) -> Result<Version, RebuildFail>
+    requires { pinned.now.number < 2 ^ 64 - 1 }
+    // The number is the next one.
+    ensures number { IfOk result (λ version. version.number ≡ pinned.now.number + 1) }
+    // It is built of the edited base map.
+    ensures base { IfOk result (λ version. edited pinned.now.built batch.now ≡ Ok version.built) }
+    // The edited base map has no fault.
+    ensures sound { IfOk result (λ version. map_fault version.built ≡ None) }
+    // Edit comes only where a line is at fault, and tells the first one.
+    ensures edit { (f : FaultOfEdit) → result ≡ Err (Edit f) → edited pinned.now.built batch.now ≡ Err (told_fault f) }
+    // Map comes only where no line is and the edited base map has a fault, and tells the first one.
+    ensures map { (f : FaultOfMap) → result ≡ Err (Map f)
+        → (m : BaseMap) × (edited pinned.now.built batch.now ≡ Ok m) × (map_fault m ≡ Some f) }
+{
+    let base = match edited(alloc, pinned.built.base(), batch) {
+        Ok(base) => base,
+        Err(Or::Fault(fault)) => return Err(RebuildFail::Edit(fault)),
+        Err(Or::Memory) => return Err(RebuildFail::Memory),
+    };
+    let checked = match check(rt, alloc, base) {
+        Ok(checked) => checked,
+        Err(Or::Fault(fault)) => return Err(RebuildFail::Map(fault)),
+        Err(Or::Memory) => return Err(RebuildFail::Memory),
+    };
+    match build(rt, alloc, checked) {
+        Ok(built) => Ok(Version {
+            number: pinned.number + 1,
+            built,
+        }),
+        Err(Memory) => Err(RebuildFail::Memory),
+    }
+}
