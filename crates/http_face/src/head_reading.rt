@@ -31,7 +31,9 @@ enum Found<'a> {
 }
 
 /// What the bytes of a request so far tell of its head (RFC 9112): that it is whole, that it is unfinished, or the status
-/// of its fault. A head has at most 8,192 bytes and 64 headers. The bytes that stand after a whole head are passed over.
+/// of its fault. A head has at most 8,192 bytes and 64 headers. The bytes that stand after a whole head are passed over. In two
+/// cases it is open whether fewer bytes without a head are unfinished or at fault with 400: where they end in a target and
+/// no head can follow any more, and where more than 64 header lines are whole. Memory is taken for a whole head alone.
 pub fn read_head(alloc: Global, bytes: &[u8]) -> Result<HeadState, Memory>
     ensures state { IfOk result (TellsState bytes.now) }
     ensures told { IfOk result (λ state. TellsHead bytes.now (state_ends state)) }
