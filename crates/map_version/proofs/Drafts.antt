@@ -1,11 +1,11 @@
 -- What the tests of an edit let pass.
-use Rattle.std.proofs.Common.{◌≡◌, ◌∙◌, ℕ, zero, suc, ◌-◌, ◌+◌, pos, arith, [], ◌∷◌, Bool, true, false, not, nat_lt, List, insert, remove, Option, Some, None, Result, Ok, Err, refl, sym, ap}
+use Rattle.std.proofs.Common.{◌≡◌, ◌∙◌, ℕ, zero, suc, pos, arith, [], ◌∷◌, Bool, true, false, not, nat_lt, List, insert, remove, Option, Some, None, Ok, refl, sym, ap}
 use Rattle.std.specs.Prelude.{option_map}
 use Rattle.std.specs.Option.{ok_or}
 use Rattle.tgap_model.specs.declared.geometry.Point.{Point}
 use Rattle.tgap_model.specs.declared.base.BaseArc.{BaseArc}
 use Rattle.tgap_model.specs.declared.limits.TheConstants.{MAX_POINTS}
-use Rattle.tgap_model.specs.Base.{BaseMap, same_point, count_points, is_arc}
+use Rattle.tgap_model.specs.Base.{BaseMap, count_points, is_arc}
 use Rattle.tgap_model.specs.Chains.{arc_number}
 use Rattle.tgap_model.specs.Json.{ensured}
 use Rattle.tgap_model.specs.Lines.{◌>>=◌}

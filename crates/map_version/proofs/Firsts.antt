@@ -1,12 +1,10 @@
 -- The first place in which something is found among all arcs, and what a change there is.
-use Rattle.std.proofs.Common.{◌≡◌, ◌≢◌, ◌∙◌, ℕ, zero, suc, ◌≤◌, ◌<◌, Bool, true, false, List, [], ◌∷◌, ◌++◌, length, get_or, set, take, All, Option, Some, None, insert, remove, refl, sym, ap, subst, arith}
+use Rattle.std.proofs.Common.{◌≡◌, ◌∙◌, ℕ, zero, suc, ◌<◌, List, [], ◌∷◌, length, get_or, set, Option, Some, None, insert, remove, refl, sym, ap, subst, arith}
 use Rattle.std.specs.Prelude.{option_map}
-use Rattle.std.proofs.lemmas.List.Elements.{All-append, All-cons}
 use Rattle.tgap_model.specs.declared.geometry.Point.{Point}
 use Rattle.tgap_model.specs.declared.base.BaseArc.{BaseArc}
 use Rattle.tgap_model.specs.Chains.{arc_number}
-use Rattle.tgap_model.specs.Edits.{with_points, put_between, take_out, neighbours, first_found, change_first, turns_back}
-use Rattle.tgap_model.specs.Base.{same_point}
+use Rattle.tgap_model.specs.Edits.{with_points, put_between, take_out, neighbours, first_found, change_first}
 use Rattle.edit_laws.proofs.Cases.{by_option}
 use Rattle.edit_laws.proofs.Laws.{change_here, change_there, found_here, found_there}
 use Rattle.map_version.specs.Positions.{segment_at, inner_at, first_place, changed_at}

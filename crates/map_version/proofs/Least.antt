@@ -1,21 +1,19 @@
 -- The least place among those of the listed arcs is the first of all.
-use Rattle.std.proofs.Common.{◌≡◌, ◌∙◌, ℕ, ◌+◌, ◌≤◌, ◌<◌, eqb, nat_le, Bool, true, false, ◌||◌, List, [], ◌∷◌, ◌++◌, length, get_or, take, Option, Some, None, refl, sym, ap, subst, arith}
-use Rattle.std.specs.Prelude.{option_map, if◌then◌else◌}
+use Rattle.std.proofs.Common.{◌≡◌, ◌∙◌, ℕ, ◌+◌, ◌<◌, eqb, nat_le, true, false, List, [], ◌∷◌, length, get_or, take, Option, Some, None, refl, sym, ap, subst, arith}
+use Rattle.std.specs.Prelude.{option_map}
 use Rattle.std.specs.List.{list_any}
-use Rattle.std.proofs.lemmas.Bool.{false≢true, or_left, or_right, leb-true, leb-false, cond-true, cond-false, eqb-true}
-use Rattle.std.proofs.lemmas.List.{take_all, get_or_past}
+use Rattle.std.proofs.lemmas.Bool.{or_left, or_right, leb-true, leb-false, cond-true, cond-false, eqb-true}
+use Rattle.std.proofs.lemmas.List.{get_or_past}
 use Rattle.std.proofs.lemmas.List.Folds.{list_any_more}
 use Rattle.tgap_model.specs.declared.geometry.Point.{Point}
 use Rattle.tgap_model.specs.declared.base.BaseArc.{BaseArc}
 use Rattle.tgap_model.specs.Base.{same_point}
-use Rattle.tgap_model.specs.Chains.{arc_number}
 use Rattle.tgap_model.specs.Edits.{are_ends}
-use Rattle.tgap_model.proofs.Points.{same_point-true, same_point-from}
 use Rattle.edit_laws.proofs.Cases.{by_test, by_option}
 use Rattle.map_version.specs.declared.arcs.Place.{Place}
 use Rattle.map_version.specs.declared.path.Sought.{Sought}
 use Rattle.map_version.specs.declared.path.Sought.TheVariants.{Segment, Inner}
-use Rattle.map_version.specs.Places.{arc_passes, has, is_among, Covers}
+use Rattle.map_version.specs.Places.{is_among, Covers}
 use Rattle.map_version.specs.Positions.{segment_at, inner_at, position, sought_point, first_place}
 use Rattle.map_version.specs.Firsts.{earlier}
 use Rattle.map_version.proofs.Listed.{has_at}

@@ -1,15 +1,13 @@
 -- The arcs that are listed for a point, and what a search of them alone tells of all arcs.
-use Rattle.std.proofs.Common.{◌≡◌, ◌≢◌, ◌∙◌, ℕ, zero, suc, ◌≤◌, ◌<◌, eqb, nat_lt, ◌+◌, if◌then◌else◌, Bool, true, false, cond, ◌&&◌, ◌||◌, List, [], ◌∷◌, ◌++◌, length, get_or, take, All, Option, Some, None, Ordering, int_le, refl, sym, ap, subst, arith}
-use Rattle.std.specs.Ordering.{int_eq, int_cmp, ordering_then, is_eq}
+use Rattle.std.proofs.Common.{◌≡◌, ◌∙◌, ℕ, zero, suc, ◌≤◌, ◌<◌, eqb, nat_lt, ◌+◌, if◌then◌else◌, Bool, true, false, ◌&&◌, ◌||◌, List, [], ◌∷◌, ◌++◌, length, get_or, take, refl, sym, ap, subst, arith}
 use Rattle.std.specs.List.{list_any}
-use Rattle.std.proofs.lemmas.Bool.{false≢true, and_parts, or_parts, or_cases, or_left, or_right, or_from, and_from, eqb-true, eqb-false, eq-eqb, ltb-true, ltb-false, cond-true, cond-false}
+use Rattle.std.proofs.lemmas.Bool.{false≢true, or_left, or_right, or_from, and_from, eqb-true, eqb-false, eq-eqb, ltb-true, ltb-false, cond-true, cond-false}
 use Rattle.std.proofs.lemmas.List.{take_all}
 use Rattle.std.proofs.lemmas.List.Folds.{list_any-append, list_any_more}
 use Rattle.tgap_model.specs.declared.geometry.Point.{Point}
 use Rattle.tgap_model.specs.declared.base.BaseArc.{BaseArc}
 use Rattle.tgap_model.specs.Base.{same_point}
 use Rattle.tgap_model.specs.Chains.{first_point, last_point, arc_number}
-use Rattle.tgap_model.specs.Edits.{has_point}
 use Rattle.tgap_model.proofs.Points.{same_point-true}
 use Rattle.edit_laws.proofs.Cases.{by_test, same_test}
 use Rattle.map_version.specs.Places.{arc_passes, has, ends_at, is_among, Covers, HavePoints}

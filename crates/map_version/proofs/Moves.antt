@@ -1,8 +1,8 @@
 -- Points that are moved in the arcs that are listed for them, put into one arc or taken out of it, and their places then.
-use Rattle.std.proofs.Common.{◌≡◌, ◌∙◌, ℕ, zero, suc, ◌≤◌, ◌<◌, eqb, Bool, true, false, cond, ◌||◌, List, [], ◌∷◌, ◌++◌, length, map, set, take, drop, insert, remove, refl, sym, ap, subst, arith}
+use Rattle.std.proofs.Common.{◌≡◌, ◌∙◌, ℕ, zero, suc, ◌≤◌, ◌<◌, eqb, Bool, true, false, ◌||◌, List, [], ◌∷◌, ◌++◌, length, map, set, take, drop, insert, remove, refl, sym, ap, subst, arith}
 use Rattle.std.specs.Prelude.{if◌then◌else◌}
 use Rattle.std.specs.List.{list_any}
-use Rattle.std.proofs.lemmas.Bool.{false≢true, or_parts, or_cases, or_left, or_right, false_from_ne_true, eqb-true, eq-eqb, cond-true, cond-false}
+use Rattle.std.proofs.lemmas.Bool.{false≢true, or_parts, or_left, or_right, false_from_ne_true, eqb-true, eq-eqb, cond-true, cond-false}
 use Rattle.std.proofs.lemmas.List.{append-nil, take_all, drop_all}
 use Rattle.std.proofs.lemmas.List.Folds.{list_any-append}
 use Rattle.tgap_model.specs.declared.geometry.Point.{Point}
@@ -10,7 +10,7 @@ use Rattle.tgap_model.specs.declared.base.BaseArc.{BaseArc}
 use Rattle.tgap_model.specs.Base.{same_point}
 use Rattle.tgap_model.specs.Chains.{arc_number}
 use Rattle.tgap_model.specs.Edits.{has_point, moved, move_all, with_points}
-use Rattle.tgap_model.proofs.Points.{same_point-true, same_point-from}
+use Rattle.tgap_model.proofs.Points.{same_point-true}
 use Rattle.edit_laws.proofs.Cases.{by_test}
 use Rattle.map_version.specs.Places.{arc_passes, has, is_among, Covers}
 use Rattle.map_version.specs.Positions.{changed_at}

@@ -1,6 +1,6 @@
 -- The position of a segment and of an inner point: found place after place, and what is put in or taken out there.
-use Rattle.std.proofs.Common.{◌≡◌, ◌∙◌, ℕ, zero, suc, ◌+◌, ◌-◌, ◌≤◌, ◌<◌, Bool, true, false, cond, List, [], ◌∷◌, length, drop, get_or, ◌++◌, map, set, take, append_assoc, Option, Some, None, insert, remove, refl, sym, ap, subst, arith, length-drop}
-use Rattle.std.specs.Prelude.{option_map, if◌then◌else◌}
+use Rattle.std.proofs.Common.{◌≡◌, ◌∙◌, ℕ, zero, suc, ◌+◌, ◌-◌, ◌≤◌, ◌<◌, true, false, List, [], ◌∷◌, length, drop, get_or, ◌++◌, map, set, take, append_assoc, Option, Some, None, insert, remove, refl, sym, ap, subst, arith, length-drop}
+use Rattle.std.specs.Prelude.{option_map}
 use Rattle.std.proofs.lemmas.List.{drop_more, length-map, length-take-le, get_or_at, set_at, set-get_or, map_more}
 use Rattle.tgap_model.specs.declared.geometry.Point.{Point}
 use Rattle.tgap_model.specs.Base.{same_point}

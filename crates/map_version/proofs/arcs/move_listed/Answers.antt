@@ -1,7 +1,6 @@
-use Rattle.std.proofs.Common.{◌≡◌, ◌∙◌, ◌+◌, List, [], ℕ, drop, get_or, set, sym, ap, subst, arith}
+use Rattle.std.proofs.Common.{◌∙◌, ◌+◌, List, [], drop, get_or, set, sym, ap, subst, arith}
 use Rattle.std.proofs.lemmas.List.{drop_more, drop_all, get_or_default}
 use Rattle.tgap_model.specs.declared.base.BaseArc.{BaseArc}
-use Rattle.tgap_model.specs.Chains.{arc_number}
 use Rattle.map_version.proofs.Moves.{IsMoving, moved_arc, moving_on, moving_past, moving_done}
 use Rattle.map_version.proofs.arcs.move_listed.Goals as goal
 use Rattle.map_version.proofs.arcs.move_listed.Goals.{then-number-arcs, else-number-arcs}

@@ -1,8 +1,8 @@
-use Rattle.std.proofs.Common.{◌≡◌, ◌∙◌, ℕ, Result, Ok, Err, sym, ap, subst, arith}
+use Rattle.std.proofs.Common.{◌∙◌, ℕ, Result, Err, sym, ap, subst}
 use Rattle.tgap_model.specs.Base.{BaseMap}
 use Rattle.tgap_model.specs.Lines.{Lines, is_over}
 use Rattle.tgap_model.specs.Edits.{edit_rows}
-use Rattle.map_version.specs.Faults.{fault_at, GivesEdited}
+use Rattle.map_version.specs.Faults.{GivesEdited}
 use Rattle.map_version.proofs.Batches.{line_taken, line_applied, line_refused, over_gives, refused_with}
 use Rattle.map_version.proofs.batch.apply_all.Goals as goal
 

@@ -1,4 +1,4 @@
-use Rattle.std.proofs.Common.{ℕ, ◌≤◌, List, length, sym, ap, subst}
+use Rattle.std.proofs.Common.{◌≤◌, length, sym, subst}
 use Rattle.tgap_model.specs.Lines.{Lines}
 use Rattle.map_version.proofs.Batches.{some_row}
 use Rattle.map_version.proofs.batch.edited.Goals as goal

@@ -1,4 +1,4 @@
-use Rattle.std.proofs.Common.{◌≡◌, sym, ◌∙◌, arith}
+use Rattle.std.proofs.Common.{sym, ◌∙◌, arith}
 use Rattle.map_version.proofs.Positions.{no_further, inner_step, inner_found, inner_none}
 use Rattle.map_version.proofs.path.inner_at.Goals as goal
 

@@ -1,5 +1,4 @@
-use Rattle.std.proofs.Common.{◌≡◌, Bool, ◌||◌, pos, sym, ap, ◌∙◌}
-use Rattle.tgap_model.specs.declared.geometry.Point.{Point}
+use Rattle.std.proofs.Common.{Bool, ◌||◌, sym, ap, ◌∙◌}
 use Rattle.tgap_model.specs.Base.{same_point}
 use Rattle.tgap_model.specs.Chains.{last_point}
 use Rattle.map_version.proofs.Positions.{first_is, last_is}

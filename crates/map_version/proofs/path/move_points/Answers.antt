@@ -1,4 +1,4 @@
-use Rattle.std.proofs.Common.{◌≡◌, Bool, cond, get_or, set, sym, ap, ◌∙◌, arith, List, pos}
+use Rattle.std.proofs.Common.{Bool, cond, get_or, set, sym, ap, ◌∙◌, pos}
 use Rattle.tgap_model.specs.declared.geometry.Point.{Point}
 use Rattle.tgap_model.specs.Edits.{moved}
 use Rattle.map_version.proofs.Positions.{moved_more, kept_more}

@@ -1,4 +1,4 @@
-use Rattle.std.proofs.Common.{◌≡◌, sym, ◌∙◌, arith}
+use Rattle.std.proofs.Common.{sym, ◌∙◌, arith}
 use Rattle.map_version.proofs.Positions.{no_further, segment_step, segment_found, segment_none}
 use Rattle.map_version.proofs.path.segment_at.Goals as goal
 

@@ -1,7 +1,7 @@
 use Rattle.std.proofs.Common.{◌≡◌, ◌∙◌, ℕ, true, List, get_or, sym, ap, subst}
 use Rattle.std.specs.List.{list_any}
 use Rattle.tgap_model.specs.Base.{same_point}
-use Rattle.map_version.specs.Places.{arc_passes, has, ends_at, is_among, listed, Covers}
+use Rattle.map_version.specs.Places.{arc_passes, has, is_among, listed, Covers}
 use Rattle.map_version.proofs.Listed.{has_at, none_more, one_found, none_found}
 use Rattle.map_version.proofs.arcs.IndexedArcs.has_point.Goals as goal
 

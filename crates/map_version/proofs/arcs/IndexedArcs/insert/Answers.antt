@@ -1,4 +1,4 @@
-use Rattle.std.proofs.Common.{◌≡◌, ◌<◌, ◌∙◌, List, length, insert, sym, ap, subst}
+use Rattle.std.proofs.Common.{◌<◌, ◌∙◌, List, length, insert, sym, ap, subst}
 use Rattle.tgap_model.specs.declared.geometry.Point.{Point}
 use Rattle.tgap_model.specs.declared.base.BaseArc.{BaseArc}
 use Rattle.tgap_model.specs.Edits.{has_point}

@@ -1,5 +1,5 @@
-use Rattle.std.proofs.Common.{◌≡◌, ◌∙◌, ℕ, true, List, get_or, sym, ap, subst}
-use Rattle.map_version.specs.Places.{arc_passes, has, ends_at, is_among, listed, Covers}
+use Rattle.std.proofs.Common.{◌≡◌, ◌∙◌, ℕ, true, List, get_or, sym, subst}
+use Rattle.map_version.specs.Places.{arc_passes, ends_at, is_among, listed, Covers}
 use Rattle.map_version.proofs.Listed.{ends_listed, none_more, one_found, none_found}
 use Rattle.map_version.proofs.arcs.IndexedArcs.is_node.Goals as goal
 

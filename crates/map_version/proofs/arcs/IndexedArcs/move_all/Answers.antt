@@ -1,4 +1,4 @@
-use Rattle.std.proofs.Common.{◌≡◌, ◌∙◌, List, length, true, sym, ap, subst, arith}
+use Rattle.std.proofs.Common.{◌≡◌, ◌∙◌, length, sym, ap, subst, arith}
 use Rattle.tgap_model.specs.declared.base.BaseArc.{BaseArc}
 use Rattle.tgap_model.specs.Edits.{has_point, move_all}
 use Rattle.map_version.specs.Places.{listed, Covers}

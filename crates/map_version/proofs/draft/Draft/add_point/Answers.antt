@@ -1,4 +1,4 @@
-use Rattle.std.proofs.Common.{◌≡◌, ◌∙◌, ◌+◌, ℕ, IsTrue, List, not, false, true, nat_lt, Ok, Some, sym, ap, subst, arith, rules}
+use Rattle.std.proofs.Common.{◌≡◌, ◌∙◌, ◌+◌, ℕ, IsTrue, List, not, false, nat_lt, Ok, sym, ap, subst, arith, rules}
 use Rattle.std.specs.Prelude.{option_map}
 use Rattle.std.proofs.lemmas.Bool.{not-true, ltb-true}
 use Rattle.tgap_model.specs.declared.base.BaseArc.{BaseArc}

@@ -1,4 +1,4 @@
-use Rattle.std.proofs.Common.{◌≡◌, ◌∙◌, List, length, not, true, false, Ok, Some, None, sym, ap, subst}
+use Rattle.std.proofs.Common.{◌≡◌, ◌∙◌, length, not, true, false, Ok, Some, None, sym, subst}
 use Rattle.std.proofs.lemmas.Bool.{not-true}
 use Rattle.plain_io.specs.Taking.{GivesWhole}
 use Rattle.tgap_model.specs.Base.{BaseMap}

@@ -1,4 +1,4 @@
-use Rattle.std.proofs.Common.{◌≤◌, ◌∙◌, List, sym, ap, subst}
+use Rattle.std.proofs.Common.{◌≤◌, ◌∙◌, List, sym, subst}
 use Rattle.tgap_model.specs.declared.base.BaseArc.{BaseArc}
 use Rattle.tgap_model.specs.declared.limits.TheConstants.{MAX_POINTS}
 use Rattle.tgap_model.specs.Base.{count_points}

@@ -1,5 +1,4 @@
-use Rattle.std.proofs.Common.{◌≡◌, ◌∙◌, ◌<◌, ◌-◌, ◌^◌, length, arith, sym}
-use Rattle.tgap_model.specs.declared.limits.TheConstants.{MAX_FACES, MAX_CLASSES}
+use Rattle.std.proofs.Common.{◌∙◌, ◌-◌, arith, sym}
 use Rattle.tgap_model.specs.Base.{BaseMap}
 use Rattle.tgap_model.proofs.BaseFacts.{base_facts, rules_facts}
 use Rattle.edit_laws.proofs.Laws.{classes_again}

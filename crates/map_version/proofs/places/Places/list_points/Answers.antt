@@ -1,4 +1,4 @@
-use Rattle.std.proofs.Common.{get_or, pos, refl}
+use Rattle.std.proofs.Common.{get_or, pos}
 use Rattle.std.proofs.lemmas.List.{get_or_default}
 use Rattle.tgap_model.specs.declared.geometry.Point.{Point}
 use Rattle.map_version.specs.Places.{listed, is_among}

@@ -1,4 +1,4 @@
-use Rattle.std.proofs.Common.{◌≡◌, ◌∙◌, ap, []}
+use Rattle.std.proofs.Common.{◌∙◌, ap, []}
 use Rattle.std.proofs.lemmas.List.{get_or_default}
 use Rattle.tgap_model.specs.declared.base.BaseArc.{BaseArc}
 use Rattle.map_version.specs.Places.{listed}
