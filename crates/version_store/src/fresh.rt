@@ -1,6 +1,6 @@
 //! A store that has no name yet.
 
-ghost use Rattle.std.specs.Prelude.{◌≡◌, ◌<◌, ◌≤◌, ◌*◌, [], ◌∷◌, length};
+ghost use Rattle.std.specs.Prelude.{◌≡◌, ◌<◌, ◌≤◌, ◌*◌, [], ◌∷◌};
 ghost use Rattle.std.specs.Arc.{arc_value};
 
 use crate::known::{Growing, Known, Place};

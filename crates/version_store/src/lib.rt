@@ -1,5 +1,7 @@
 //! The versions of a map that many share. `Machine` is the pure core of the sharing: which version each actor has pinned,
 //! and which commits are published. It stands on `tgap_model`, whose `Machine` defines what comes of each event.
+//! Threads share versions by a `Press`, which publishes them, and by `Seat`s, which pin the newest one without a lock. Both stand on
+//! `atomic_table`, whose steps keep one list that only grows.
 #![tactic(auto)]
 
 mod fresh;

@@ -1,6 +1,6 @@
 //! A store is made, and opened under a name.
 
-ghost use Rattle.std.specs.Prelude.{◌≡◌, ◌<◌, ◌≤◌, ◌*◌, [], ◌∷◌, length, vec_len, All, IfOk};
+ghost use Rattle.std.specs.Prelude.{◌≡◌, ◌<◌, ◌≤◌, ◌*◌, [], ◌∷◌, length, All, IfOk};
 ghost use Rattle.std.specs.Arc.{arc_value};
 ghost use Rattle.version_store.specs.Growth.{IsList};
 ghost use Rattle.version_store.specs.Store.{fresh_store, fresh_first, fresh_limit, fresh_places, press_versions, press_limit, IsNewSeat};

@@ -1,10 +1,10 @@
 //! The press publishes a version.
 
-ghost use Rattle.std.specs.Prelude.{◌≡◌, ◌<◌, ◌≤◌, ◌+◌, ◌*◌, ◌++◌, ℕ, [], ◌∷◌, length, vec_len, All, Err, IfOk, OnOk, OnErr, ◌↔◌};
+ghost use Rattle.std.specs.Prelude.{◌≡◌, ◌<◌, ◌+◌, ◌*◌, ◌++◌, ℕ, [], ◌∷◌, length, vec_len, Err, IfOk, OnOk, OnErr, ◌↔◌};
 ghost use Rattle.std.specs.Arc.{arc_value};
 ghost use Rattle.version_store.specs.declared.press.fail.PublishFail.TheVariants.{Stale, VersionsFull};
 ghost use Rattle.version_store.specs.Growth.{IsPrefix, IsList};
-ghost use Rattle.version_store.specs.Store.{press_versions, press_limit, seat_versions, told_versions, seat_limit, published_count, tellings};
+ghost use Rattle.version_store.specs.Store.{press_versions, press_limit, seat_versions, seat_limit, published_count, tellings};
 ghost use Rattle.version_store.specs.Rule.{AreOwners};
 
 use super::{PressOf, PublishFail};
@@ -42,6 +42,7 @@ impl<V: Holds + Drop, N: StoreName> PressOf<V, N, Growing> {
     /// Publishes a version that was made from the version `named`, where that is the newest.
     ///
     /// It refuses a stale version first, and then one for which there is no room. A refusal leaves the list and drops the version.
+    /// It waits for no reader: `_rt` allows a store to wait here, and this one does not.
     pub fn publish<R: Wait>(
         &mut self,
         _rt: &R,

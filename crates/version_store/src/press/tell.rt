@@ -77,7 +77,8 @@ impl<V: Holds + Drop, N: StoreName> PressOf<V, N, Growing> {
         ensures same { press_versions self.new ≡ press_versions self.old }
     {
         let mut seat = seat;
-        self.hear(seat.tell());
+        let seen = seat.tell();
+        self.hear(seen);
     }
 
     /// Ends the press. The versions last for as long as a seat or a pin holds them.

@@ -1,8 +1,8 @@
 //! A press with its seats: on one thread, and on two.
 
-ghost use Rattle.std.specs.Prelude.{◌≡◌, ◌+◌, length, IfOk};
+ghost use Rattle.std.specs.Prelude.{◌≡◌, ◌+◌, IfOk};
 ghost use Rattle.std.specs.Arc.{arc_value};
-ghost use Rattle.version_store.specs.Store.{fresh_store, fresh_limit, fresh_places};
+ghost use Rattle.version_store.specs.Store.{fresh_store, fresh_limit};
 
 use super::triangle;
 use crate::{Fresh, Press, PublishFail, Seat, StoreName, start};
