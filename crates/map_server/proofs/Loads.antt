@@ -52,10 +52,10 @@ same_kind Packet Slice = inr (λ e. cc)
 same_kind Packet Packet = inl refl
 
 -- the first of some names, and the second, are among them
-in_first : (n : FileName) (names : List FileName) → Contains (n ∷ names) n
+pub in_first : (n : FileName) (names : List FileName) → Contains (n ∷ names) n
 in_first n names = (0, omega arith, refl)
 
-in_second : (m n : FileName) (names : List FileName) → Contains (m ∷ n ∷ names) n
+pub in_second : (m n : FileName) (names : List FileName) → Contains (m ∷ n ∷ names) n
 in_second m n names = (1, omega arith, refl)
 
 -- the counts after a load that did not fail
@@ -102,17 +102,17 @@ fetched_later told now max which before middle after r same stay h = by r (subst
     by (Err o) (inr h) = inr h
 
 -- a failed load that is passed on is told in the end
-told_in_the_end : (o : Outcome) (kind : Which) (r : Result BaseMap Outcome) → IsErrAnd r (λ p. p ≡ o)
+told_in_the_end : {A : Type 0} (o : Outcome) (kind : Which) (r : Result A Outcome) → IsErrAnd r (λ p. p ≡ o)
     → (let told : Outcome → Result (List ℕ) Outcome = λ p. Err p in told o ≡ told (LoadFault kind))
-    → (let told : Outcome → Result BaseMap Outcome = λ p. Err p in r ≡ told (LoadFault kind))
-told_in_the_end o kind (Ok m) same e = absurd same
+    → (let told : Outcome → Result A Outcome = λ p. Err p in r ≡ told (LoadFault kind))
+told_in_the_end o kind (Ok x) same e = absurd same
 told_in_the_end o kind (Err p) same e = rw same (let one : o ≡ LoadFault kind = cc in ap (λ (q : Outcome). Err q) one)
 
 -- the counts after the load of a second file failed, which is told in the end
-pub second_failed : (m n : FileName) (before middle now : Which → ℕ) (o : Outcome) (r : Result BaseMap Outcome) → ((kind : Which) → middle kind ≡ before kind)
+pub second_failed : {A : Type 0} (m n : FileName) (before middle now : Which → ℕ) (o : Outcome) (r : Result A Outcome) → ((kind : Which) → middle kind ≡ before kind)
     → IsErrAnd r (λ p. p ≡ o)
     → (let told : Outcome → Result (List ℕ) Outcome = λ p. Err p in KeepCounts (n ∷ []) middle now (λ kind. told o ≡ told (LoadFault kind)))
-    → (let told : Outcome → Result BaseMap Outcome = λ p. Err p in KeepCounts (m ∷ n ∷ []) before now (λ kind. r ≡ told (LoadFault kind)))
+    → (let told : Outcome → Result A Outcome = λ p. Err p in KeepCounts (m ∷ n ∷ []) before now (λ kind. r ≡ told (LoadFault kind)))
 second_failed m n before middle now o r stay passed keep kind = elim (keep kind) [
   | inl same ↦ inl (same ∙ stay kind)
   | inr failed ↦ inr (n, in_second m n [], only failed.0 failed.1 ∙ failed.2, told_in_the_end o kind r passed failed.3)
@@ -144,11 +144,11 @@ map_is_first (Listing name) = in_first _ []
 map_is_first (Topology map object rules) = in_first _ (rules_file rules ∷ [])
 
 -- A file that is known to be too long is so in some contents, whatever is told of it.
-some_long : (told : Told) → OfFile told (λ bytes. MAX_MAP_BYTES < length bytes)
-    → (bytes : List ℕ) × (MAX_MAP_BYTES < length bytes) × OfFile told (λ held. bytes ≡ held)
-some_long Untold h = let some = list_of (MAX_MAP_BYTES + 1) in (some.0, omega (arith, some.1), tt)
-some_long Missing h = absurd h
-some_long (Holds bytes) h = (bytes, h, refl)
+pub some_long : (max : ℕ) (told : Told) → OfFile told (λ bytes. max < length bytes)
+    → (bytes : List ℕ) × (max < length bytes) × OfFile told (λ held. bytes ≡ held)
+some_long max Untold h = let some = list_of (max + 1) in (some.0, omega (arith, some.1), tt)
+some_long max Missing h = absurd h
+some_long max (Holds bytes) h = (bytes, h, refl)
 
 -- what comes where the file of a map is not had
 pub not_fetched : (source : Source) (told : Which → List ℕ → Told) (rose : Which → Type 0) (o : Outcome)
@@ -156,7 +156,7 @@ pub not_fetched : (source : Source) (told : Which → List ℕ → Told) (rose :
 not_fetched source told rose o (inl failed) = inl (map_file (map_name source), map_is_first source, failed.0, failed.1)
 not_fetched source told rose o (inr (inl memory)) = inr (inl memory)
 not_fetched source told rose o (inr (inr long)) =
-    let some = some_long (told Map (map_name source)) long.1 in
+    let some = some_long MAX_MAP_BYTES (told Map (map_name source)) long.1 in
     long_map source told rose o (λ kind. some.0) some.1 some.2 long.0
 
 -- the same, as it is passed on
@@ -165,7 +165,7 @@ pub passed_on : (source : Source) (told : Which → List ℕ → Told) (rose : W
 passed_on source told rose o (Ok m) same h = absurd same
 passed_on source told rose o (Err p) same h = rw same (not_fetched source told rose o h)
 
--- the bytes of a file that was had
+-- the bytes of a map file that was had
 abbrev pub IsHad : Told → List ℕ → Type 0
 IsHad told bytes = (length bytes ≤ MAX_MAP_BYTES) × OfFile told (λ held. bytes ≡ held)
 
@@ -223,7 +223,7 @@ module _ (map object rules : List ℕ) (told : Which → List ℕ → Told) (ros
   no_rules o (inl failed) = inl (rules_file rules, in_second _ _ [], failed.0, failed.1)
   no_rules o (inr (inl memory)) = inr (inl memory)
   no_rules o (inr (inr long)) =
-      let some = some_long (told Rules rules) long.1 in
+      let some = some_long MAX_MAP_BYTES (told Rules rules) long.1 in
       inr (inr (
         both bytes some.0,
         (had.1, λ fits. (some.2, λ short. tt)),

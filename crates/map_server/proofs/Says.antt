@@ -37,7 +37,7 @@ borders_done m k steps text is same within e =
     ((steps, is, within, e), rw (le-ltb (length (history_of m)) k last) (ap Done (e ∙ ap words same)), tt)
 
 -- a map that is refused by its check
-refused_is : (m : BaseMap) (e : Or MapFault) (r : Result (List ℕ) Outcome) → IsErrAnd r (λ o. o ≡ refusal e)
+pub refused_is : (m : BaseMap) (e : Or MapFault) (r : Result (List ℕ) Outcome) → IsErrAnd r (λ o. o ≡ refusal e)
     → (let told : Or MapFault → Result BaseMap (Or MapFault) = λ x. Err x in
     ((fault : MapFault) → told e ≡ told (Fault fault) → map_fault m ≡ Some fault)
     × ((fault : MapFault) → told e ≡ told (Fault fault) → IsShownBy (base_segments m) fault)

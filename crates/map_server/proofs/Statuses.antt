@@ -1,10 +1,11 @@
 -- What each status says, from the outcome that was put. Nothing here depends on which commands there are.
-use Rattle.std.proofs.Common.{◌≡◌, ◌≢◌, ℕ, ◌<◌, ◌≤◌, ◌⊎◌, inl, inr, List, [], ◌∷◌, length, Option, Some, None, Contains, refl, sym, ap, ◌∙◌, subst, arith}
+use Rattle.std.proofs.Common.{◌≡◌, ◌≢◌, ℕ, ◌≤◌, ◌⊎◌, inl, inr, List, [], ◌∷◌, length, Option, Some, None, Contains, refl, sym, ap, ◌∙◌, subst, arith}
 use Rattle.plain_io.specs.declared.files.Which.{Which}
 use Rattle.plain_io.specs.Loads.{Told, OfFile}
 use Rattle.plain_io.specs.Puts.{Appends}
 use Rattle.plain_io.specs.Faults.{Rises}
 use Rattle.tgap_model.specs.declared.fault.MapFault.{MapFault}
+use Rattle.map_server.specs.declared.outcome.Misfit.{Misfit}
 use Rattle.map_server.specs.declared.outcome.Outcome.{Outcome}
 use Rattle.map_server.specs.declared.outcome.Outcome.TheVariants.{Done, Usage, LoadFault, Refused, StepTooHigh, NotCoarser, OutOfMemory, PortFault, Unfit}
 use Rattle.map_server.specs.Outcomes.{status_of, text_of, load_fault_text, not_coarser, TakesMemory, IsOfFiles}
@@ -48,6 +49,17 @@ above_status (NotCoarser from to) e = inr ((from, to), refl)
 above_status OutOfMemory e = absurd (omega arith)
 above_status PortFault e = absurd (omega arith)
 above_status (Unfit misfit) e = absurd (omega arith)
+
+unfit_status : (o : Outcome) → status_of o ≡ 9 → (misfit : Misfit) × (o ≡ Unfit misfit)
+unfit_status (Done text) e = absurd (omega arith)
+unfit_status Usage e = absurd (omega arith)
+unfit_status (LoadFault which) e = absurd (omega arith)
+unfit_status (Refused fault) e = absurd (omega arith)
+unfit_status (StepTooHigh steps) e = absurd (omega arith)
+unfit_status (NotCoarser from to) e = absurd (omega arith)
+unfit_status OutOfMemory e = absurd (omega arith)
+unfit_status PortFault e = absurd (omega arith)
+unfit_status (Unfit misfit) e = (misfit, refl)
 
 usage_apart : (o : Outcome) → status_of o ≡ 2 → IsOfFiles o → ⊥
 usage_apart (Done text) e h = omega arith
@@ -139,18 +151,18 @@ module _ {words : List (List ℕ)} {told : Which → List ℕ → Told} {rose : 
   whole : status ≢ 6 → (status ≡ status_of p.outcome) × Appends old new (text_of p.outcome)
   whole other = elim p.delivers [ inl d ↦ (d.0, d.1) | inr d ↦ absurd (other d.0) ]
 
-  status_is : (n : ℕ) → n < 6 → status ≡ n → status_of p.outcome ≡ n
-  status_is n low e = sym (whole (λ six. omega (arith, e, six))).0 ∙ e
+  status_is : (n : ℕ) → n ≢ 6 → status ≡ n → status_of p.outcome ≡ n
+  status_is n not_six e = sym (whole (λ six. not_six (sym e ∙ six))).0 ∙ e
 
   -- what an outcome of this form says of the files, where it is none of words, loads or memory
-  puts : {A : Type 0} (make : A → Outcome) (n : ℕ) (x : A) → p.outcome ≡ make x → status ≡ n → n < 6 → n ≢ 2 → n ≢ 3
+  puts : {A : Type 0} (make : A → Outcome) (n : ℕ) (x : A) → p.outcome ≡ make x → status ≡ n → n ≢ 2 → n ≢ 3 → n ≢ 6 → n ≢ 7
       → PutsAnswer words told old new make
-  puts make n x e s low not_two not_three =
-      let is = status_is n low s in
+  puts make n x e s not_two not_three not_six not_seven =
+      let is = status_is n not_six s in
       elim cases [
         | inl none ↦ absurd (not_two (sym is ∙ ap status_of none.1))
         | inr (c, asked, inl load) ↦ absurd (not_three (sym is ∙ ap status_of load.2))
-        | inr (c, asked, inr (inl memory)) ↦ absurd (omega (arith, low, sym is ∙ ap status_of memory))
+        | inr (c, asked, inr (inl memory)) ↦ absurd (not_seven (sym is ∙ ap status_of memory))
         | inr (c, asked, inr (inr held)) ↦ (
           c,
           asked,
@@ -160,7 +172,7 @@ module _ {words : List (List ℕ)} {told : Which → List ℕ → Told} {rose : 
             (
               x,
               subst (λ (o : Outcome). Says c held.0 o) e held.2,
-              subst (λ (o : Outcome). Appends old new (text_of o)) e (whole (λ six. omega (arith, s, six))).1,
+              subst (λ (o : Outcome). Appends old new (text_of o)) e (whole (λ six. not_six (sym s ∙ six))).1,
             ),
           ),
         )
@@ -168,12 +180,12 @@ module _ {words : List (List ℕ)} {told : Which → List ℕ → Told} {rose : 
 
   pub zero_says : status ≡ 0 → PutsAnswer words told old new Done
   zero_says e =
-      let d = done_status p.outcome (status_is 0 (omega arith) e) in
-      puts Done 0 d.0 d.1 e (omega arith) (λ t. omega (arith, t)) (λ t. omega (arith, t))
+      let d = done_status p.outcome (status_is 0 (λ t. omega (arith, t)) e) in
+      puts Done 0 d.0 d.1 e (λ t. omega (arith, t)) (λ t. omega (arith, t)) (λ t. omega (arith, t)) (λ t. omega (arith, t))
 
   pub two_says : status ≡ 2 → command words ≡ None
   two_says e =
-      let is = status_is 2 (omega arith) e in
+      let is = status_is 2 (λ t. omega (arith, t)) e in
       elim cases [
         | inl none ↦ none.0
         | inr (c, asked, inl load) ↦ absurd (omega (arith, is, ap status_of load.2))
@@ -183,14 +195,19 @@ module _ {words : List (List ℕ)} {told : Which → List ℕ → Told} {rose : 
 
   pub four_says : status ≡ 4 → PutsAnswer words told old new Refused
   four_says e =
-      let d = refused_status p.outcome (status_is 4 (omega arith) e) in
-      puts Refused 4 d.0 d.1 e (omega arith) (λ t. omega (arith, t)) (λ t. omega (arith, t))
+      let d = refused_status p.outcome (status_is 4 (λ t. omega (arith, t)) e) in
+      puts Refused 4 d.0 d.1 e (λ t. omega (arith, t)) (λ t. omega (arith, t)) (λ t. omega (arith, t)) (λ t. omega (arith, t))
 
   pub five_says : status ≡ 5 → PutsAnswer words told old new StepTooHigh ⊎ PutsAnswer words told old new not_coarser
-  five_says e = elim (above_status p.outcome (status_is 5 (omega arith) e)) [
-    | inl d ↦ inl (puts StepTooHigh 5 d.0 d.1 e (omega arith) (λ t. omega (arith, t)) (λ t. omega (arith, t)))
-    | inr d ↦ inr (puts not_coarser 5 d.0 d.1 e (omega arith) (λ t. omega (arith, t)) (λ t. omega (arith, t)))
+  five_says e = elim (above_status p.outcome (status_is 5 (λ t. omega (arith, t)) e)) [
+    | inl d ↦ inl (puts StepTooHigh 5 d.0 d.1 e (λ t. omega (arith, t)) (λ t. omega (arith, t)) (λ t. omega (arith, t)) (λ t. omega (arith, t)))
+    | inr d ↦ inr (puts not_coarser 5 d.0 d.1 e (λ t. omega (arith, t)) (λ t. omega (arith, t)) (λ t. omega (arith, t)) (λ t. omega (arith, t)))
   ]
+
+  pub nine_says : status ≡ 9 → PutsAnswer words told old new Unfit
+  nine_says e =
+      let d = unfit_status p.outcome (status_is 9 (λ t. omega (arith, t)) e) in
+      puts Unfit 9 d.0 d.1 e (λ t. omega (arith, t)) (λ t. omega (arith, t)) (λ t. omega (arith, t)) (λ t. omega (arith, t))
 
   pub none_says : command words ≡ None → (status ≡ 2) ⊎ (status ≡ 6)
   none_says e = elim p.delivers [
@@ -204,7 +221,7 @@ module _ {words : List (List ℕ)} {told : Which → List ℕ → Told} {rose : 
   pub three_says : status ≡ 3 → (c : Command) × (command words ≡ Some c)
       × ((n : FileName) × Contains (files_of c) n × rose n.which × Appends old new (load_fault_text n.which))
   three_says e =
-      let is = status_is 3 (omega arith) e in
+      let is = status_is 3 (λ t. omega (arith, t)) e in
       elim cases [
         | inl none ↦ absurd (omega (arith, is, ap status_of none.1))
         | inr (c, asked, inl load) ↦

@@ -8,8 +8,10 @@ use Rattle.plain_io.specs.declared.files.Which.{Which}
 use Rattle.plain_io.specs.Faults.{Rose}
 use Rattle.plain_io.specs.Loads.{Told, Missing, Holds, OfFile}
 use Rattle.plain_io.specs.Puts.{Appends}
+use Rattle.wire_text.specs.declared.row_reading.BadText.{BadText}
+use Rattle.map_server.specs.declared.outcome.Misfit.{Misfit}
 use Rattle.map_server.specs.declared.outcome.Outcome.{Outcome}
-use Rattle.map_server.specs.declared.outcome.Outcome.TheVariants.{Done, Usage, LoadFault, Refused, OutOfMemory}
+use Rattle.map_server.specs.declared.outcome.Outcome.TheVariants.{Done, Usage, LoadFault, Refused, OutOfMemory, Unfit}
 use Rattle.map_server.specs.Outcomes.{text_of, IsOfFiles}
 use Rattle.map_server.specs.Command.{Command, Source}
 use Rattle.tgap_model.specs.Rings.{topology_base}
@@ -88,6 +90,14 @@ abbrev pub ReadsTopology : List ℕ → List ℕ → List ℕ → Result BaseMap
 ReadsTopology map object rules (Ok m) = IsTopologyOf map object rules m
 ReadsTopology map object rules (Err outcome) =
     (outcome ≡ OutOfMemory) ⊎ ((fault : MapFault) × (outcome ≡ Refused fault) × (topology_base map object rules ≡ Err fault))
+
+-- A text of a replay, of which P says what it spells, is read; or what comes of it: memory is wanting, or it spells nothing, and its
+-- first line that is not of its form is told.
+abbrev pub ReadsText : {A : Type 0} → (A → Type 0) → Result A BadText → (ℕ → Misfit) → Result A Outcome → Type 0
+ReadsText P read told (Ok x) = P x × (read ≡ Ok x)
+ReadsText {A} P read told (Err outcome) =
+    (outcome ≡ OutOfMemory)
+    ⊎ ((line : ℕ) × (outcome ≡ Unfit (told line)) × ((x : A) → ¬ (P x)) × (read ≡ Err (record { line = line })))
 
 -- a map is read, or what comes of it
 abbrev pub ReadsMap : Source → (Which → List ℕ → Told) → (Which → Type 0) → Result BaseMap Outcome → Type 0

@@ -3,7 +3,7 @@ use Rattle.std.specs.Prelude.{Option, option_map}
 use Rattle.map_server.specs.declared.command.Source.{Source}
 use Rattle.map_server.specs.declared.command.Source.TheVariants.{Listing, Topology}
 use Rattle.map_server.specs.declared.command.Command.{Command}
-use Rattle.map_server.specs.declared.command.Command.TheVariants.{Borders, Check, Slice}
+use Rattle.map_server.specs.declared.command.Command.TheVariants.{Borders, Check, Slice, Packet, Replay}
 use Rattle.map_server.specs.Command as spec
 
 abbrev pub source_of : Source → spec.Source
@@ -14,6 +14,8 @@ abbrev pub command_of : Command → spec.Command
 command_of (Borders source step) = spec.Borders (source_of source) step
 command_of (Check source) = spec.Check (source_of source)
 command_of (Slice source step) = spec.Slice (source_of source) step
+command_of (Packet source from to) = spec.Packet (source_of source) from to
+command_of (Replay slice packet) = spec.Replay slice.now packet.now
 
 abbrev pub asked : Option Command → Option spec.Command
 asked command = option_map command_of command

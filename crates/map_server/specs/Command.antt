@@ -14,11 +14,14 @@ source_named map [] = Some (Listing map)
 source_named map (object ∷ rules ∷ []) = Some (Topology map object rules)
 source_named map words = None
 
--- the borders of a map after a step of its history, whether a map is a planar partition, or its slice after a step
+-- The borders of a map after a step of its history; whether a map is a planar partition; its slice after a step; its packet from
+-- one step to another; or the slice that a packet leads to, from the files of these names.
 pub data Command : Type 0 where
   Borders : Source → ℕ → Command
   Check : Source → Command
   Slice : Source → ℕ → Command
+  Packet : Source → ℕ → ℕ → Command
+  Replay : List ℕ → List ℕ → Command
 
 -- the step that a word names: a canonical decimal from 0 to 4,294,967,295
 abbrev pub step_of : List ℕ → Option ℕ

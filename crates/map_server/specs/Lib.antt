@@ -6,5 +6,7 @@ pub mod MapFile
 pub mod Borders
 pub mod Check
 pub mod Slice
+pub mod Replay
+pub mod Packet
 pub mod Commands
 pub mod Answers

@@ -4,8 +4,11 @@ use Rattle.tgap_model.specs.declared.fault.MapFault.{MapFault}
 use Rattle.tgap_model.specs.declared.failure.Or.{Or}
 use Rattle.tgap_model.specs.declared.failure.Or.TheVariants.{Fault, Memory}
 use Rattle.tgap_model.specs.Texts.{line, fault_text, step_too_high_text}
+use Rattle.client_replay.specs.declared.unfit.Unfit.{Unfit as Misfitting}
 use Rattle.slice_read.specs.declared.fail.ReadFail.{ReadFail}
 use Rattle.slice_read.specs.declared.fail.ReadFail.TheVariants as fail
+use Rattle.refine_packets.specs.declared.fail.PacketFail.{PacketFail}
+use Rattle.refine_packets.specs.declared.fail.PacketFail.TheVariants as packet_fail
 use Rattle.plain_io.specs.declared.files.Which.{Which}
 use Rattle.plain_io.specs.declared.files.Which.TheVariants.{Map, Rules, Slice, Packet}
 use Rattle.map_server.specs.declared.outcome.Misfit.{Misfit}
@@ -103,3 +106,14 @@ refusal Memory = OutOfMemory
 abbrev pub read_refusal : ReadFail → Outcome
 read_refusal (fail.StepTooHigh steps) = StepTooHigh steps
 read_refusal fail.Memory = OutOfMemory
+
+-- why there is no packet between two steps
+abbrev pub packet_refusal : ℕ → ℕ → PacketFail → Outcome
+packet_refusal from to packet_fail.NotCoarser = NotCoarser from to
+packet_refusal from to (packet_fail.StepTooHigh steps) = StepTooHigh steps
+packet_refusal from to packet_fail.Memory = OutOfMemory
+
+-- why a packet is not replayed
+abbrev pub replay_refusal : Or Misfitting → Outcome
+replay_refusal (Fault u) = Unfit (Rule u.step u.rule)
+replay_refusal Memory = OutOfMemory

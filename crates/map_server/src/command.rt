@@ -5,7 +5,7 @@ ghost use Rattle.map_server.specs.Command.{source_named};
 ghost use Rattle.map_server.specs.Commands.{command};
 ghost use Rattle.map_server.specs.Asked.{asked, source_of};
 
-use crate::{borders, check, slice};
+use crate::{borders, check, packet, replay, slice};
 
 /// Where a map is read from.
 #[derive(Clone, Copy, Drop)]
@@ -44,6 +44,10 @@ pub enum Command<'a> {
     Check { map: Source<'a> },
     /// The slice of a map after this step of its history.
     Slice { map: Source<'a>, step: u32 },
+    /// The packet of a map from one step of its history to another.
+    Packet { map: Source<'a>, from: u32, to: u32 },
+    /// The slice that the packet in the one file leads to from the slice in the other.
+    Replay { slice: &'a str, packet: &'a str },
 }
 
 /// The command that the words are, or None where they are none.
@@ -61,6 +65,10 @@ pub fn parse_command(words: &[String]) -> Option<Command<'_>>
         check::parse(words)
     } else if name == "slice" {
         slice::parse(words)
+    } else if name == "packet" {
+        packet::parse(words)
+    } else if name == "replay" {
+        replay::parse(words)
     } else {
         None
     }

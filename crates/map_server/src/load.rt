@@ -18,7 +18,7 @@ use tgap_model::{Base, MAX_MAP_BYTES, MapFault, Text};
 use topo_read::read_topology;
 
 /// The bytes of a file, at most `max` of them, or what comes where they are not to be had.
-fn load<F: Files>(
+pub fn load<F: Files>(
     alloc: Global,
     which: Which,
     name: &str,

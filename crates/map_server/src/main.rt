@@ -8,6 +8,8 @@ mod check;
 mod command;
 mod load;
 mod outcome;
+mod packet;
+mod replay;
 mod run;
 mod slice;
 #[cfg(test)]

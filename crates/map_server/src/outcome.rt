@@ -6,6 +6,7 @@ ghost use Rattle.map_server.specs.declared.outcome.Misfit.TheVariants as misfit;
 ghost use Rattle.map_server.specs.Outcomes.{TakesMemory, status_of, text_of, load_fault_text, not_coarser_text, misfit_text, bytes_of};
 ghost use Rattle.map_server.specs.Delivery.{Delivers, DeliversText};
 
+use client_replay::Unfit;
 use plain_io::{Sink, Which, put_count};
 use slice_read::ReadFail;
 use std::alloc::Global;
@@ -84,6 +85,20 @@ impl From<ReadFail> for Outcome {
         match refused {
             ReadFail::StepTooHigh { steps } => Outcome::StepTooHigh { steps },
             ReadFail::Memory => Outcome::OutOfMemory,
+        }
+    }
+}
+
+impl From<Or<Unfit>> for Outcome {
+    ghost use Rattle.std.specs.Prelude.{◌≡◌};
+    ghost use Rattle.map_server.specs.Outcomes.{replay_refusal};
+
+    ghost from_gives = { λ e o. o ≡ replay_refusal e };
+
+    fn from(refused: Or<Unfit>) -> Outcome {
+        match refused {
+            Or::Fault(Unfit { step, rule }) => Outcome::Unfit(Misfit::Rule { step, rule }),
+            Or::Memory => Outcome::OutOfMemory,
         }
     }
 }

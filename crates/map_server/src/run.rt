@@ -15,7 +15,7 @@ ghost use Rattle.map_server.specs.Answers.{Answers, Failed, KeepCounts, LeavesKi
 
 use crate::command::{Command, parse_command};
 use crate::outcome::Outcome;
-use crate::{borders, check, slice};
+use crate::{borders, check, packet, replay, slice};
 use plain_io::{Files, Sink};
 use std::alloc::Global;
 use std::thread::Threads;
@@ -26,13 +26,14 @@ use tgap_model::Text;
 ///
 /// | Status | Comes where | Text |
 /// |---|---|---|
-/// | 0 | the command was done | the borders text or the slice text of the step, or `ok` with the numbers of faces, arcs and points |
+/// | 0 | the command was done | the borders text or the slice text of the step, the packet text of the two steps, the text of the slice that a replay reaches, or `ok` with the numbers of faces, arcs and points |
 /// | 2 | the words are no command | the usage line |
 /// | 3 | a file that the command reads could not be loaded; the count of faults of its kind rose | `load fault` and the kind |
-/// | 4 | a file is too long, or the map file is the listing of no base map, or the two files are no topology and rules that make one, or the map that is checked or sliced is no planar partition | the first fault |
-/// | 5 | the step is above the last one | `step too high` with that step |
+/// | 4 | a file is too long, or the map file is the listing of no base map, or the two files are no topology and rules that make one, or the map is no planar partition, which `borders` does not ask | the first fault |
+/// | 5 | the step is above the last one; or the step to go to is above the step to go from, which is told first | `step too high` with that step, or `not coarser` with the two |
 /// | 6 | the text could not be put; the count of faults of the sink rose | a front of the text |
 /// | 7 | memory is wanting | `memory` |
+/// | 9 | a text of a replay is none, or a record does not fit | the first line that is not of its form, or the record's step and the least rule that it breaks |
 pub fn run<R: Threads + Sync, F: Files, K: Sink>(
     rt: &R,
     alloc: Global,
@@ -52,7 +53,10 @@ pub fn run<R: Threads + Sync, F: Files, K: Sink>(
     // For a slice this says: the map is a planar partition, and what is put is the text of its slice by the definition, whose
     // edges are chains of its arcs less the listed vertices. The slice is a planar partition again; outside the triangles of
     // the listed vertices each face is the union of the base faces that the history made it of, and two are adjacent exactly
-    // where base faces of theirs are.
+    // where base faces of theirs are. For a packet: what is put is the text of the packet by the definition, each of whose records
+    // fits the slice that those before it leave. It leads from the slice at the one step to the slice at the other, over any slice
+    // between, and so does the text that is put, where it is replayed on the text of the slice. For a replay: the files are the
+    // texts of a slice and of a packet whose records fit, and what is put is the text of the slice that is reached.
     ensures done { result ≡ 0
         → PutsAnswer (map string_bytes words.now) (F.told files.old) (K.told out.old) (K.told out.new) outcome.Done }
     ensures usage { result ≡ 2 → command (map string_bytes words.now) ≡ None }
@@ -71,6 +75,8 @@ pub fn run<R: Threads + Sync, F: Files, K: Sink>(
     ensures too_high { result ≡ 5
         → PutsAnswer (map string_bytes words.now) (F.told files.old) (K.told out.old) (K.told out.new) outcome.StepTooHigh
         ⊎ PutsAnswer (map string_bytes words.now) (F.told files.old) (K.told out.old) (K.told out.new) not_coarser }
+    ensures unfit { result ≡ 9
+        → PutsAnswer (map string_bytes words.now) (F.told files.old) (K.told out.old) (K.told out.new) outcome.Unfit }
     ensures sink_fault { result ≡ 6 → Rises (K.faults out.old) (K.faults out.new) }
     ensures sink_kept { result ≢ 6 → K.faults out.new ≡ K.faults out.old }
 {
@@ -111,5 +117,7 @@ fn answer<R: Threads + Sync, F: Files>(
         Some(Command::Borders { map, step }) => borders::answer(alloc, map, step, files),
         Some(Command::Check { map }) => check::answer(rt, alloc, map, files),
         Some(Command::Slice { map, step }) => slice::answer(rt, alloc, map, step, files),
+        Some(Command::Packet { map, from, to }) => packet::answer(rt, alloc, map, from, to, files),
+        Some(Command::Replay { slice, packet }) => replay::answer(alloc, slice, packet, files),
     }
 }

@@ -1,4 +1,5 @@
 //! The program over files and sinks in memory: worked maps, bad input and faults of the outside.
+mod packets;
 mod topologies;
 
 use crate::run;

@@ -1,4 +1,4 @@
-use Rattle.map_server.proofs.Statuses.{put_is, answered_says, zero_says, two_says, none_says, three_says, missing_says, counts_say, kinds_say, four_says, five_says, six_says, sink_stays, exact_says}
+use Rattle.map_server.proofs.Statuses.{put_is, answered_says, zero_says, two_says, none_says, three_says, missing_says, counts_say, kinds_say, four_says, five_says, six_says, nine_says, sink_stays, exact_says}
 use Rattle.map_server.proofs.run.run.Goals as goal
 
 pub returns : goal.returns
@@ -16,6 +16,7 @@ returns g c =
       kinds_kept = kinds_say p;
       refused = four_says p;
       too_high = five_says p;
+      unfit = nine_says p;
       sink_fault = six_says p;
       sink_kept = sink_stays p;
     }
