@@ -120,10 +120,10 @@ replayed(FOUR_SLICES[3], changed(four_packet(3, 1), "edge 6 4 3", "edge 6 4 5"),
 
 # ---- texts that are none, that of the slice before that of the packet
 
-for cut, line in [(TWO_FINE[: -len("end\n")], 9), (TWO_FINE[:-1], 9), (TWO_FINE + "end\n", 10), ("", 1), (TWO_PACKET, 1),
+for cut, line in [(TWO_FINE[: -len("end\n")], 9), (TWO_FINE[:-1], 9), (TWO_FINE + "end\n", 10), ("", 1), (TWO_PACKET, 1), (LONG[1:], 1),
                   (changed(TWO_FINE, "face 2 0", "face 1 0"), 4), (changed(TWO_FINE, "edge 2", "edge 1"), 8), (changed(TWO_FINE, "2 10 0 10 10", "2 10 0 10 0"), 8)]:
     replayed(cut, "", 9, f"unfit slice line {line}\n")
-for cut, line in [(TWO_PACKET[: -len("end\n")], 8), (TWO_PACKET[:-1], 8), (TWO_PACKET + "end\n", 9), ("", 1), (TWO_COARSE, 1),
+for cut, line in [(TWO_PACKET[: -len("end\n")], 8), (TWO_PACKET[:-1], 8), (TWO_PACKET + "end\n", 9), ("", 1), (TWO_COARSE, 1), (LONG[1:], 1),
                   (changed(TWO_PACKET, "packet 1 0", "packet 0 1"), 1), (changed(TWO_PACKET, "step 1", "step 2"), 2),
                   (changed(TWO_PACKET, "piece 1 6 2 0", "piece 1 6 2 2"), 6), (packet(2, 0, *TWO_ROWS), 2)]:
     replayed(TWO_COARSE, cut, 9, f"unfit packet line {line}\n")
@@ -139,6 +139,8 @@ CASES += [
     (["replay", long_file, "none"], 4, "refused 20 input-long 67108864\n"),
     (["replay", slice_file, long_file], 4, "refused 20 input-long 67108864\n"),
     (["replay", packet_file, long_file], 4, "refused 20 input-long 67108864\n"),
+    (["replay", "/dev/zero", packet_file], 4, "refused 20 input-long 67108864\n"),
+    (["replay", slice_file, "/dev/zero"], 4, "refused 20 input-long 67108864\n"),
     *((words, 2, USAGE) for words in [
         "packet", "packet two_squares", "packet two_squares 1", "packet two_squares 1 0 land", "packet two_squares 1 0 land rules_0 more",
         "packet two_squares 01 0", "packet two_squares 1 00", "packet two_squares 1 -1", "packet two_squares 4294967296 0",

@@ -1,5 +1,5 @@
 -- A slice of a planar partition has the form of its text.
-use Rattle.std.proofs.Common.{◌≡◌, ℕ, zero, suc, ◌+◌, ◌^◌, ◌<◌, ◌≤◌, true, inl, inr, nat_lt, List, [], ◌∷◌, map, fold, ◌-◌, length, get_or, refl, ap, ◌∙◌, subst, arith, IsTrue}
+use Rattle.std.proofs.Common.{◌≡◌, ℕ, zero, suc, ◌+◌, ◌^◌, ◌<◌, ◌≤◌, ◌&&◌, true, inl, inr, nat_lt, List, [], ◌∷◌, ◌++◌, map, filter, fold, ◌-◌, length, get_or, refl, ap, ◌∙◌, subst, arith, IsTrue}
 use Rattle.std.specs.Prelude.{⊤}
 use Rattle.std.specs.List.{list_all, range_with_len}
 use Rattle.std.proofs.lemmas.Bool.{and_parts, and_from, lt-ltb, ltb-true, le-leb, leb-true}
@@ -12,6 +12,7 @@ use Rattle.tgap_model.specs.declared.merge.MergeStep.{MergeStep}
 use Rattle.tgap_model.specs.declared.base.BaseArc.{BaseArc}
 use Rattle.tgap_model.specs.declared.slice.Edge.{Edge}
 use Rattle.tgap_model.specs.declared.slice.FaceRow.{FaceRow}
+use Rattle.tgap_model.specs.declared.slice.Removal.{Removal}
 use Rattle.tgap_model.specs.Base.{BaseMap, is_base, in_limits, no_repeat}
 use Rattle.tgap_model.specs.Partition.{IsPartition, base_segments}
 use Rattle.tgap_model.specs.History.{class_of, classes_after, history_of}
@@ -94,19 +95,16 @@ module _ (m : BaseMap) (base : is_base m ≡ true) (planar : IsPartition (base_s
   pub room : length m.classes + k + 1 < 2 ^ 32
   room = few_faces m base (length m.classes) k refl within
 
-  abbrev no_arc : BaseArc
-  no_arc = record { left = 0; right = 0; points = [] }
-
   -- the faces at the sides of an arc, base faces, have labels that are numbers
   pub left_small : (i : ℕ) → label_at (merged m) k (arc_number m.arcs i).left < 2 ^ 32
   left_small i =
-      let face : (arc_number m.arcs i).left ≤ length m.classes = each_or (λ (a : BaseArc). a.left ≤ length m.classes) m.arcs i no_arc (omega arith) (λ a o.
+      let face : (arc_number m.arcs i).left ≤ length m.classes = each_or (λ (a : BaseArc). a.left ≤ length m.classes) m.arcs i _ (omega arith) (λ a o.
       leb-true a.left (length m.classes) (and_parts _ _ (members_all (λ (a : BaseArc). has_base_faces (merged m) a ≡ true) m.arcs a (based m base planar) o)).0) in
       omega (arith, room, label_bounded (length m.classes) (history_of m) k (arc_number m.arcs i).left (history_numbered m base) within face)
 
   pub right_small : (i : ℕ) → label_at (merged m) k (arc_number m.arcs i).right < 2 ^ 32
   right_small i =
-      let face : (arc_number m.arcs i).right ≤ length m.classes = each_or (λ (a : BaseArc). a.right ≤ length m.classes) m.arcs i no_arc (omega arith) (λ a o.
+      let face : (arc_number m.arcs i).right ≤ length m.classes = each_or (λ (a : BaseArc). a.right ≤ length m.classes) m.arcs i _ (omega arith) (λ a o.
       leb-true a.right (length m.classes) (and_parts _ _ (members_all (λ (a : BaseArc). has_base_faces (merged m) a ≡ true) m.arcs a (based m base planar) o)).1) in
       omega (arith, room, label_bounded (length m.classes) (history_of m) k (arc_number m.arcs i).right (history_numbered m base) within face)
 

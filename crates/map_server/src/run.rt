@@ -54,9 +54,9 @@ pub fn run<R: Threads + Sync, F: Files, K: Sink>(
     // edges are chains of its arcs less the listed vertices. The slice is a planar partition again; outside the triangles of
     // the listed vertices each face is the union of the base faces that the history made it of, and two are adjacent exactly
     // where base faces of theirs are. For a packet: what is put is the text of the packet by the definition, each of whose records
-    // fits the slice that those before it leave. It leads from the slice at the one step to the slice at the other, over any slice
-    // between, and so does the text that is put, where it is replayed on the text of the slice. For a replay: the files are the
-    // texts of a slice and of a packet whose records fit, and what is put is the text of the slice that is reached.
+    // fits the slice that those before it leave, and which leads from the slice at the one step to the slice at the other. For a
+    // replay: the files are the texts of a slice and of a packet whose records fit, and what is put is the text of the slice that
+    // is reached.
     ensures done { result ≡ 0
         → PutsAnswer (map string_bytes words.now) (F.told files.old) (K.told out.old) (K.told out.new) outcome.Done }
     ensures usage { result ≡ 2 → command (map string_bytes words.now) ≡ None }
