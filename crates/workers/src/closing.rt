@@ -1,0 +1,35 @@
+//! The end of serving.
+
+ghost use Rattle.std.specs.Prelude.{◌≡◌, map, length, All};
+ghost use Rattle.plain_io.specs.Faults.{Rose};
+ghost use Rattle.version_store.specs.Growth.{IsPrefix};
+ghost use Rattle.version_store.specs.Store.{seat_versions, press_versions};
+ghost use Rattle.workers.specs.Closing.{MayTakeBack, TakesAllBack, CountsAllBack, OneFailed, NoneFailed};
+
+use crate::post::PostOf;
+use plain_io::Harbour;
+use tgap_model::Holds;
+use version_store::{Press, Seat, StoreName};
+
+/// Ends the posts: the press gathers each seat, and each door goes back to its harbour.
+pub fn close_posts<V: Holds + Drop, N: StoreName, H: Harbour>(
+    posts: Vec<PostOf<H::Gate, Seat<V, N>>>,
+    press: &mut Press<V, N>,
+    harbour: &mut H,
+)
+    requires { MayTakeBack (length posts.items) (H.told harbour.old) }
+    // All doors came back, in their order.
+    ensures back { TakesAllBack (H.told harbour.old) (H.told harbour.new) (map (λ post. post.door) posts.items) }
+    // The harbour's count rises where a door has failed, and else it stays.
+    ensures failed { OneFailed (map (λ post. H.Gate.faults post.door) posts.items) → Rose (H.faults harbour.old) (H.faults harbour.new) }
+    ensures sound { NoneFailed (map (λ post. H.Gate.faults post.door) posts.items) → H.faults harbour.new ≡ H.faults harbour.old }
+    // What a seat has seen begins the list of the press, which stays.
+    ensures gathered { All (λ post. IsPrefix (seat_versions post.seat) (press_versions press.new)) posts.items }
+    ensures kept { press_versions press.new ≡ press_versions press.old }
+{
+    for post in posts {
+        let PostOf { door, seat } = post;
+        press.gather(seat);
+        harbour.back(door);
+    }
+}
