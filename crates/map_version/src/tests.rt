@@ -5,7 +5,7 @@ use base_check::check;
 use std::alloc::Global;
 use std::test::Fail;
 use std::thread::Threads;
-use tgap_build::build;
+use tgap_build::{Built, build};
 use tgap_model::{
     Base, BaseArc, Fraction, Holds, List, MapFault, Memory, Or, Point, Rules, Transform,
 };
@@ -115,16 +115,13 @@ fn the_first_fault_is_told(rt: HostRuntime) -> Result<(), Fail> {
     Ok(())
 }
 
-/// The two squares as version 0.
-fn version_of<R: Threads + Sync>(rt: &R, alloc: Global) -> Result<Option<Version>, Memory> {
+/// What is built of the two squares.
+fn built_squares<R: Threads + Sync>(rt: &R, alloc: Global) -> Result<Option<Built>, Memory> {
     let Some(base) = squares(alloc, &[(10, 0), (10, 10)])? else {
         return Ok(None);
     };
     match check(rt, alloc, base) {
-        Ok(checked) => Ok(Some(Version {
-            number: 0,
-            built: build(rt, alloc, checked)?,
-        })),
+        Ok(checked) => Ok(Some(build(rt, alloc, checked)?)),
         Err(Or::Fault(_)) => Ok(None),
         Err(Or::Memory) => Err(Memory),
     }
@@ -133,7 +130,8 @@ fn version_of<R: Threads + Sync>(rt: &R, alloc: Global) -> Result<Option<Version
 #[test]
 fn the_next_version_is_built(rt: HostRuntime) -> Result<(), Fail> {
     let alloc = rt.alloc();
-    let first = version_of(&rt, alloc)?.ok_or("no version")?;
+    let built = built_squares(&rt, alloc)?.ok_or("no map was built")?;
+    let first = Version { number: 0, built };
     let second = rebuild(&rt, alloc, &first, b"move 20 10 24 10\n")?;
     assert_eq!(rt; second.number(), 1);
     assert_eq!(rt;
@@ -146,7 +144,8 @@ fn the_next_version_is_built(rt: HostRuntime) -> Result<(), Fail> {
 #[test]
 fn an_edited_map_with_a_fault_is_refused(rt: HostRuntime) -> Result<(), Fail> {
     let alloc = rt.alloc();
-    let first = version_of(&rt, alloc)?.ok_or("no version")?;
+    let built = built_squares(&rt, alloc)?.ok_or("no map was built")?;
+    let first = Version { number: 0, built };
     let fault = match rebuild(&rt, alloc, &first, b"move 20 0 0 5\n") {
         Ok(_) => None,
         Err(fail) => Some(fail),
