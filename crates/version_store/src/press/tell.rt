@@ -1,6 +1,6 @@
 //! The press tells its list to seats, and hears of what they have seen.
 
-ghost use Rattle.std.specs.Prelude.{◌≡◌, ◌+◌, [], length, IfOk, IsOk, OnErr};
+ghost use Rattle.std.specs.Prelude.{◌≡◌, ◌<◌, ◌+◌, ◌^◌, [], length, slice_index, IfOk, IsOk, OnErr};
 ghost use Rattle.version_store.specs.Growth.{IsPrefix, IsList};
 ghost use Rattle.version_store.specs.Rule.{note};
 ghost use Rattle.version_store.specs.Store.{press_versions, press_limit, seat_versions, told_versions, seat_limit, published_count, tellings, KeepsCounts, raised};
@@ -55,6 +55,8 @@ impl<V: Holds + Drop, N: StoreName> PressOf<V, N, Growing> {
         ensures seen { IfOk result (λ newest. (seat_versions seat.new ≡ press_versions self.new) × (newest + 1 ≡ length (press_versions self.new))) }
         // The count of tellings that ended at this number rises by one, and no other; it stays at 2^64 - 1.
         ensures counted { IfOk result (λ newest. tellings seat.new ≡ raised (tellings seat.old) newest) }
+        // That count is one of those that a seat has, and is below 2^64.
+        ensures sized { IfOk result (λ newest. (newest < length (tellings seat.old)) × (slice_index (tellings seat.old) newest < 2 ^ 64)) }
         ensures kept { OnErr result (tellings seat.new ≡ tellings seat.old) }
         // It takes no memory.
         ensures taken { IsOk result }

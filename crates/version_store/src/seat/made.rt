@@ -1,6 +1,6 @@
 //! The press makes seats.
 
-ghost use Rattle.std.specs.Prelude.{◌≡◌, ◌<◌, ◌≤◌, ◌+◌, ◌*◌, [], ◌∷◌, length, IfOk};
+ghost use Rattle.std.specs.Prelude.{◌≡◌, ◌<◌, ◌≤◌, ◌+◌, ◌*◌, ◌^◌, [], ◌∷◌, length, slice_index, IfOk};
 ghost use Rattle.std.specs.Arc.{arc_value};
 ghost use Rattle.version_store.specs.Rule.{with_seat};
 ghost use Rattle.version_store.specs.Store.{seat_versions, told_versions, seat_limit, published_count, tellings, raised, IsNewSeat};
@@ -51,6 +51,7 @@ impl<V: Holds + Drop, N: StoreName> SeatOf<V, N, Growing> {
     pub(crate) fn count_telling(&mut self, number: u64)
         requires { number < 64 }
         ensures counted { tellings self.new ≡ raised (tellings self.old) number }
+        ensures sized { (number < length (tellings self.old)) × (slice_index (tellings self.old) number < 2 ^ 64) }
         ensures same { (seat_versions self.new ≡ seat_versions self.old) × (told_versions self.new ≡ told_versions self.old) × (seat_limit self.new ≡ seat_limit self.old) × (published_count self.new ≡ published_count self.old) }
     {
         let told = &mut self.tellings[number as usize];

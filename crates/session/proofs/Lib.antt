@@ -1,0 +1,13 @@
+pub mod Ranges
+pub mod Fronts
+pub mod Kept
+pub mod Edits
+pub mod Steps
+pub mod Talks
+pub mod Progressing
+pub mod Endings
+pub mod Exchanges
+pub mod Served
+pub mod Last
+pub mod Connections
+pub mod Stores

@@ -1,0 +1,32 @@
+-- Steps above the last one.
+use Rattle.std.proofs.Common.{◌≡◌, ℕ, ◌<◌, ◌≤◌, true, false, List, length, Result, Ok, Err, nat_lt, refl, sym, ap, ◌∙◌, ◌↔◌, arith, if◌then◌else◌, inl, inr}
+use Rattle.std.proofs.lemmas.Bool.{cases_lt}
+use Rattle.std.proofs.lemmas.Bool.Decides.{nat_tests}
+use Rattle.slice_read.specs.declared.fail.ReadFail.{ReadFail}
+use Rattle.slice_read.specs.declared.fail.ReadFail.TheVariants.{StepTooHigh}
+use Rattle.tgap_model.specs.Base.{BaseMap}
+use Rattle.tgap_model.specs.History.{history_of}
+use Rattle.tgap_model.specs.Texts.{step_too_high_text}
+use Rattle.session.specs.Answers.{plain, at_step}
+
+nat_lt_no : (n k : ℕ) → k ≤ n → nat_lt n k ≡ false
+nat_lt_no n k h = grind (arith, nat_tests)
+
+nat_lt_yes : (n k : ℕ) → n < k → nat_lt n k ≡ true
+nat_lt_yes n k h = grind (arith, nat_tests)
+
+-- the text of a step that the history has
+pub at_step_there : (m : BaseMap) (k : ℕ) (text : List ℕ) → k ≤ length (history_of m) → at_step m k text ≡ plain 200 text
+at_step_there m k text h =
+    ap (λ b. if b then plain 400 (step_too_high_text (length (history_of m))) else plain 200 text) (nat_lt_no (length (history_of m)) k h)
+
+-- the text of one that it has not
+pub at_step_above : (m : BaseMap) (k : ℕ) (text : List ℕ) → length (history_of m) < k
+    → at_step m k text ≡ plain 400 (step_too_high_text (length (history_of m)))
+at_step_above m k text h =
+    ap (λ b. if b then plain 400 (step_too_high_text (length (history_of m))) else plain 200 text) (nat_lt_yes (length (history_of m)) k h)
+
+-- a reader that refuses exactly the steps above the last one, and gave something
+pub gave : {A : Type 0} (r : Result A ReadFail) (x : A) (n k : ℕ) → r ≡ Ok x
+    → ((steps : ℕ) → (r ≡ Err (StepTooHigh steps)) ↔ ((n < k) × (steps ≡ n))) → k ≤ n
+gave r x n k e high = elim (cases_lt n k) [ inl h ↦ absurd (let f : Ok x ≡ Err (StepTooHigh n) = sym e ∙ (high n).1 (h, refl) in cc) | inr h ↦ h ]

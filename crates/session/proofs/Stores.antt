@@ -1,0 +1,69 @@
+-- What a seat tells before and after it has seen more versions.
+use Rattle.std.proofs.Common.{◌≡◌, ◌∙◌, ℕ, zero, suc, ◌+◌, ◌-◌, ◌^◌, ◌≤◌, ◌<◌, min, List, [], ◌∷◌, map, length, Result, Ok, Err, IfOk, true, false, ap, arith}
+use Rattle.std.specs.Prelude.{slice_index, slice_set, IsOk}
+use Rattle.std.proofs.lemmas.List.{map-append, length-map, get_or-set_same}
+use Rattle.tgap_model.specs.declared.machine.Holds as Held
+use Rattle.plain_io.specs.Faults.{Rose}
+use Rattle.map_version.specs.declared.version.Version.{Version}
+use Rattle.version_store.specs.declared.name.StoreName as Named
+use Rattle.version_store.specs.declared.seat.SeatOf.{SeatOf}
+use Rattle.version_store.specs.Growth.{IsPrefix}
+use Rattle.version_store.specs.Store.{seat_versions, seat_limit, tellings, raised}
+use Rattle.session.specs.Versions.{Continues, Extends, seen_of}
+
+-- the maps of a longer list of versions
+extended : (before now : List Version) → IsPrefix before now → Extends (map (λ (v : Version). v.built) before) (map (λ (v : Version). v.built) now)
+extended before now (more, is) =
+    (map (λ (v : Version). v.built) more, ap (map (λ (v : Version). v.built)) is ∙ map-append (λ (v : Version). v.built) before more)
+
+-- a list with a greater number at one place
+set_above : (xs : List ℕ) (k n v : ℕ) → slice_index xs k ≤ v → slice_index xs n ≤ slice_index (slice_set xs k v) n
+set_above [] k n v h = omega arith
+set_above (x ∷ xs) zero zero v h = h
+set_above (x ∷ xs) zero (suc n) v h = omega arith
+set_above (x ∷ xs) (suc k) zero v h = omega arith
+set_above (x ∷ xs) (suc k) (suc n) v h = set_above xs k n v h
+
+module _ {N P : Type 0} {held : Held.Ghosts Version} {named : Named.Ghosts N} where
+  -- it has seen more, and no telling is counted
+  pub sees_on : (before now : SeatOf Version N P held named) → IsPrefix (seat_versions before) (seat_versions now)
+      → seat_limit now ≡ seat_limit before → tellings now ≡ tellings before → Continues (seen_of before) (seen_of now)
+  sees_on before now more limit told = record {
+    history = extended (seat_versions before) (seat_versions now) more;
+    limit = limit;
+    tellings = λ n. (let e : slice_index (tellings now) n ≡ slice_index (tellings before) n = ap (λ xs. slice_index xs n) told in omega arith);
+  }
+
+  -- it has seen more, and one telling is counted
+  pub hears_on : (before now : SeatOf Version N P held named) (k : ℕ) → IsPrefix (seat_versions before) (seat_versions now)
+      → seat_limit now ≡ seat_limit before → tellings now ≡ raised (tellings before) k → slice_index (tellings before) k < 2 ^ 64
+      → Continues (seen_of before) (seen_of now)
+  hears_on before now k more limit told small = record {
+    history = extended (seat_versions before) (seat_versions now) more;
+    limit = limit;
+    tellings = λ n. (
+        let e : slice_index (tellings now) n ≡ slice_index (raised (tellings before) k) n = ap (λ xs. slice_index xs n) told in
+        let above = set_above (tellings before) k n (min (slice_index (tellings before) k + 1) (2 ^ 64 - 1)) (grind arith) in
+        omega arith);
+  }
+
+  -- the count of the number that was told rose
+  pub hears_rise : (before now : SeatOf Version N P held named) (k : ℕ) → tellings now ≡ raised (tellings before) k → k < length (tellings before)
+      → Rose (slice_index (tellings before) k) (slice_index (tellings now) k)
+  hears_rise before now k told within =
+      let e : slice_index (tellings now) k ≡ slice_index (raised (tellings before) k) k = ap (λ xs. slice_index xs k) told in
+      let same = get_or-set_same (tellings before) k (min (slice_index (tellings before) k + 1) (2 ^ 64 - 1)) 0 within in
+      omega arith
+
+-- there are as many maps as versions
+pub map_count : (xs ys : List Version) → xs ≡ ys → length (map (λ (v : Version). v.built) xs) ≡ length ys
+map_count xs ys same = length-map xs (λ (v : Version). v.built) ∙ ap length same
+
+-- what two clauses on an answer give together
+pub all_taken : {T E : Type 0} (r : Result T E) (P Q S : T → Type 0) → ((x : T) → P x → Q x → S x) → IfOk r P → IfOk r Q → IfOk r S
+all_taken (Ok x) P Q S f p q = f x p q
+all_taken (Err e) P Q S f p q = tt
+
+pub of_taken : {T E S : Type 0} (r : Result T E) (P Q : T → Type 0) → ((x : T) → P x → Q x → S) → IsOk r → IfOk r P → IfOk r Q → S
+of_taken (Ok x) P Q f ok p q = f x p q
+of_taken (Err e) P Q f ok p q = absurd (let e : false ≡ true = ok in cc)

@@ -1,0 +1,20 @@
+-- The seat has heard of the press's list.
+use Rattle.std.proofs.Common.{◌∙◌, sym}
+use Rattle.version_store.proofs.Lists.{one_limit}
+use Rattle.session.proofs.Stores.{sees_on, map_count}
+use Rattle.session.proofs.store.SeatVersionVersionsMutexPressVersion.publish.Goals as goal
+
+pub returns-clause-stale : goal.returns-clause-stale
+returns-clause-stale g c n is =
+    let stale = (c.publish.ensures.stale n).0 is in
+    (stale.0, stale.1 ∙ sym (map_count _ _ (c.publish.ensures.newest n is)))
+
+pub returns-clause-full : goal.returns-clause-full
+returns-clause-full g c limit is =
+    let full = (c.publish.ensures.full limit).0 is in
+    let one = one_limit c.deref_mut.result.now c.publish.new.seat in
+    (full.2 ∙ one, full.2 ∙ sym full.1 ∙ sym full.0)
+
+pub returns-clause-continues : goal.returns-clause-continues
+returns-clause-continues g c =
+    sees_on c.args.self.now c.publish.new.seat c.publish.ensures.grows c.publish.ensures.others.0 c.publish.ensures.others.1

@@ -1,0 +1,95 @@
+-- What is answered from a version of a map.
+use Rattle.std.specs.Prelude.{◌≡◌, ◌↔◌, IsTrue, IsSome, ℕ, ◌==◌, ◌&&◌, int_le, List, [], ◌∷◌, length, nat_lt, codes, decimal, Option, Some, None, option_map, Ok, Err, if◌then◌else◌}
+use Rattle.tgap_model.specs.declared.geometry.Window.{Window}
+use Rattle.tgap_model.specs.Base.{BaseMap, count_points}
+use Rattle.tgap_model.specs.Partition.{map_fault}
+use Rattle.tgap_model.specs.History.{history_of}
+use Rattle.tgap_model.specs.Merged.{merged}
+use Rattle.tgap_model.specs.Slice.{slice, window_of}
+use Rattle.tgap_model.specs.Records.{packet_of}
+use Rattle.tgap_model.specs.Texts.{line, step_too_high_text, fault_text}
+use Rattle.tgap_model.specs.SliceTexts.{slice_text, window_text, packet_text}
+use Rattle.tgap_model.specs.Edits.{edited}
+use Rattle.http_face.specs.declared.request.Route.{Route}
+use Rattle.http_face.specs.declared.request.Route.TheVariants as route
+use Rattle.http_face.specs.Replies.{is_status}
+use Rattle.session.specs.declared.answer.Answer.{Answer}
+use Rattle.session.specs.Items.{Asked, Route as RouteAsked, FaultyHead}
+
+-- an answer that can be sent: its status is one of those of replies, and a method is named exactly with 405
+pub record IsAnswer (a : Answer) : Type 0 where
+  pub status : IsTrue (is_status a.status)
+  pub allow : IsSome a.allow ↔ (a.status ≡ 405)
+
+-- the answer of this status and body that names no method
+abbrev pub plain : ℕ → List ℕ → Answer
+plain status body = record { status = status; allow = None; body = body }
+
+-- the same with these words in one line
+abbrev pub said : ℕ → List (List ℕ) → Answer
+said status words = plain status (line words)
+
+-- ---- the lines
+
+abbrev pub info_words : ℕ → BaseMap → List (List ℕ)
+info_words number m =
+    codes "version" ∷ decimal number ∷ codes "steps" ∷ decimal (length (history_of m)) ∷ codes "faces" ∷ decimal (length m.classes)
+    ∷ codes "arcs" ∷ decimal (length m.arcs) ∷ codes "points" ∷ decimal (count_points m.arcs) ∷ []
+
+-- a phrase and a number
+abbrev pub numbered : List ℕ → ℕ → List (List ℕ)
+numbered phrase number = phrase ∷ decimal number ∷ []
+
+abbrev pub not_coarser_words : ℕ → ℕ → List (List ℕ)
+not_coarser_words from to = codes "not coarser" ∷ decimal from ∷ decimal to ∷ []
+
+abbrev pub edit_fault_words : ℕ × ℕ → List (List ℕ)
+edit_fault_words fault = codes "edit line" ∷ decimal fault.0 ∷ codes "cause" ∷ decimal fault.1 ∷ []
+
+-- ---- what is read from a version
+
+-- a text of the slice at a step, or that the history has no such step
+abbrev pub at_step : BaseMap → ℕ → List ℕ → Answer
+at_step m step text = if nat_lt (length (history_of m)) step then plain 400 (step_too_high_text (length (history_of m))) else plain 200 text
+
+-- the packet between two steps, where it leads to no coarser slice
+abbrev pub packet_answer : BaseMap → ℕ → ℕ → Answer
+packet_answer m from to =
+    if nat_lt from to then said 400 (not_coarser_words from to)
+    else at_step m from (packet_text (packet_of (merged m) from to))
+
+-- what a window shows, where its ends are in order
+abbrev pub window_answer : BaseMap → ℕ → Window → Answer
+window_answer m step area =
+    if int_le area.x0 area.x1 && int_le area.y0 area.y1 then at_step m step (window_text area (window_of area (slice m step)))
+    else said 400 (codes "bad number" ∷ [])
+
+-- the answer to what only reads the version of this number; the others have none
+abbrev pub route_answer : ℕ → BaseMap → Route → Option Answer
+route_answer number m route.Info = Some (said 200 (info_words number m))
+route_answer number m (route.Slice step) = Some (at_step m step (slice_text (slice m step)))
+route_answer number m (route.Packet from to) = Some (packet_answer m from to)
+route_answer number m (route.Window step area) = Some (window_answer m step area)
+route_answer number m route.BadNumber = Some (said 400 (codes "bad number" ∷ []))
+route_answer number m (route.WrongMethod allow) =
+    Some (record { status = 405; allow = Some allow; body = line (codes "wrong method" ∷ []) })
+route_answer number m route.NoRoute = Some (said 404 (codes "no route" ∷ []))
+route_answer number m route.Pin = None
+route_answer number m (route.PinSeen seen) = None
+route_answer number m route.Edit = None
+
+-- the answer to a head at fault
+abbrev pub fault_answer : ℕ → Answer
+fault_answer status = if status == 413 then said 413 (codes "too long" ∷ []) else said 400 (codes "bad request" ∷ [])
+
+-- the answer to what only reads the version of this number, or is at fault; the others have none
+abbrev pub read_answer : ℕ → BaseMap → Asked → Option Answer
+read_answer number m (RouteAsked route body) = route_answer number m route
+read_answer number m (FaultyHead status) = Some (fault_answer status)
+
+-- ---- why a batch is refused
+
+-- The text for a batch that is at fault, or whose edited map is; none for a good one.
+abbrev pub refusal : BaseMap → List ℕ → Option (List ℕ)
+refusal m batch =
+    elim (edited m batch) [ Err fault ↦ Some (line (edit_fault_words fault)) | Ok edited ↦ option_map fault_text (map_fault edited) ]

@@ -1,0 +1,9 @@
+pub mod Reading
+pub mod Items
+pub mod Coming
+pub mod Answers
+pub mod Outcomes
+pub mod Versions
+pub mod Turns
+pub mod Progress
+pub mod Conversation

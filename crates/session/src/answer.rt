@@ -1,0 +1,82 @@
+//! What is answered from a version of a map.
+
+ghost use Rattle.std.specs.Prelude.{◌≡◌, ◌∷◌, [], IfOk};
+ghost use Rattle.tgap_model.specs.Texts.{line};
+ghost use Rattle.http_face.specs.declared.head.TheConstants.{CONTENT_TOO_LARGE};
+ghost use Rattle.session.specs.Answers.{IsAnswer, plain, numbered, fault_answer};
+ghost use Rattle.session.specs.Outcomes.{sent};
+
+use http_face::{Allow, CONTENT_TOO_LARGE, Reply, reply_bytes};
+use plain_io::put_field;
+use std::alloc::Global;
+use tgap_model::{Memory, Text};
+
+/// A reply, but for what the connection adds to it: the version that is pinned, and whether the connection ends.
+#[derive(Drop)]
+pub(crate) struct Answer {
+    pub status: u16,
+    pub allow: Option<Allow>,
+    pub body: Text,
+}
+
+/// An answer that names no method.
+pub(crate) fn plain(status: u16, body: Text) -> Answer
+    ensures { result ≡ plain status body }
+{
+    Answer {
+        status,
+        allow: None,
+        body,
+    }
+}
+
+/// A line.
+pub(crate) fn line(alloc: Global, words: &[u8]) -> Result<Text, Memory>
+    ensures { IfOk result (λ text. text ≡ line (words.now ∷ [])) }
+{
+    let mut text = Text::from_slice(alloc, words)?;
+    text.push_slice(b"\n")?;
+    Ok(text)
+}
+
+/// A line that ends in a number.
+pub(crate) fn numbered_line(alloc: Global, phrase: &[u8], number: u64) -> Result<Text, Memory>
+    ensures { IfOk result (λ text. text ≡ line (numbered phrase.now number)) }
+{
+    let mut text = Text::from_slice(alloc, phrase)?;
+    put_field(alloc, &mut text, i128::from(number))?;
+    text.push_slice(b"\n")?;
+    Ok(text)
+}
+
+/// The answer to a head at fault, by the status.
+pub(crate) fn fault_answer(alloc: Global, status: u16) -> Result<Answer, Memory>
+    ensures exact { IfOk result (λ a. a ≡ fault_answer status) }
+    ensures sendable { IfOk result IsAnswer }
+{
+    if status == CONTENT_TOO_LARGE {
+        Ok(plain(status, line(alloc, b"too long")?))
+    } else {
+        Ok(plain(400, line(alloc, b"bad request")?))
+    }
+}
+
+/// The bytes of a reply.
+pub(crate) fn sent(alloc: Global, answer: Answer, pin: u64, close: bool) -> Result<Text, Memory>
+    requires { IsAnswer answer }
+    ensures { IfOk result (λ text. text ≡ sent pin close answer) }
+{
+    let Answer {
+        status,
+        allow,
+        body,
+    } = answer;
+    let reply = Reply {
+        status,
+        pin,
+        allow,
+        close,
+        body,
+    };
+    reply_bytes(alloc, &reply)
+}

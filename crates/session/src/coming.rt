@@ -1,0 +1,96 @@
+//! What comes next on a connection.
+
+ghost use Rattle.std.specs.Prelude.{◌≡◌, ◌<◌, length, false};
+ghost use Rattle.session.specs.Reading.{Received};
+ghost use Rattle.session.specs.Coming.{IsComing, IsArrival, is_end, CountsArrival};
+ghost use Rattle.session.specs.declared.room.TheConstants.{ROOM};
+
+use crate::room::Room;
+use http_face::{HeadEnds, head_ends};
+use plain_io::Link;
+
+/// What the bytes that are held begin with.
+#[derive(Clone, Copy)]
+pub(crate) enum Coming {
+    /// A request: the sizes of its head and of its body, and whether it asks to close the connection.
+    Request {
+        head: usize,
+        body: usize,
+        close: bool,
+    },
+    /// A head at fault, with the status of the reply.
+    Fault {
+        status: u16,
+    },
+    /// Less than a request.
+    Part,
+}
+
+/// What comes next on a connection.
+#[derive(Clone, Copy)]
+pub(crate) enum Arrival {
+    /// A request: the sizes of its head and of its body, and whether it asks to close the connection.
+    Request {
+        head: usize,
+        body: usize,
+        close: bool,
+    },
+    /// A head at fault, with the status of the reply.
+    Fault {
+        status: u16,
+    },
+    /// Nothing: the input is at its end.
+    End,
+    /// Nothing: the input failed.
+    Failed,
+}
+
+/// What the bytes begin with.
+fn look(held: &[u8]) -> Coming
+    ensures exact { IsComing held.now result }
+    ensures room { result ≡ Coming.Part → length held.now < ROOM }
+{
+    match head_ends(held) {
+        HeadEnds::Whole {
+            length,
+            body,
+            close,
+        } => {
+            let head = length as usize;
+            let body = body as usize;
+            if held.len() < head + body {
+                Coming::Part
+            } else {
+                Coming::Request { head, body, close }
+            }
+        }
+        HeadEnds::More => Coming::Part,
+        HeadEnds::Bad { status } => Coming::Fault { status },
+    }
+}
+
+/// Takes bytes from the link until it is known what comes next.
+pub(crate) fn next_item<L: Link>(link: &mut L, room: &mut Room) -> Arrival
+    requires { L.ended link.old ≡ false }
+    ensures bytes { Received (L.taken link.old) (L.taken link.new) room.old room.new }
+    ensures exact { IsArrival room.new result }
+    ensures end { L.ended link.new ≡ is_end result }
+    ensures faults { CountsArrival result (L.take_faults link.old) (L.take_faults link.new) }
+    ensures told { L.told link.new ≡ L.told link.old }
+    ensures put_faults { L.put_faults link.new ≡ L.put_faults link.old }
+{
+    'reading: loop {
+        match look(room.bytes()) {
+            Coming::Request { head, body, close } => {
+                return Arrival::Request { head, body, close };
+            }
+            Coming::Fault { status } => return Arrival::Fault { status },
+            Coming::Part => {}
+        }
+        match room.fill(link) {
+            Ok(0) => return Arrival::End,
+            Ok(_) => {}
+            Err(_) => return Arrival::Failed,
+        }
+    }
+}

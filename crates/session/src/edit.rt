@@ -1,0 +1,185 @@
+//! A batch of edits.
+
+ghost use Rattle.std.specs.Prelude.{◌≡◌, ◌<◌, ◌+◌, ℕ, List, IfOk, OnErr, Ok, None};
+ghost use Rattle.std.specs.Arc.{arc_value};
+ghost use Rattle.tgap_model.specs.Texts.{line};
+ghost use Rattle.tgap_model.specs.Edits.{edited};
+ghost use Rattle.tgap_model.specs.Partition.{map_fault};
+ghost use Rattle.http_face.specs.declared.request.Route.TheVariants.{Edit as EditRoute};
+ghost use Rattle.session.specs.Answers.{IsAnswer, plain, edit_fault_words};
+ghost use Rattle.session.specs.Outcomes.{sent};
+ghost use Rattle.session.specs.Items.{Route as RouteAsked};
+ghost use Rattle.session.specs.Versions.{Continues, IsPin};
+ghost use Rattle.session.specs.Turns.{IsTurned, CountsPublished, CountsTold, IsCommitRefused};
+ghost use Rattle.session.specs.declared.row.Row.TheVariants.{Refused as RowRefused};
+ghost use Rattle.tgap_model.specs.Texts.{fault_text};
+
+use crate::answer::{numbered_line, plain, sent};
+use crate::row::Row;
+use crate::turn::Turned;
+use crate::versions::Versions;
+use map_version::{EditFault, RebuildFail, Version, rebuild};
+use plain_io::{put_count, put_field};
+use std::alloc::Global;
+use std::sync::{Arc, Wait};
+use std::thread::Threads;
+use tgap_model::{MapFault, Memory, Text};
+use version_store::{Pin, PublishFail};
+use wire_text::fault_text;
+
+/// The line of a batch at fault.
+fn edit_fault_line(alloc: Global, fault: &EditFault) -> Result<Text, Memory>
+    ensures { IfOk result (λ text. text ≡ line (edit_fault_words (fault.now.line, fault.now.cause))) }
+{
+    let mut text = Text::from_slice(alloc, b"edit line")?;
+    put_count(alloc, &mut text, fault.line)?;
+    text.push_slice(b" cause")?;
+    put_field(alloc, &mut text, i128::from(fault.cause))?;
+    text.push_slice(b"\n")?;
+    Ok(text)
+}
+
+/// A reply that refuses an edit; the version that is pinned stays.
+fn refused(
+    alloc: Global,
+    pin: &Pin<Version>,
+    number: u64,
+    row: Row,
+    status: u16,
+    body: Text,
+    close: bool,
+) -> Result<Turned, Memory>
+    requires { IsAnswer (plain status body) }
+    ensures { IfOk result (λ t. t ≡ record { number = number; row = row; reply = sent pin.now.number close (plain status body) }) }
+{
+    Ok(Turned {
+        number,
+        row,
+        reply: sent(alloc, plain(status, body), pin.number, close)?,
+    })
+}
+
+/// The reply to an edit that is not published; the version that is pinned stays.
+fn refuse_commit(
+    alloc: Global,
+    pin: &Pin<Version>,
+    fail: PublishFail,
+    close: bool,
+) -> Result<Turned, Memory>
+    ensures { IfOk result (IsCommitRefused pin.now.number close fail) }
+{
+    match fail {
+        PublishFail::Stale { newest } => {
+            let body = numbered_line(alloc, b"stale", newest)?;
+            refused(alloc, pin, newest, Row::Stale, 409, body, close)
+        }
+        PublishFail::VersionsFull { limit } => {
+            let body = numbered_line(alloc, b"versions full", limit)?;
+            refused(alloc, pin, limit, Row::Full, 507, body, close)
+        }
+        PublishFail::Memory => Err(Memory),
+    }
+}
+
+/// The reply where the batch is at fault.
+fn refuse_batch(
+    alloc: Global,
+    pin: &Pin<Version>,
+    fault: &EditFault,
+    close: bool,
+) -> Result<Turned, Memory>
+    ensures { IfOk result (λ t. t ≡ record {
+      number = pin.now.number;
+      row = RowRefused;
+      reply = sent pin.now.number close (plain 422 (line (edit_fault_words (fault.now.line, fault.now.cause))));
+    }) }
+{
+    let body = edit_fault_line(alloc, fault)?;
+    refused(alloc, pin, pin.number, Row::Refused, 422, body, close)
+}
+
+/// The reply where the edited map is at fault.
+fn refuse_map(
+    alloc: Global,
+    pin: &Pin<Version>,
+    fault: &MapFault,
+    close: bool,
+) -> Result<Turned, Memory>
+    ensures { IfOk result (λ t. t ≡ record {
+      number = pin.now.number;
+      row = RowRefused;
+      reply = sent pin.now.number close (plain 422 (fault_text fault.now));
+    }) }
+{
+    let body = fault_text(alloc, fault)?;
+    refused(alloc, pin, pin.number, Row::Refused, 422, body, close)
+}
+
+/// Publishes a version that was made of the one that is pinned, and pins it. The reply is made before that, so that nothing is wanted
+/// afterwards.
+fn commit<R: Wait, P, V: Versions<P>>(
+    rt: &R,
+    alloc: Global,
+    versions: &mut V,
+    press: &P,
+    pin: &mut Pin<Version>,
+    next: Version,
+    close: bool,
+) -> Result<Turned, Memory>
+    requires pin { IsPin (V.seen versions.old).history pin.old }
+    requires number { next.number ≡ pin.old.number + 1 }
+    requires sound { map_fault next.built ≡ None }
+    ensures turned { IfOk result (λ t. (batch : List ℕ) → edited (arc_value pin.old.held).built batch ≡ Ok next.built
+        → IsTurned (V.seen versions.old) (V.seen versions.new) pin.old.number pin.new.number (RouteAsked EditRoute batch) close t) }
+    ensures pin { IsPin (V.seen versions.new).history pin.new }
+    ensures kept { OnErr result (pin.new ≡ pin.old) }
+    ensures continues { Continues (V.seen versions.old) (V.seen versions.new) }
+    ensures published { CountsPublished (V.seen versions.old) (V.seen versions.new) result }
+    ensures told { CountsTold (V.seen versions.old) (V.seen versions.new) result }
+{
+    let named = pin.number;
+    let next = Arc::new(alloc, next)?;
+    let held = Arc::try_clone(&next)?;
+    let number = named + 1;
+    let answer = plain(200, numbered_line(alloc, b"published", number)?);
+    let reply = sent(alloc, answer, number, close)?;
+    match versions.publish(rt, alloc, press, named, next) {
+        Ok(_) => {
+            *pin = Pin { number, held };
+            Ok(Turned {
+                number,
+                row: Row::Published,
+                reply,
+            })
+        }
+        Err(fail) => refuse_commit(alloc, pin, fail, close),
+    }
+}
+
+/// Edits the version that is pinned by a batch, and publishes what comes of it. It is edited, checked and built before the press is
+/// asked.
+pub(crate) fn edit<R: Threads + Wait + Sync, P, V: Versions<P>>(
+    rt: &R,
+    alloc: Global,
+    versions: &mut V,
+    press: &P,
+    pin: &mut Pin<Version>,
+    batch: &[u8],
+    close: bool,
+) -> Result<Turned, Memory>
+    requires pin { IsPin (V.seen versions.old).history pin.old }
+    ensures turned { IfOk result
+        (IsTurned (V.seen versions.old) (V.seen versions.new) pin.old.number pin.new.number (RouteAsked EditRoute batch.now) close) }
+    ensures pin { IsPin (V.seen versions.new).history pin.new }
+    ensures kept { OnErr result (pin.new ≡ pin.old) }
+    ensures continues { Continues (V.seen versions.old) (V.seen versions.new) }
+    ensures published { CountsPublished (V.seen versions.old) (V.seen versions.new) result }
+    ensures told { CountsTold (V.seen versions.old) (V.seen versions.new) result }
+{
+    match rebuild(rt, alloc, &pin.held, batch) {
+        Ok(next) => commit(rt, alloc, versions, press, pin, next, close),
+        Err(RebuildFail::Edit(fault)) => refuse_batch(alloc, pin, &fault, close),
+        Err(RebuildFail::Map(fault)) => refuse_map(alloc, pin, &fault, close),
+        Err(RebuildFail::Memory) => Err(Memory),
+    }
+}
