@@ -129,6 +129,6 @@ served_more before middle now talks talk (inl (t, newest)) untaken unput read_fa
 served_more before middle now talks talk (inr u) untaken unput read_fault write_fault s =
     let kept = u.published in
     let none : IsUnserved talk [] =
-        record { how = u.how; untaken = u.unread; unput = u.unwritten; numbers = u.numbers; rows = u.rows; none = refl } in
+    record { how = u.how; untaken = u.unread; unput = u.unwritten; numbers = u.numbers; rows = u.rows; none = refl } in
     served_turns before middle now talks talk [] s u.continues (inr none) (omega (arith, kept))
     (λ n. let up = u.continues.tellings n in grind (arith, up))
