@@ -1,5 +1,5 @@
 -- When a step was made in the forest, the list is one behind: of its edges those that have not ended are as many of the forest.
-use Rattle.std.proofs.Common.{◌≡◌, inl, inr, ℕ, ◌-◌, ◌<◌, ◌≤◌, Bool, true, false, cond, List, [], ◌∷◌, map, filter, length, get_or, IsPermutation, refl, sym, ap, ap₂, ◌∙◌, subst, arith}
+use Rattle.std.proofs.Common.{◌≡◌, ℕ, ◌-◌, ◌<◌, ◌≤◌, Bool, true, List, map, filter, length, get_or, IsPermutation, sym, ap, ap₂, ◌∙◌, subst, arith}
 use Rattle.std.specs.List.{range_with_len}
 use Rattle.std.proofs.lemmas.List.Sorted.{IsPermutation-sym, IsPermutation-map}
 use Rattle.lemmas.proofs.Members.{filter_agree_on}
@@ -8,8 +8,8 @@ use Rattle.tgap_model.specs.declared.slice.Edge.{Edge}
 use Rattle.tgap_model.specs.declared.slice.Removal.{Removal}
 use Rattle.tgap_model.specs.Base.{BaseMap}
 use Rattle.tgap_model.specs.Merged.{MergedMap, merged}
-use Rattle.tgap_model.specs.Chains.{Chain}
-use Rattle.tgap_model.specs.Removals.{edge_of}
+use Rattle.tgap_model.specs.Chains.{Chain, chains_at}
+use Rattle.tgap_model.specs.Removals.{edge_of, edges_of}
 use Rattle.map_laws.proofs.ChainMembers.{Among}
 use Rattle.map_laws.proofs.Lists.{all_members, kept_among, map_among, among_range}
 use Rattle.edge_forest.specs.declared.edge.ForestEdge.{ForestEdge}
@@ -17,32 +17,8 @@ use Rattle.edge_forest.specs.Edges.{edge_at, chain_of, is_alive, alive_edges}
 use Rattle.edge_forest.specs.Forest.{EdgeForest, IsForest}
 use Rattle.edge_forest.specs.Continued.{AreContinued}
 use Rattle.tgap_build.specs.Running.{AreRunning, AreBehind, number_of, is_present}
+use Rattle.tgap_build.proofs.Filters.{map_agree, filter_map, filter_stronger}
 use Rattle.tgap_build.proofs.Alive.{alive_earlier, alive_moved, alive_known, alive_key, edges_alive}
-
--- a filter of a map
-filter_map : {A B : Type 0} (p : B → Bool) (f : A → B) (xs : List A) → filter p (map f xs) ≡ map f (filter (λ x. p (f x)) xs)
-filter_map p f [] = refl
-filter_map p f (x ∷ xs) = by (p (f x)) (filter_map p f xs)
-  where
-    by : (b : Bool) → filter p (map f xs) ≡ map f (filter (λ x. p (f x)) xs)
-        → cond b (f x ∷ filter p (map f xs)) (filter p (map f xs)) ≡ map f (cond b (x ∷ filter (λ x. p (f x)) xs) (filter (λ x. p (f x)) xs))
-    by true e = ap (λ ys. f x ∷ ys) e
-    by false e = e
-
--- a filter of a filter that it is stronger than
-filter_stronger : {A : Type 0} (p q : A → Bool) (xs : List A) → ((x : A) → Among x xs → p x ≡ true → q x ≡ true) → filter p (filter q xs) ≡ filter p xs
-filter_stronger p q [] h = refl
-filter_stronger p q (x ∷ xs) h = by (q x) (p x) refl refl (filter_stronger p q xs (λ y m. h y (inr m)))
-  where
-    by : (b c : Bool) → q x ≡ b → p x ≡ c → filter p (filter q xs) ≡ filter p xs → filter p (cond b (x ∷ filter q xs) (filter q xs)) ≡ cond c (x ∷ filter p xs) (filter p xs)
-    by true true u v e = ap (λ (d : Bool). cond d (x ∷ filter p (filter q xs)) (filter p (filter q xs))) v ∙ ap (λ ys. x ∷ ys) e
-    by true false u v e = ap (λ (d : Bool). cond d (x ∷ filter p (filter q xs)) (filter p (filter q xs))) v ∙ e
-    by false true u v e = absurd (let t = h x (inl refl) v in cc)
-    by false false u v e = e
-
-map_agree : {A B : Type 0} (f g : A → B) (xs : List A) → ((x : A) → Among x xs → f x ≡ g x) → map f xs ≡ map g xs
-map_agree f g [] h = refl
-map_agree f g (x ∷ xs) h = ap₂ (λ y ys. y ∷ ys) (h x (inl refl)) (map_agree f g xs (λ y m. h y (inr m)))
 
 module _ (f g : EdgeForest) (wf : IsForest f) (wg : IsForest g) (k : ℕ) (some : 0 < k) (made_f : f.made ≡ k - 1) (same : g.base ≡ f.base)
     (continued : AreContinued f.edges g.edges) (removals : List Removal) (edges : List Edge) (numbers : List ℕ)
@@ -100,6 +76,7 @@ module _ (f g : EdgeForest) (wf : IsForest f) (wg : IsForest g) (k : ℕ) (some 
 
   pub are_behind : AreBehind g k (length f.edges) removals edges numbers
   are_behind = record {
+    edges = running.edges ∙ ap (λ (m : BaseMap). edges_of (merged m) (k - 1) removals (chains_at (merged m) (k - 1))) (sym same);
     room = running.room ∙ ap (λ (m : BaseMap). length m.arcs) (sym same);
     within = all_members (λ (e : Edge). (e.key < length g.base.arcs) × (number_of numbers e < length g.edges)) edges each_key;
     still = subst (λ (es : List Edge). IsPermutation es (map (λ i. edge_of (merged g.base) (k - 1) removals (chain_of g.edges i)) (filter alive_now all))) (sym still_listed)

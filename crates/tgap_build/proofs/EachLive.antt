@@ -84,7 +84,7 @@ module _ (m : BaseMap) (base : is_base m ≡ true) (planar : IsPartition (base_s
 
   -- ---- in order of key
 
-  ascending : (removals : List Removal) → AllPairs (λ (e f : Edge). e.key < f.key) (edges_of (merged m) k removals (chains_at (merged m) k))
+  pub ascending : (removals : List Removal) → AllPairs (λ (e f : Edge). e.key < f.key) (edges_of (merged m) k removals (chains_at (merged m) k))
   ascending removals =
       pairs_mapped (λ (e f : Edge). e.key < f.key) (edge_of (merged m) k removals) chains
       (λ i j d l s. ltb-true (key (get_or chains i d)) (key (get_or chains j d))

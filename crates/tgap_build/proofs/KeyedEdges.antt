@@ -1,7 +1,8 @@
 -- Edges in ascending order of key, some of which go while others come.
-use Rattle.std.proofs.Common.{◌≡◌, ◌≢◌, inl, inr, ℕ, ◌<◌, ◌==◌, Bool, true, false, not, nat_lt, List, [], ◌∷◌, ◌++◌, map, filter, get_or, All, AllPairs, Contains, IsPermutation, refl, sym, ap, ◌∙◌, subst, true≢false, eq-eqb, arith}
+use Rattle.std.proofs.Common.{◌≡◌, ◌≢◌, inl, inr, ℕ, ◌<◌, ◌≤◌, ◌==◌, Bool, true, false, not, nat_lt, List, [], ◌∷◌, ◌++◌, map, filter, get_or, All, AllPairs, Contains, IsPermutation, refl, sym, ap, ap₂, ◌∙◌, subst, true≢false, eq-eqb, arith}
 use Rattle.std.specs.Prelude.{⊤}
 use Rattle.std.specs.List.{list_any}
+use Rattle.std.specs.List.Sorted.{IsNonDecreasingBy}
 use Rattle.std.proofs.lemmas.Bool.{lt-ltb, eqb-true, false_from_ne_true}
 use Rattle.std.proofs.lemmas.List.Elements.{All-map}
 use Rattle.std.proofs.lemmas.List.Kept.{AllPairs-cons, AllPairs-filter}
@@ -15,6 +16,7 @@ use Rattle.map_laws.proofs.ChainMembers.{Among, any_among, filter_among, among_r
 use Rattle.map_laws.proofs.Lists.{all_members, members_all, any_from, kept_among, among_kept, map_among, among_map}
 use Rattle.removal_laws.proofs.ChainEnds.{contained, among_contained}
 use Rattle.grid_index.specs.Live.{keys, without_keys, AreLive, IsLiveEdge}
+use Rattle.tgap_build.specs.Running.{IsReplacement}
 
 -- ---- pairs
 
@@ -56,6 +58,24 @@ sorted edges a = sorted_from_pairs (λ (e f : Edge). nat_lt e.key f.key) edges (
 pub ascending_same : (xs ys : List Edge) → Ascend xs → Ascend ys → IsPermutation xs ys → xs ≡ ys
 ascending_same xs ys a b moved = sorted_permutation key_order xs ys (λ k d l. tt) (sorted xs a) (sorted ys b) moved
 
+-- edges that were put in order of key are those of another list in that order, if they are the same
+pub put_in_order : (kept sorted whole : List Edge) → IsPermutation kept sorted → IsNonDecreasingBy (λ (e : Edge). e.key) sorted → IsPermutation kept whole → Ascend whole
+    → sorted ≡ whole
+put_in_order kept sorted whole moved order same ascend = ascending_same sorted whole strictly ascend again
+  where
+    again : IsPermutation sorted whole
+    again = IsPermutation-trans sorted kept whole (IsPermutation-sym kept sorted moved) same
+
+    apart : AllPairs (λ (e f : Edge). e.key ≢ f.key) sorted
+    apart = AllPairs-permutation (λ (e f : Edge). e.key ≢ f.key) (λ e f ne eq. ne (sym eq)) whole sorted (IsPermutation-sym sorted whole again)
+        (λ i j d l s e. absurd (omega (arith, ascend i j d l s, e)))
+
+    strictly : Ascend sorted
+    strictly i j d l s =
+        let le : (get_or sorted i d).key ≤ (get_or sorted j d).key = order i j d (omega (arith, l)) s in
+        let ne : (get_or sorted i d).key ≢ (get_or sorted j d).key = apart i j d l s in
+        omega arith
+
 -- one key, one edge
 pub same_key : (edges : List Edge) → Ascend edges → (e f : Edge) → Among e edges → Among f edges → e.key ≡ f.key → e ≡ f
 same_key edges a e f m n k = elim (related_members (λ (x y : Edge). x.key < y.key) edges a e f (contained edges e m) (contained edges f n)) [
@@ -79,17 +99,17 @@ module _ (edges : List Edge) (a : Ascend edges) (p : Edge → Bool) where
           let same = same_key edges a f.0 e (kept_among p edges f.0 f.1) m (f.2 ∙ eqb-true k.0 e.key k.2) in
           true≢false (sym (filter_among p edges f.0 f.1) ∙ ap p same ∙ t))
 
-  pub left_is : without_keys (keys (filter p edges)) edges ≡ filter (λ e. not (p e)) edges
+  left_is : without_keys (keys (filter p edges)) edges ≡ filter (λ e. not (p e)) edges
   left_is =
       filter_agree_on (λ (e : Edge). not (list_any (λ k. k == e.key) (keys (filter p edges)))) (λ (e : Edge). not (p e)) edges
       (all_members (λ (e : Edge). not (list_any (λ k. k == e.key) (keys (filter p edges))) ≡ not (p e)) edges (λ e m. ap not (listed e m)))
 
-  pub gone_there : All (Contains (keys edges)) (keys (filter p edges))
+  gone_there : All (Contains (keys edges)) (keys (filter p edges))
   gone_there = all_members (Contains (keys edges)) (keys (filter p edges)) (λ k m.
       let e = map_among (λ (f : Edge). f.key) (filter p edges) k m in
       subst (Contains (keys edges)) e.2 (contained (keys edges) e.0.key (among_map (λ (f : Edge). f.key) edges e.0 (kept_among p edges e.0 e.1))))
 
-  pub gone_apart : AllPairs (λ k l. k ≢ l) (keys (filter p edges))
+  gone_apart : AllPairs (λ k l. k ≢ l) (keys (filter p edges))
   gone_apart =
       pairs_mapped (λ (k l : ℕ). k ≢ l) (λ (e : Edge). e.key) (filter p edges)
       (λ i j d l s e. absurd (omega (arith, AllPairs-filter (λ (e f : Edge). e.key < f.key) p edges a i j d l s, e)))
@@ -105,20 +125,29 @@ module _ (edges : List Edge) (a : Ascend edges) (p : Edge → Bool) where
         AllPairs-permutation (λ (e f : Edge). e.key ≢ f.key) (λ e f ne eq. ne (sym eq)) all (kept ++ come) (IsPermutation-sym (kept ++ come) all moved)
         (λ i j d l s e. absurd (omega (arith, live.ascending i j d l s, e)))
 
-    pub come_fresh : All (λ e. ¬ (Contains (keys (without_keys (keys (filter p edges)) edges)) e.key)) come
+    come_fresh : All (λ e. ¬ (Contains (keys (without_keys (keys (filter p edges)) edges)) e.key)) come
     come_fresh = all_members (λ (e : Edge). ¬ (Contains (keys (without_keys (keys (filter p edges)) edges)) e.key)) come (λ e m c.
         let f = Contains-from_map (λ (f : Edge). f.key) kept e.key (subst (λ (es : List Edge). Contains (keys es) e.key) left_is c) in
         pairs_across (λ (e f : Edge). e.key ≢ f.key) kept come differ f.0 e (among_contained kept f.0 f.1) m f.2)
 
-    pub come_distinct : AllPairs (λ e f. e.key ≢ f.key) come
+    come_distinct : AllPairs (λ e f. e.key ≢ f.key) come
     come_distinct = pairs_behind (λ (e f : Edge). e.key ≢ f.key) kept come differ
 
-    pub come_live : All IsLiveEdge come
+    come_live : All IsLiveEdge come
     come_live = all_members IsLiveEdge come (λ e m.
         members_all IsLiveEdge (kept ++ come) e (All-permutation IsLiveEdge all (kept ++ come) (IsPermutation-sym (kept ++ come) all moved) live.each) (among_right kept come e m))
 
+    pub may_replace : (gone : List ℕ) (new : List Edge) → gone ≡ keys (filter p edges) → new ≡ come → IsReplacement edges gone new
+    may_replace gone new gone_is new_is =
+        subst (λ (ks : List ℕ). IsReplacement edges ks new) (sym gone_is)
+        (subst (IsReplacement edges (keys (filter p edges))) (sym new_is)
+        (record { there = gone_there; apart = gone_apart; fresh = come_fresh; distinct = come_distinct; live = come_live }))
+
     -- then all are there
-    pub replaced : (after : List Edge) → AreLive after → IsPermutation (without_keys (keys (filter p edges)) edges ++ come) after → after ≡ all
-    replaced after alive h =
+    pub replaced : (gone : List ℕ) (new : List Edge) → gone ≡ keys (filter p edges) → new ≡ come
+        → (after : List Edge) → AreLive after → IsPermutation (without_keys gone edges ++ new) after → after ≡ all
+    replaced gone new gone_is new_is after alive h =
+        let same : without_keys gone edges ++ new ≡ kept ++ come
+        = ap₂ (λ (ks : List ℕ) (es : List Edge). without_keys ks edges ++ es) gone_is new_is ∙ ap (λ (es : List Edge). es ++ come) left_is in
         ascending_same after all alive.ascending live.ascending
-        (IsPermutation-trans after (kept ++ come) all (IsPermutation-sym (kept ++ come) after (subst (λ (es : List Edge). IsPermutation (es ++ come) after) left_is h)) moved)
+        (IsPermutation-trans after (kept ++ come) all (IsPermutation-sym (kept ++ come) after (subst (λ (es : List Edge). IsPermutation es after) same h)) moved)

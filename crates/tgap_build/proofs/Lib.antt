@@ -7,7 +7,9 @@ pub mod KeyedEdges
 pub mod EachLive
 pub mod Alive
 pub mod Numbers
+pub mod Filters
 pub mod Behind
+pub mod Untouched
 pub mod StepEdges
 pub mod Taken
 pub mod Run

@@ -1,8 +1,8 @@
 -- Of the edges that lose vertices the others stay as they are.
-use Rattle.std.proofs.Common.{◌≡◌, inl, inr, ℕ, Bool, true, false, cond, not, List, [], ◌∷◌, ◌++◌, map, filter, All, IsPermutation, refl, ap, ap₂, ◌∙◌, subst}
+use Rattle.std.proofs.Common.{◌≡◌, inl, inr, ℕ, ◌<◌, Bool, true, false, cond, not, List, [], ◌∷◌, ◌++◌, map, filter, All, AllPairs, IsPermutation, refl, ap, ap₂, ◌∙◌, subst, arith}
 use Rattle.std.specs.List.{list_any}
 use Rattle.std.proofs.lemmas.Bool.{and_cases, or_parts}
-use Rattle.std.proofs.lemmas.List.{map-append}
+use Rattle.std.proofs.lemmas.List.{map-append, get_or-map, length-map}
 use Rattle.std.proofs.lemmas.List.Sorted.{IsPermutation-sym, IsPermutation-map, IsPermutation-filter_both}
 use Rattle.lemmas.proofs.Members.{filter_agree_on}
 use Rattle.tgap_model.specs.declared.geometry.Point.{Point}
@@ -12,7 +12,7 @@ use Rattle.tgap_model.specs.Removals.{without, has_side, is_removed}
 use Rattle.removal_laws.specs.StandLaws.{edges_less}
 use Rattle.map_laws.proofs.ChainMembers.{Among}
 use Rattle.map_laws.proofs.Lists.{all_members, members_all}
-use Rattle.tgap_build.specs.Running.{has_point, less, loses}
+use Rattle.tgap_build.specs.Running.{has_point, has_any, less, loses}
 
 -- where none of the points is in the set, all are left
 none_there : (p : Point → Bool) (points : List Point) → list_any p points ≡ false → filter (λ q. not (p q)) points ≡ points
@@ -20,6 +20,15 @@ none_there p [] h = refl
 none_there p (x ∷ points) h =
     let both = or_parts (p x) (list_any p points) h in
     ap (λ (b : Bool). cond (not b) (x ∷ filter (λ q. not (p q)) points) (filter (λ q. not (p q)) points)) both.0 ∙ ap (λ (qs : List Point). x ∷ qs) (none_there p points both.1)
+
+-- edges are in order of key where they are less some points
+pub ascend_less : (removals : List Removal) (edges : List Edge) → AllPairs (λ (e f : Edge). e.key < f.key) (edges_less removals edges)
+    → AllPairs (λ (e f : Edge). e.key < f.key) edges
+ascend_less removals edges a i j d l short =
+    let less_one : Edge → Edge = λ (e : Edge). record e { points = without removals e.points } in
+    let first = get_or-map less_one edges i d (less_one d) (omega (arith, l, short)) in
+    let second = get_or-map less_one edges j d (less_one d) short in
+    omega (arith, a i j (less_one d) l (omega (arith, short, length-map edges less_one)), ap (λ (e : Edge). e.key) first, ap (λ (e : Edge). e.key) second)
 
 module _ (gone : List Point) (removals : List Removal) (same : (p : Point) → has_point gone p ≡ is_removed removals p) (made : ℕ) (edges : List Edge)
     (others : All (λ (e : Edge). has_side made e ≡ false → without removals e.points ≡ e.points) edges) where
@@ -35,9 +44,9 @@ module _ (gone : List Point) (removals : List Removal) (same : (p : Point) → h
 
   stays : (e : Edge) → Among e edges → loses gone made e ≡ false → less gone e ≡ e
   stays e m h = ap (λ (points : List Point). record { key = e.key; left = e.left; right = e.right; points = points })
-      (elim (and_cases (has_side made e) (list_any (has_point gone) e.points) h) [
-        | inl off ↦ less_points e.points ∙ members_all (λ (e : Edge). has_side made e ≡ false → without removals e.points ≡ e.points) edges e others m off
-        | inr none ↦ none_there (has_point gone) e.points none
+      (elim (and_cases (has_any gone e) (has_side made e) h) [
+        | inl none ↦ none_there (has_point gone) e.points none
+        | inr off ↦ less_points e.points ∙ members_all (λ (e : Edge). has_side made e ≡ false → without removals e.points ≡ e.points) edges e others m off
       ])
 
   all_stay : (es : List Edge) → ((e : Edge) → Among e es → Among e edges) → map (less gone) (filter (λ e. not (loses gone made e)) es) ≡ filter (λ e. not (loses gone made e)) es

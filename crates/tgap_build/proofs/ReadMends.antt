@@ -28,9 +28,10 @@ use Rattle.tgap_build.specs.declared.holders.Holder.{Holder}
 use Rattle.tgap_build.specs.Built.{AreGone}
 use Rattle.tgap_build.specs.Holders.{AreHolders}
 use Rattle.tgap_build.specs.Pieces.{arc_part, read_part, cut_parts}
-use Rattle.tgap_build.specs.Mends.{read_pieces, read_mends, IsCountable}
+use Rattle.tgap_build.specs.Mends.{read_pieces, read_mend, needed_mends, read_mends, IsCountable}
 use Rattle.tgap_build.specs.Running.{AreRunning, number_of}
 use Rattle.tgap_build.proofs.Alive.{chain_alive, key_within}
+use Rattle.tgap_build.proofs.Filters.{map_agree}
 use Rattle.tgap_build.proofs.EachLive.{few_along, few, kept_length}
 use Rattle.tgap_build.proofs.HolderTables.{holders_before}
 use Rattle.tgap_build.proofs.PieceRuns.{pieces_are_cut}
@@ -79,11 +80,6 @@ module _ (f : EdgeForest) (k : ℕ) (removals : List Removal) (live : List Edge)
 
 -- ---- the mends of a step
 
--- maps that agree on the members
-map_agree : {A B : Type 0} (f g : A → B) (xs : List A) → ((x : A) → Among x xs → f x ≡ g x) → map f xs ≡ map g xs
-map_agree f g [] h = refl
-map_agree f g (x ∷ xs) h = ap₂ (λ y ys. y ∷ ys) (h x (inl refl)) (map_agree f g xs (λ y m. h y (inr m)))
-
 -- lists that are made of the members of a map
 flat_agree : {A B C : Type 0} (f : B → List C) (g : A → B) (h : A → List C) (xs : List A) → ((x : A) → Among x xs → f (g x) ≡ h x)
     → flat_map f (map g xs) ≡ flat_map h xs
@@ -131,9 +127,25 @@ module _ (f : EdgeForest) (k : ℕ) (some : 1 ≤ k) (made : k ≤ f.made) (live
       ap (λ (s : MergeStep). read_mends f numbers table s (k - 1) now e) is
       ∙ ap (λ (ps : List Piece). listed (step_number (merged f.base) k) (mend ps)) (pieces_read (e.left == (step_number (merged f.base) k).made) c m)
 
+  -- of the edges that border the new face, those that need one
+  needed_read : (s : MergeStep) (now : List Removal) (es : List Edge)
+      → flat_map (needed_mends f numbers table s (k - 1) now) (filter (has_side s.made) es) ≡ flat_map (read_mends f numbers table s (k - 1) now) es
+  needed_read s now [] = refl
+  needed_read s now (e ∷ es) = by (has_side s.made e) (needed_read s now es)
+    where
+      mend : Mend
+      mend = read_mend f numbers table s.made (k - 1) now e
+
+      by : (b : Bool) → flat_map (needed_mends f numbers table s (k - 1) now) (filter (has_side s.made) es) ≡ flat_map (read_mends f numbers table s (k - 1) now) es
+          → flat_map (needed_mends f numbers table s (k - 1) now) (cond b (e ∷ filter (has_side s.made) es) (filter (has_side s.made) es))
+          ≡ cond (b && is_needed s.loser mend) (mend ∷ []) [] ++ flat_map (read_mends f numbers table s (k - 1) now) es
+      by true h = ap (λ (ms : List Mend). cond (is_needed s.loser mend) (mend ∷ []) [] ++ ms) h
+      by false h = h
+
   pub mends_read : (s : MergeStep) → s ≡ step_number (merged f.base) k → (now : List Removal) → now ≡ filter (λ (r : Removal). r.step == k) (removals_to (merged f.base) k)
-      → flat_map (read_mends f numbers table s (k - 1) now) live ≡ (step_record (merged f.base) k).mends
+      → flat_map (needed_mends f numbers table s (k - 1) now) (filter (has_side s.made) live) ≡ (step_record (merged f.base) k).mends
   mends_read s is now listed =
-      ap (flat_map (read_mends f numbers table s (k - 1) now)) running.edges
+      needed_read s now live
+      ∙ ap (flat_map (read_mends f numbers table s (k - 1) now)) running.edges
       ∙ flat_agree (read_mends f numbers table s (k - 1) now) (edge_of h k before) (mend_of h k finer before now) (chains_at (merged f.base) k) (mend_read s is now)
       ∙ ap (λ (rs : List Removal). flat_map (mend_of h k finer before rs) (chains_at (merged f.base) k)) listed

@@ -1,98 +1,31 @@
 -- The edges after a step: those that it leaves alone, those that get other faces, and the new ones.
-use Rattle.std.proofs.Common.{◌≡◌, ℕ, suc, ◌+◌, ◌-◌, ◌<◌, ◌≤◌, ◌==◌, Bool, true, false, cond, not, ◌&&◌, ◌||◌, List, [], ◌∷◌, ◌++◌, map, filter, length, append_assoc, IsPermutation, refl, sym, ap, ap₂, ◌∙◌, subst, arith}
+use Rattle.std.proofs.Common.{◌≡◌, ℕ, ◌+◌, ◌-◌, ◌<◌, ◌≤◌, Bool, true, false, not, List, [], ◌∷◌, ◌++◌, map, filter, length, AllPairs, IsPermutation, refl, sym, ap, ap₂, ◌∙◌, subst, arith}
 use Rattle.std.specs.List.{range_with_len}
-use Rattle.std.proofs.lemmas.Bool.{or_parts, or_from}
+use Rattle.std.specs.List.Sorted.{IsNonDecreasingBy}
 use Rattle.std.proofs.lemmas.List.{map-append}
 use Rattle.std.proofs.lemmas.List.Elements.{filter-append}
+use Rattle.std.proofs.lemmas.List.Kept.{AllPairs-filter}
 use Rattle.std.proofs.lemmas.List.Sorted.{IsPermutation-sym, IsPermutation-trans, IsPermutation-map, IsPermutation-append_left, IsPermutation-filter_both}
+use Rattle.lemmas.proofs.Members.{filter_agree_on}
+use Rattle.lemmas.proofs.Permutations.{IsPermutation-filter}
 use Rattle.tgap_model.specs.declared.merge.MergeStep.{MergeStep}
 use Rattle.tgap_model.specs.declared.slice.Edge.{Edge}
 use Rattle.tgap_model.specs.declared.slice.Removal.{Removal}
-use Rattle.tgap_model.specs.Base.{BaseMap}
-use Rattle.tgap_model.specs.History.{relabel, history_of}
-use Rattle.tgap_model.specs.Merged.{merged, step_number, label_at}
-use Rattle.tgap_model.specs.Chains.{Chain, arc_number, chain_points, key, chains_at}
-use Rattle.tgap_model.specs.Removals.{edge_of, edges_of, without, has_side}
-use Rattle.map_laws.proofs.MergeSteps.{label_next}
+use Rattle.tgap_model.specs.History.{history_of}
+use Rattle.tgap_model.specs.Merged.{merged, step_number}
+use Rattle.tgap_model.specs.Chains.{chains_at}
+use Rattle.tgap_model.specs.Removals.{edge_of, edges_of, has_side}
+use Rattle.map_laws.proofs.ChainMembers.{Among}
+use Rattle.map_laws.proofs.Lists.{all_members, kept_among}
 use Rattle.edge_forest.specs.Edges.{edge_at, chain_of, is_alive, alive_edges}
 use Rattle.edge_forest.specs.Forest.{EdgeForest, IsForest}
 use Rattle.edge_forest.proofs.AliveSame.{range_append}
-use Rattle.tgap_build.specs.Running.{AreBehind, is_present, born, is_touched, relabelled, is_changed, is_relabelled}
+use Rattle.tgap_build.specs.Running.{AreBehind, is_present, born, is_touched, relabelled}
 use Rattle.tgap_build.proofs.Alive.{alive_moved, edges_alive}
-use Rattle.tgap_build.proofs.Lost.{no_step}
-
--- ---- faces
-
--- an edge that borders neither face of a step keeps its faces
-same_label : (s : MergeStep) (l : ℕ) → (l == s.loser) ≡ false → (l == s.winner) ≡ false → relabel s l ≡ l
-same_label s l a b = ap (λ (t : Bool). cond t s.made l) (or_from (l == s.loser) (l == s.winner) a b)
-
-untouched : (s : MergeStep) (e : Edge) → is_touched s e ≡ false → relabelled s e ≡ e
-untouched s e h =
-    let both = or_parts (has_side s.loser e) (has_side s.winner e) h in
-    let loser = or_parts (e.left == s.loser) (e.right == s.loser) both.0 in
-    let winner = or_parts (e.left == s.winner) (e.right == s.winner) both.1 in
-    ap₂ (λ (l r : ℕ). record { key = e.key; left = l; right = r; points = e.points }) (same_label s e.left loser.0 winner.0) (same_label s e.right loser.1 winner.1)
-
--- the faces after the step are those before it with their new labels
-module _ (m : BaseMap) (k : ℕ) (some : 0 < k) (within : k ≤ length (history_of m)) (s : MergeStep) (is : s ≡ step_number (merged m) k) where
-  next_label : (f : ℕ) → label_at (merged m) k f ≡ relabel s (label_at (merged m) (k - 1) f)
-  next_label f =
-      let next : k ≡ suc (k - 1) = omega arith in
-      ap (λ (i : ℕ). label_at (merged m) i f) next
-      ∙ label_next (history_of m) (k - 1) no_step f (omega arith)
-      ∙ ap (λ (t : MergeStep). relabel t (label_at (merged m) (k - 1) f)) (sym is)
-
-  relabelled_is : (removals : List Removal) (c : Chain) → relabelled s (edge_of (merged m) (k - 1) removals c) ≡ edge_of (merged m) k removals c
-  relabelled_is removals c =
-      ap₂ (λ (l r : ℕ). record { key = key c; left = l; right = r; points = without removals (chain_points m.arcs c) })
-      (sym (next_label (arc_number m.arcs (key c)).left)) (sym (next_label (arc_number m.arcs (key c)).right))
-
--- ---- what stays of a list, by two tests
-
-module _ (f : Edge → Edge) (p q : Edge → Bool) (same : (e : Edge) → p e ≡ false → f e ≡ e) where
-  -- those that the first test leaves alone, of those that pass the second one
-  kept_is : (es : List Edge) → map f (filter (λ e. not (p e)) (filter q es)) ≡ filter (λ e. not (p e || not (q e))) es
-  kept_is [] = refl
-  kept_is (e ∷ es) = by (q e) (p e) refl (kept_is es)
-    where
-      rest : List Edge
-      rest = filter (λ e. not (p e)) (filter q es)
-
-      by : (b c : Bool) → p e ≡ c → map f (filter (λ e. not (p e)) (filter q es)) ≡ filter (λ e. not (p e || not (q e))) es
-          → map f (filter (λ e. not (p e)) (cond b (e ∷ filter q es) (filter q es)))
-          ≡ cond (not (c || not b)) (e ∷ filter (λ e. not (p e || not (q e))) es) (filter (λ e. not (p e || not (q e))) es)
-      by true true u h = ap (λ (d : Bool). map f (cond (not d) (e ∷ rest) rest)) u ∙ h
-      by true false u h = ap (λ (d : Bool). map f (cond (not d) (e ∷ rest) rest)) u ∙ ap₂ (λ (x : Edge) (xs : List Edge). x ∷ xs) (same e u) h
-      by false true u h = h
-      by false false u h = h
-
-  passing_both : (es : List Edge) → filter p (filter q es) ≡ filter (λ e. p e && q e) es
-  passing_both [] = refl
-  passing_both (e ∷ es) = by (q e) (p e) refl (passing_both es)
-    where
-      by : (b c : Bool) → p e ≡ c → filter p (filter q es) ≡ filter (λ e. p e && q e) es
-          → filter p (cond b (e ∷ filter q es) (filter q es)) ≡ cond (c && b) (e ∷ filter (λ e. p e && q e) es) (filter (λ e. p e && q e) es)
-      by true true u h = ap (λ (d : Bool). cond d (e ∷ filter p (filter q es)) (filter p (filter q es))) u ∙ ap (λ (xs : List Edge). e ∷ xs) h
-      by true false u h = ap (λ (d : Bool). cond d (e ∷ filter p (filter q es)) (filter p (filter q es))) u ∙ h
-      by false true u h = h
-      by false false u h = h
-
-  twice_not : (b : Bool) → b ≡ not (not b)
-  twice_not true = refl
-  twice_not false = refl
-
-  -- those that are left alone and those that are changed are all that pass, changed
-  pub changed_moved : (es : List Edge) → IsPermutation (filter (λ e. not (p e || not (q e))) es ++ map f (filter (λ e. p e && q e) es)) (map f (filter q es))
-  changed_moved es =
-      subst (λ (xs : List Edge). IsPermutation xs (map f (filter q es)))
-      (map-append f (filter (λ e. not (p e)) (filter q es)) (filter p (filter q es))
-      ∙ ap₂ (λ (xs ys : List Edge). xs ++ ys) (kept_is es) (ap (map f) (passing_both es)))
-      (IsPermutation-sym (map f (filter q es)) (map f (filter (λ e. not (p e)) (filter q es) ++ filter p (filter q es)))
-      (IsPermutation-map f (filter q es) (filter (λ e. not (p e)) (filter q es) ++ filter p (filter q es))
-      (IsPermutation-filter_both (λ e. not (p e)) p (λ e. twice_not (p e)) (filter q es))))
-
--- ---- a step
+use Rattle.tgap_build.proofs.EachLive.{ascending}
+use Rattle.tgap_build.proofs.Filters.{filter_map, filter_stronger, filter_swap}
+use Rattle.tgap_build.proofs.KeyedEdges.{put_in_order}
+use Rattle.tgap_build.proofs.Untouched.{relabelled_is, side_of, untouched_moved}
 
 module _ (f : EdgeForest) (w : IsForest f) (k : ℕ) (some : 0 < k) (made : f.made ≡ k) (s : MergeStep) (is : s ≡ step_number (merged f.base) k)
     (old : ℕ) (inside : old ≤ length f.edges) (removals : List Removal) (edges : List Edge) (numbers : List ℕ)
@@ -106,6 +39,14 @@ module _ (f : EdgeForest) (w : IsForest f) (k : ℕ) (some : 0 < k) (made : f.ma
   up_to : k ≤ f.made
   up_to = omega (arith, made)
 
+  within : k ≤ length (history_of f.base)
+  within = omega (arith, made, w.steps)
+
+  one : 1 ≤ k
+  one = omega (arith, some)
+
+  -- ---- all edges after the step, by number
+
   abbrev earlier : List ℕ
   earlier = filter (λ i. is_alive k (edge_at f.edges i)) (range_with_len 0 old)
 
@@ -113,7 +54,9 @@ module _ (f : EdgeForest) (w : IsForest f) (k : ℕ) (some : 0 < k) (made : f.ma
       ≡ map (λ i. edge_of (merged f.base) k removals (chain_of f.edges i)) ids
   faces_after [] = refl
   faces_after (i ∷ ids) =
-      ap₂ (λ (x : Edge) (xs : List Edge). x ∷ xs) (relabelled_is f.base k some (omega (arith, made, w.steps)) s is removals (chain_of f.edges i)) (faces_after ids)
+      ap₂ (λ (x : Edge) (xs : List Edge). x ∷ xs)
+      (ap (λ (t : MergeStep). relabelled t (edge_of (merged f.base) (k - 1) removals (chain_of f.edges i))) is
+      ∙ relabelled_is f.base w.base w.partition k one within removals (chain_of f.edges i)) (faces_after ids)
 
   still : IsPermutation (map (relabelled s) (filter (is_present f numbers k) edges)) (map (λ i. edge_of (merged f.base) k removals (chain_of f.edges i)) earlier)
   still =
@@ -133,30 +76,94 @@ module _ (f : EdgeForest) (w : IsForest f) (k : ℕ) (some : 0 < k) (made : f.ma
       ∙ ap (filter alive) (sym (range_append 0 old (length f.edges - old)))
       ∙ ap (λ (n : ℕ). filter alive (range_with_len 0 n)) count
 
-  abbrev kept : List Edge
-  kept = filter (λ e. not (is_changed f numbers k s e)) edges
-
-  abbrev changed : List Edge
-  changed = map (relabelled s) (filter (is_relabelled f numbers k s) edges)
-
   abbrev new : List Edge
   new = edges_of (merged f.base) k removals (map (chain_of f.edges) (born f old k))
 
-  -- what stays and what comes are the edges after the step
-  pub step_moved : IsPermutation (filter (λ e. not (is_changed f numbers k s e)) edges
-      ++ (map (relabelled s) (filter (is_relabelled f numbers k s) edges) ++ edges_of (merged f.base) k removals (map (chain_of f.edges) (born f old k))))
-      (edges_of (merged f.base) k removals (chains_at (merged f.base) k))
-  step_moved =
-      let first : IsPermutation (kept ++ changed) (map edge_by earlier)
-      = IsPermutation-trans (kept ++ changed) (map (relabelled s) (filter (is_present f numbers k) edges)) (map edge_by earlier)
-      (changed_moved (relabelled s) (is_touched s) (is_present f numbers k) (untouched s) edges) still in
-      let joined : IsPermutation ((kept ++ changed) ++ new) (map edge_by earlier ++ new)
-      = IsPermutation-append_left new (kept ++ changed) (map edge_by earlier) first in
-      let appended : (kept ++ changed) ++ new ≡ kept ++ (changed ++ new) = append_assoc kept changed new in
+  abbrev after : List Edge
+  after = edges_of (merged f.base) k removals (chains_at (merged f.base) k)
+
+  -- those that are still there, with their new faces, and the new ones
+  all_moved : IsPermutation (map (relabelled s) (filter (is_present f numbers k) edges) ++ new) after
+  all_moved =
       let numbered : map edge_by earlier ++ new ≡ map edge_by (filter alive (range_with_len 0 (length f.edges)))
       = ap (λ (xs : List Edge). map edge_by earlier ++ xs) (born_is (born f old k)) ∙ sym (map-append edge_by earlier (born f old k)) ∙ ap (map edge_by) all_alive in
-      subst (λ (xs : List Edge). IsPermutation xs (edges_of (merged f.base) k removals (chains_at (merged f.base) k))) appended
-      (IsPermutation-trans ((kept ++ changed) ++ new) (map edge_by (filter alive (range_with_len 0 (length f.edges)))) (edges_of (merged f.base) k removals (chains_at (merged f.base) k))
-      (subst (IsPermutation ((kept ++ changed) ++ new)) numbered joined)
+      IsPermutation-trans (map (relabelled s) (filter (is_present f numbers k) edges) ++ new) (map edge_by (filter alive (range_with_len 0 (length f.edges)))) after
+      (subst (IsPermutation (map (relabelled s) (filter (is_present f numbers k) edges) ++ new)) numbered
+      (IsPermutation-append_left new (map (relabelled s) (filter (is_present f numbers k) edges)) (map edge_by earlier) still))
       (subst (IsPermutation (map edge_by (filter alive (range_with_len 0 (length f.edges))))) (edges_alive f w k up_to removals)
-      (IsPermutation-map edge_by (filter alive (range_with_len 0 (length f.edges))) (alive_edges f.edges k) (alive_moved f w k up_to))))
+      (IsPermutation-map edge_by (filter alive (range_with_len 0 (length f.edges))) (alive_edges f.edges k) (alive_moved f w k up_to)))
+
+  -- ---- those that border the new face
+
+  abbrev borders : Edge → Bool
+  borders e = has_side s.made e
+
+  -- of those that are still there the touched ones
+  side_is : (e : Edge) → Among e edges → borders (relabelled s e) ≡ is_touched s e
+  side_is e n =
+      subst (λ (t : MergeStep). has_side t.made (relabelled t e) ≡ is_touched t e) (sym is)
+      (side_of f.base w.base w.partition k one within removals e (subst (Among e) behind.edges n))
+
+  border_of : (es : List Edge) → ((e : Edge) → Among e es → Among e edges) → filter borders (map (relabelled s) es) ≡ map (relabelled s) (filter (is_touched s) es)
+  border_of es sub =
+      filter_map borders (relabelled s) es
+      ∙ ap (map (relabelled s)) (filter_agree_on (λ e. borders (relabelled s e)) (is_touched s) es
+      (all_members (λ (e : Edge). borders (relabelled s e) ≡ is_touched s e) es (λ e n. side_is e (sub e n))))
+
+  abbrev touched : List Edge
+  touched = filter (is_touched s) edges
+
+  border_same : filter borders (map (relabelled s) (filter (is_present f numbers k) touched)) ≡ filter borders (map (relabelled s) (filter (is_present f numbers k) edges))
+  border_same =
+      border_of (filter (is_present f numbers k) touched) (λ e n. kept_among (is_touched s) edges e (kept_among (is_present f numbers k) touched e n))
+      ∙ ap (map (relabelled s)) (
+      filter_swap (is_touched s) (is_present f numbers k) touched
+      ∙ ap (filter (is_present f numbers k)) (filter_stronger (is_touched s) (is_touched s) edges (λ e n t. t))
+      ∙ filter_swap (is_present f numbers k) (is_touched s) edges
+      )
+      ∙ sym (border_of (filter (is_present f numbers k) edges) (λ e n. kept_among (is_present f numbers k) edges e n))
+
+  -- the touched ones that are still there, with their new faces, and the new ones
+  border_moved : IsPermutation (filter (has_side s.made)
+      (map (relabelled s) (filter (is_present f numbers k) (filter (is_touched s) edges)) ++ edges_of (merged f.base) k removals (map (chain_of f.edges) (born f old k))))
+      (filter (has_side s.made) (edges_of (merged f.base) k removals (chains_at (merged f.base) k)))
+  border_moved =
+      subst (λ (es : List Edge). IsPermutation es (filter borders after))
+      (filter-append borders (map (relabelled s) (filter (is_present f numbers k) edges)) new
+      ∙ ap (λ (es : List Edge). es ++ filter borders new) (sym border_same)
+      ∙ sym (filter-append borders (map (relabelled s) (filter (is_present f numbers k) touched)) new))
+      (IsPermutation-filter borders (map (relabelled s) (filter (is_present f numbers k) edges) ++ new) after all_moved)
+
+  -- in order of key they are those of the edges after the step that border the new face
+  pub border_is : (come border : List Edge)
+      → come ≡ map (relabelled s) (filter (is_present f numbers k) (filter (is_touched s) edges)) ++ edges_of (merged f.base) k removals (map (chain_of f.edges) (born f old k))
+      → IsPermutation (filter (has_side s.made) come) border → IsNonDecreasingBy (λ (e : Edge). e.key) border
+      → border ≡ filter (has_side s.made) (edges_of (merged f.base) k removals (chains_at (merged f.base) k))
+  border_is come border come_is same order =
+      put_in_order (filter borders come) border (filter borders after) same order
+      (subst (λ (es : List Edge). IsPermutation (filter borders es) (filter borders after)) (sym come_is) border_moved)
+      (AllPairs-filter (λ (e f : Edge). e.key < f.key) borders after (ascending f.base w.base w.partition k removals))
+
+  -- ---- and the others
+
+  pub edges_ascend : AllPairs (λ (e f : Edge). e.key < f.key) edges
+  edges_ascend = subst (AllPairs (λ (e f : Edge). e.key < f.key)) (sym behind.edges) (ascending f.base w.base w.partition (k - 1) removals)
+
+  twice_not : (b : Bool) → b ≡ not (not b)
+  twice_not true = refl
+  twice_not false = refl
+
+  others : IsPermutation (filter (λ e. not (is_touched s e)) edges) (filter (λ e. not (borders e)) after)
+  others =
+      subst (λ (t : MergeStep). IsPermutation (filter (λ e. not (is_touched t e)) edges) (filter (λ e. not (has_side t.made e)) after)) (sym is)
+      (subst (λ (es : List Edge). IsPermutation (filter (λ e. not (is_touched (step_number (merged f.base) k) e)) es) (filter (λ e. not (has_side (step_number (merged f.base) k).made e)) after)) (sym behind.edges)
+      (untouched_moved f.base w.base w.partition k one within removals))
+
+  -- what is not touched and what borders the new face are the edges after the step
+  pub step_moved : IsPermutation (filter (λ e. not (is_touched s e)) edges ++ filter (has_side s.made) (edges_of (merged f.base) k removals (chains_at (merged f.base) k)))
+      (edges_of (merged f.base) k removals (chains_at (merged f.base) k))
+  step_moved =
+      IsPermutation-trans (filter (λ e. not (is_touched s e)) edges ++ filter borders after) (filter (λ e. not (borders e)) after ++ filter borders after) after
+      (IsPermutation-append_left (filter borders after) (filter (λ e. not (is_touched s e)) edges) (filter (λ e. not (borders e)) after) others)
+      (IsPermutation-sym after (filter (λ e. not (borders e)) after ++ filter borders after)
+      (IsPermutation-filter_both (λ e. not (borders e)) borders (λ e. twice_not (borders e)) after))

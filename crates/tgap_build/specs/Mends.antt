@@ -27,6 +27,10 @@ read_mend f numbers table made k now e = record {
   pieces = read_pieces f table (e.left == made) k (number_of numbers e);
 }
 
+-- where it needs one
+abbrev pub needed_mends : EdgeForest → List ℕ → List Holder → MergeStep → ℕ → List Removal → Edge → List Mend
+needed_mends f numbers table s k now e = if is_needed s.loser (read_mend f numbers table s.made k now e) then read_mend f numbers table s.made k now e ∷ [] else []
+
 -- where it borders the new face and needs one
 abbrev pub read_mends : EdgeForest → List ℕ → List Holder → MergeStep → ℕ → List Removal → Edge → List Mend
 read_mends f numbers table s k now e =

@@ -1,5 +1,5 @@
 -- The edges of the last step, which are kept while the history is run.
-use Rattle.std.specs.Prelude.{◌≡◌, ◌<◌, ℕ, ◌-◌, Bool, true, ◌&&◌, ◌||◌, not, List, map, filter, fold, length, get_or, set, All, IsPermutation}
+use Rattle.std.specs.Prelude.{◌≡◌, ◌≢◌, ◌<◌, ℕ, ◌-◌, Bool, true, ◌&&◌, ◌||◌, not, List, map, filter, fold, length, get_or, set, Contains, All, AllPairs, IsPermutation}
 use Rattle.std.specs.List.{range_with_len, list_any}
 use Rattle.tgap_model.specs.declared.geometry.Point.{Point}
 use Rattle.tgap_model.specs.declared.merge.MergeStep.{MergeStep}
@@ -10,6 +10,7 @@ use Rattle.tgap_model.specs.History.{relabel}
 use Rattle.tgap_model.specs.Merged.{merged}
 use Rattle.tgap_model.specs.Chains.{chains_at}
 use Rattle.tgap_model.specs.Removals.{edge_of, edges_of, has_side}
+use Rattle.grid_index.specs.Live.{keys, without_keys, IsLiveEdge}
 use Rattle.edge_forest.specs.declared.edge.ForestEdge.{ForestEdge}
 use Rattle.edge_forest.specs.Edges.{edge_at, chain_of, is_alive}
 use Rattle.edge_forest.specs.Forest.{EdgeForest, IsForest}
@@ -39,6 +40,7 @@ born f old k = filter (λ i. is_alive k (edge_at f.edges i)) (range_with_len old
 -- Step k is made in the forest, which had the first `old` edges before, and the list has the edges before that step: of those, in
 -- another order, that have not ended by it are the edges of the forest that were there before and have not ended.
 pub record AreBehind (f : EdgeForest) (k old : ℕ) (removals : List Removal) (live : List Edge) (table : List ℕ) : Type 0 where
+  pub edges : live ≡ edges_of (merged f.base) (k - 1) removals (chains_at (merged f.base) (k - 1))
   pub room : length table ≡ length f.base.arcs
   pub within : All (λ e. (e.key < length f.base.arcs) × (number_of table e < length f.edges)) live
   pub still : IsPermutation (filter (is_present f table k) live)
@@ -55,13 +57,13 @@ is_touched s e = has_side s.loser e || has_side s.winner e
 abbrev pub relabelled : MergeStep → Edge → Edge
 relabelled s e = record { key = e.key; left = relabel s e.left; right = relabel s e.right; points = e.points }
 
--- the edge ends with the step, or gets other faces
-abbrev pub is_changed : EdgeForest → List ℕ → ℕ → MergeStep → Edge → Bool
-is_changed f numbers k s e = is_touched s e || not (is_present f numbers k e)
-
--- it gets other faces
-abbrev pub is_relabelled : EdgeForest → List ℕ → ℕ → MergeStep → Edge → Bool
-is_relabelled f numbers k s e = is_touched s e && is_present f numbers k e
+-- Edges that may come in place of those with some keys: no two edges have one key then.
+pub record IsReplacement (edges : List Edge) (gone : List ℕ) (come : List Edge) : Type 0 where
+  pub there : All (Contains (keys edges)) gone
+  pub apart : AllPairs (λ k l. k ≢ l) gone
+  pub fresh : All (λ e. ¬ (Contains (keys (without_keys gone edges)) e.key)) come
+  pub distinct : AllPairs (λ e f. e.key ≢ f.key) come
+  pub live : All IsLiveEdge come
 
 -- numbers of edges, each noted at the key of its edge
 abbrev pub noted : List ForestEdge → List ℕ → List ℕ → List ℕ
@@ -77,6 +79,10 @@ has_point points p = list_any (λ q. same_point q p) points
 abbrev pub less : List Point → Edge → Edge
 less gone e = record { key = e.key; left = e.left; right = e.right; points = filter (λ p. not (has_point gone p)) e.points }
 
--- the edge borders the face and loses one of these points
+-- the edge has one of these points
+abbrev pub has_any : List Point → Edge → Bool
+has_any gone e = list_any (has_point gone) e.points
+
+-- it loses one of them, and borders the face
 abbrev pub loses : List Point → ℕ → Edge → Bool
-loses gone made e = has_side made e && list_any (has_point gone) e.points
+loses gone made e = has_any gone e && has_side made e

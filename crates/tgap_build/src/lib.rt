@@ -14,6 +14,7 @@ mod boxed;
 mod boxes;
 mod built;
 mod edges;
+mod face_edges;
 mod holders;
 mod live_edges;
 mod measures;

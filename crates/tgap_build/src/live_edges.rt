@@ -1,19 +1,20 @@
 //! The edges of the last step, which are kept while the history is run.
 
-ghost use Rattle.std.specs.Prelude.{◌≡◌, ◌≢◌, ◌<◌, ◌≤◌, ◌-◌, ◌++◌, ◌∷◌, [], false, map, filter, length, Contains, IsPermutation, All, AllPairs, IfOk, OnOk};
+ghost use Rattle.std.specs.Prelude.{◌≡◌, ◌<◌, ◌≤◌, ◌-◌, ◌++◌, false, map, filter, length, IsPermutation, All, IfOk, OnOk};
 ghost use Rattle.tgap_model.specs.History.{relabel, history_of};
 ghost use Rattle.tgap_model.specs.Merged.{merged, step_number};
 ghost use Rattle.tgap_model.specs.Removals.{has_side, without, removals_to};
 ghost use Rattle.removal_laws.specs.StandLaws.{edges_less};
-ghost use Rattle.grid_index.specs.Live.{keys, without_keys, AreLive, IsLiveEdge};
+ghost use Rattle.grid_index.specs.Live.{keys, without_keys, AreLive};
 ghost use Rattle.face_tree.specs.Tree.{face_history};
 ghost use Rattle.edge_forest.specs.Edges.{edge_at, chain_of, is_alive};
 ghost use Rattle.edge_forest.specs.Forest.{IsForest};
 ghost use Rattle.tgap_build.specs.Built.{HasRemoved};
 ghost use Rattle.tgap_build.specs.Holders.{AreHolders, all_held};
-ghost use Rattle.tgap_build.specs.Running.{AreRunning, AreBehind, born, number_of, is_touched, is_changed, is_relabelled, relabelled, noted, less, loses};
+ghost use Rattle.tgap_build.specs.Running.{AreRunning, AreBehind, born, number_of, is_present, is_touched, relabelled, IsReplacement, noted, less, has_any};
 
 use crate::edges::{edges_of, push_edges};
+use crate::face_edges::{FaceEdges, copied_edges};
 use crate::holders::{Holder, note_holders};
 use crate::point_set::PointSet;
 use edge_forest::Forest;
@@ -61,20 +62,6 @@ fn born(alloc: Global, forest: &Forest, first: u32, k: u32) -> Result<List<u32>,
     Ok(ids)
 }
 
-/// Whether the edge has the face at a side.
-pub fn has_side(face: u32, edge: &Edge) -> bool
-    ensures { result ≡ has_side face edge.now }
-{
-    edge.left == face || edge.right == face
-}
-
-/// Whether the edge borders a face that the step merges.
-fn is_touched(step: &MergeStep, edge: &Edge) -> bool
-    ensures { result ≡ is_touched step.now edge.now }
-{
-    has_side(step.loser, edge) || has_side(step.winner, edge)
-}
-
 /// The label that a label becomes by the step.
 fn label_after(step: &MergeStep, label: u32) -> u32
     ensures { result ≡ relabel step.now label }
@@ -87,64 +74,47 @@ fn label_after(step: &MergeStep, label: u32) -> u32
 }
 
 /// The edge with its faces after the step.
-fn relabelled(alloc: Global, step: &MergeStep, edge: &Edge) -> Result<Edge, Memory>
-    ensures { IfOk result (λ after. after ≡ relabelled step.now edge.now) }
+fn relabelled(step: &MergeStep, edge: Edge) -> Edge
+    ensures { result ≡ relabelled step.now edge }
 {
-    Ok(Edge {
+    Edge {
         key: edge.key,
         left: label_after(step, edge.left),
         right: label_after(step, edge.right),
-        points: List::from(edge.points.as_slice().to_vec(alloc)?),
-    })
+        points: edge.points,
+    }
 }
 
-/// Lists the edge as one that goes, if step k ends it or gives it other faces, and then as one that comes.
-fn change_edge(
+/// Those of these edges that step k does not end, with their faces after it.
+fn still_there(
     alloc: Global,
     forest: &Forest,
     numbers: &[u32],
     step: &MergeStep,
     k: u32,
-    edge: &Edge,
-    change: &mut Change,
-) -> Result<(), Memory>
-    requires key { edge.now.key < length numbers.now }
-    requires number { number_of numbers.now edge.now < length forest.now.edges }
-    ensures gone { OnOk result (change.new.gone ≡ change.old.gone ++ keys (filter (is_changed forest.now numbers.now k step.now) (edge.now ∷ []))) }
-    ensures come { OnOk result (change.new.come ≡ change.old.come ++ map (relabelled step.now) (filter (is_relabelled forest.now numbers.now k step.now) (edge.now ∷ []))) }
+    edges: List<Edge>,
+) -> Result<List<Edge>, Memory>
+    requires { All (λ e. (e.key < length numbers.now) × (number_of numbers.now e < length forest.now.edges)) edges }
+    ensures { IfOk result (λ after. after ≡ map (relabelled step.now) (filter (is_present forest.now numbers.now k) edges)) }
 {
-    let present = is_alive(forest, numbers[edge.key as usize], k);
-    let touched = is_touched(step, edge);
-    if touched || !present {
-        change.gone.push(edge.key)?;
+    let mut after = List::new(alloc);
+    for edge in edges.into_vec() {
+        if is_alive(forest, numbers[edge.key as usize], k) {
+            after.push(relabelled(step, edge))?;
+        }
     }
-    if touched && present {
-        change.come.push(relabelled(alloc, step, edge)?)?;
-    }
-    Ok(())
+    Ok(after)
 }
 
-/// Which of these edges step k ends or gives other faces.
-fn changes(
-    alloc: Global,
-    forest: &Forest,
-    numbers: &[u32],
-    step: &MergeStep,
-    k: u32,
-    edges: &[Edge],
-) -> Result<Change, Memory>
-    requires { All (λ e. (e.key < length numbers.now) × (number_of numbers.now e < length forest.now.edges)) edges.now }
-    ensures gone { IfOk result (λ change. change.gone ≡ keys (filter (is_changed forest.now numbers.now k step.now) edges.now)) }
-    ensures come { IfOk result (λ change. change.come ≡ map (relabelled step.now) (filter (is_relabelled forest.now numbers.now k step.now) edges.now)) }
+/// The keys of these edges.
+fn keys_of(alloc: Global, edges: &[Edge]) -> Result<List<u32>, Memory>
+    ensures { IfOk result (λ found. found ≡ keys edges.now) }
 {
-    let mut change = Change {
-        gone: List::new(alloc),
-        come: List::new(alloc),
-    };
+    let mut found = List::with_capacity(alloc, edges.len())?;
     for edge in edges {
-        change_edge(alloc, forest, numbers, step, k, edge, &mut change)?;
+        found.push(edge.key)?;
     }
-    Ok(change)
+    Ok(found)
 }
 
 /// Notes the numbers of these edges at their keys.
@@ -170,17 +140,17 @@ fn less(alloc: Global, gone: &PointSet, edge: &Edge) -> Result<Edge, Memory>
     })
 }
 
-/// Those of these edges that border the face and lose a point of the set.
-fn losses(alloc: Global, made: u32, gone: &PointSet, edges: &[Edge]) -> Result<Change, Memory>
-    ensures gone { IfOk result (λ change. change.gone ≡ keys (filter (loses gone.now made) edges.now)) }
-    ensures come { IfOk result (λ change. change.come ≡ map (less gone.now) (filter (loses gone.now made) edges.now)) }
+/// Those of these edges that lose a point of the set.
+fn losses(alloc: Global, gone: &PointSet, edges: &[Edge]) -> Result<Change, Memory>
+    ensures gone { IfOk result (λ change. change.gone ≡ keys (filter (has_any gone.now) edges.now)) }
+    ensures come { IfOk result (λ change. change.come ≡ map (less gone.now) (filter (has_any gone.now) edges.now)) }
 {
     let mut change = Change {
         gone: List::new(alloc),
         come: List::new(alloc),
     };
     for edge in edges {
-        if has_side(made, edge) && gone.holds_any(edge.points.as_slice()) {
+        if gone.holds_any(edge.points.as_slice()) {
             change.gone.push(edge.key)?;
             change.come.push(less(alloc, gone, edge)?)?;
         }
@@ -190,11 +160,7 @@ fn losses(alloc: Global, made: u32, gone: &PointSet, edges: &[Edge]) -> Result<C
 
 /// Takes edges out and puts others in. The look at the edges, which costs nothing, tells that they stand in order of key again.
 fn replace(alloc: Global, edges: &mut Live, change: Change) -> Result<(), Memory>
-    requires there { All (Contains (keys edges.old)) change.gone }
-    requires apart { AllPairs (λ k l. k ≢ l) change.gone }
-    requires fresh { All (λ e. ¬ (Contains (keys (without_keys change.gone edges.old)) e.key)) change.come }
-    requires distinct { AllPairs (λ e f. e.key ≢ f.key) change.come }
-    requires live { All IsLiveEdge change.come }
+    requires { IsReplacement edges.old change.gone change.come }
     ensures moved { OnOk result (IsPermutation (without_keys change.gone edges.old ++ change.come) edges.new) }
     ensures live { OnOk result (AreLive edges.new) }
 {
@@ -233,17 +199,20 @@ impl LiveEdges {
         })
     }
 
-    /// Brings the edges up to step number k, which the forest has made. It had the first `old` edges before. The time is that
-    /// of a look at each edge, and of the points of those that the step changes.
+    /// Brings the edges up to step number k, which the forest has made, and gives those that then border its new face. The forest
+    /// had the first `old` edges before, and `touched` are copies of those that border the step's loser or its winner: no other
+    /// edge changes. The time is that of the points of those that go or come, and of the change of the list, in which a key that
+    /// goes for good costs a pass.
     pub fn merge(
         &mut self,
         alloc: Global,
         tree: &FaceTree,
         forest: &Forest,
         step: &MergeStep,
+        touched: List<Edge>,
         old: u32,
         k: u32,
-    ) -> Result<(), Memory>
+    ) -> Result<FaceEdges, Memory>
         requires forest { IsForest forest.now }
         requires some { 0 < k }
         requires made { forest.now.made ≡ k }
@@ -252,33 +221,34 @@ impl LiveEdges {
         requires removed { HasRemoved forest.now (k - 1) }
         requires old { old ≤ length forest.now.edges }
         requires behind { AreBehind forest.now k old (removals_to (merged forest.now.base) (k - 1)) self.old.edges self.old.numbers.items }
+        requires touched { touched ≡ filter (is_touched step.now) self.old.edges }
         ensures running { OnOk result (AreRunning forest.now k (removals_to (merged forest.now.base) (k - 1)) self.new.edges self.new.numbers.items) }
         ensures holders { OnOk result (self.new.holders ≡ self.old.holders) }
+        ensures face { IfOk result (λ border. border.face ≡ step.now.made) }
+        ensures border { IfOk result (λ border. border.edges ≡ filter (has_side border.face) self.new.edges) }
     {
         let born = born(alloc, forest, old, k)?;
-        let mut change = changes(
-            alloc,
-            forest,
-            &self.numbers,
-            step,
-            k,
-            self.edges.edges().as_slice(),
-        )?;
-        push_edges(alloc, tree, forest, born.as_slice(), k, &mut change.come)?;
-        replace(alloc, &mut self.edges, change)?;
+        let gone = keys_of(alloc, touched.as_slice())?;
+        let mut come = still_there(alloc, forest, &self.numbers, step, k, touched)?;
+        push_edges(alloc, tree, forest, born.as_slice(), k, &mut come)?;
+        // They all border the new face. The forest does not tell so, and a look at their sides does.
+        let border = FaceEdges::among(step.made, come);
+        let come = copied_edges(alloc, border.edges.as_slice())?;
+        replace(alloc, &mut self.edges, Change { gone, come })?;
         note_numbers(forest, &mut self.numbers, born.as_slice());
-        Ok(())
+        Ok(border)
     }
 
-    /// Takes vertices out of the edges that border the face `made`, of which no other edge has one.
+    /// Takes vertices out of the edges that border a face, of which no other edge has one.
     pub fn remove(
         &mut self,
         alloc: Global,
-        made: u32,
+        border: &FaceEdges,
         removals: &List<Removal>,
     ) -> Result<(), Memory>
         requires live { AreLive (edges_less removals.now self.old.edges) }
-        requires others { All (λ e. has_side made e ≡ false → without removals.now e.points ≡ e.points) self.old.edges }
+        requires border { border.now.edges ≡ filter (has_side border.now.face) self.old.edges }
+        requires others { All (λ e. has_side border.now.face e ≡ false → without removals.now e.points ≡ e.points) self.old.edges }
         ensures edges { OnOk result (self.new.edges ≡ edges_less removals.now self.old.edges) }
         ensures numbers { self.new.numbers ≡ self.old.numbers }
         ensures holders { self.new.holders ≡ self.old.holders }
@@ -287,10 +257,11 @@ impl LiveEdges {
             return Ok(());
         }
         let gone = PointSet::of(alloc, removals.as_slice())?;
-        let change = losses(alloc, made, &gone, self.edges.edges().as_slice())?;
+        let change = losses(alloc, &gone, border.edges.as_slice())?;
         replace(alloc, &mut self.edges, change)?;
         Ok(())
     }
+
     /// Notes the edges that step number k brought, of which the first has the number `old`, at each of their arcs.
     pub fn hold(&mut self, alloc: Global, forest: &Forest, old: u32, k: u32) -> Result<(), Memory>
         requires old { old ≤ length forest.now.edges }

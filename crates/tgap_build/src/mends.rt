@@ -11,9 +11,10 @@ ghost use Rattle.tgap_model.specs.Removals.{is_removed};
 ghost use Rattle.tgap_model.specs.Records.{is_edge_between, is_needed, puts_from};
 ghost use Rattle.face_tree.specs.Tree.{face_history};
 ghost use Rattle.tgap_build.specs.Running.{has_point};
-ghost use Rattle.tgap_build.specs.Mends.{IsCountable, read_mend, read_mends};
+ghost use Rattle.tgap_build.specs.Mends.{IsCountable, read_mend, needed_mends};
 
-use crate::live_edges::{LiveEdges, has_side};
+use crate::face_edges::copied_edge;
+use crate::live_edges::LiveEdges;
 use crate::parts::edge_pieces;
 use crate::point_set::PointSet;
 use edge_forest::Forest;
@@ -87,14 +88,15 @@ fn is_needed(loser: u32, mend: &Mend) -> bool
     0 < mend.puts.len() || 1 < mend.pieces.len() || has_side_of(loser, mend.pieces.as_slice())
 }
 
-/// The mends of a step that followed on k steps: of the edges after it, which still have the points that it takes out, those of
-/// the set.
+/// The mends of a step that followed on k steps: of these edges, which border its new face and still have the points that it
+/// takes out, those of the set.
 pub fn mends_of(
     alloc: Global,
     tree: &FaceTree,
     forest: &Forest,
     live: &LiveEdges,
     step: &MergeStep,
+    border: &[Edge],
     gone: &PointSet,
     k: u32,
 ) -> Result<List<Mend>, Memory>
@@ -102,18 +104,15 @@ pub fn mends_of(
     requires history { tree.now ≡ face_history (merged forest.now.base) }
     requires room { length live.now.holders.items ≡ length forest.now.base.arcs }
     requires step { k ≤ length (history_of forest.now.base) }
-    requires edges { All (IsCountable forest.now live.now.numbers.items) live.now.edges }
+    requires edges { All (IsCountable forest.now live.now.numbers.items) border.now }
     ensures { (now : List Removal) → ((p : Place) → has_point gone.now p ≡ is_removed now p)
-        → IfOk result (λ mends. mends ≡ flat_map (read_mends forest.now live.now.numbers.items live.now.holders.items step.now k now) live.now.edges) }
+        → IfOk result (λ mends. mends ≡ flat_map (needed_mends forest.now live.now.numbers.items live.now.holders.items step.now k now) border.now) }
 {
     let mut mends = List::new(alloc);
-    let edges = live.edges.edges().as_slice();
-    for edge in edges {
-        if has_side(step.made, edge) {
-            let mend = mend_of(alloc, tree, forest, live, step.made, gone, k, edge)?;
-            if is_needed(step.loser, &mend) {
-                mends.push(mend)?;
-            }
+    for edge in border {
+        let mend = mend_of(alloc, tree, forest, live, step.made, gone, k, edge)?;
+        if is_needed(step.loser, &mend) {
+            mends.push(mend)?;
         }
     }
     Ok(mends)
@@ -126,18 +125,6 @@ fn is_between(f: u32, g: u32, edge: &Edge) -> bool
     (edge.left == f && edge.right == g) || (edge.left == g && edge.right == f)
 }
 
-/// A copy of an edge.
-fn copied(alloc: Global, edge: &Edge) -> Result<Edge, Memory>
-    ensures { IfOk result (λ copy. copy ≡ edge.now) }
-{
-    Ok(Edge {
-        key: edge.key,
-        left: edge.left,
-        right: edge.right,
-        points: List::from(edge.points.as_slice().to_vec(alloc)?),
-    })
-}
-
 /// Copies of those of these edges that lie between the loser and the winner of the step.
 pub fn ended_edges(alloc: Global, step: &MergeStep, edges: &[Edge]) -> Result<List<Edge>, Memory>
     ensures { IfOk result (λ ended. ended ≡ filter (is_edge_between step.now.loser step.now.winner) edges.now) }
@@ -145,7 +132,7 @@ pub fn ended_edges(alloc: Global, step: &MergeStep, edges: &[Edge]) -> Result<Li
     let mut ended = List::new(alloc);
     for edge in edges {
         if is_between(step.loser, step.winner, edge) {
-            ended.push(copied(alloc, edge)?)?;
+            ended.push(copied_edge(alloc, edge)?)?;
         }
     }
     Ok(ended)

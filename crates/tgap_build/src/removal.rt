@@ -1,8 +1,8 @@
 //! A step of the history, with what it removes, and its record.
 
-ghost use Rattle.std.specs.Prelude.{◌≡◌, ◌<◌, ◌≤◌, ◌-◌, false, IfOk, OnOk};
+ghost use Rattle.std.specs.Prelude.{◌≡◌, ◌<◌, ◌≤◌, ◌-◌, false, filter, IfOk, OnOk};
 ghost use Rattle.tgap_model.specs.Merged.{merged, step_number, face_area};
-ghost use Rattle.tgap_model.specs.Removals.{removals_to};
+ghost use Rattle.tgap_model.specs.Removals.{has_side, removals_to};
 ghost use Rattle.tgap_model.specs.Records.{step_record};
 ghost use Rattle.face_tree.specs.Tree.{face_history};
 ghost use Rattle.edge_forest.specs.Forest.{last_step};
@@ -10,6 +10,7 @@ ghost use Rattle.tgap_build.specs.Built.{HasRemoved};
 ghost use Rattle.tgap_build.specs.Holders.{AreHolders};
 ghost use Rattle.tgap_build.specs.Running.{AreRunning};
 
+use crate::face_edges::{FaceEdges, touched_edges};
 use crate::live_edges::LiveEdges;
 use crate::mends::{ended_edges, mends_of};
 use crate::point_set::PointSet;
@@ -20,14 +21,15 @@ use tgap_model::{List, Memory, Mend, MergeStep, StepRecord};
 use vertex_drop::sweep;
 
 /// Takes out of the forest and of the edges the vertices that the last step, number k, removes: those of the edges that border
-/// its new face. It gives the mends of the step. Twice the area of the step's loser is given, and the holders of the arcs are
-/// those before the step.
+/// its new face, which are given. It gives the mends of the step. Twice the area of the step's loser is given, and the holders of
+/// the arcs are those before the step.
 fn remove_vertices(
     alloc: Global,
     tree: &FaceTree,
     forest: &mut Forest,
     live: &mut LiveEdges,
     step: &MergeStep,
+    border: &FaceEdges,
     loser_area: i128,
     ratio: u32,
     k: u32,
@@ -42,6 +44,8 @@ fn remove_vertices(
     requires removed { HasRemoved forest.old (k - 1) }
     requires running { AreRunning forest.old k (removals_to (merged forest.old.base) (k - 1)) live.old.edges live.old.numbers.items }
     requires holders { AreHolders (merged forest.old.base) (k - 1) live.old.holders.items }
+    requires face { border.now.face ≡ step.now.made }
+    requires border { border.now.edges ≡ filter (has_side border.now.face) live.old.edges }
     ensures mends { IfOk result (λ mends. mends ≡ (step_record (merged forest.old.base) k).mends) }
     ensures base { OnOk result (forest.new.base ≡ forest.old.base) }
     ensures made { OnOk result (forest.new.made ≡ k) }
@@ -53,15 +57,17 @@ fn remove_vertices(
 {
     let removals = sweep(alloc, &live.edges, step.made, loser_area, ratio, k)?;
     let gone = PointSet::of(alloc, removals.as_slice())?;
-    let mends = mends_of(alloc, tree, forest, live, step, &gone, k - 1)?;
+    let bordering = border.edges.as_slice();
+    let mends = mends_of(alloc, tree, forest, live, step, bordering, &gone, k - 1)?;
     forest.remove(&removals);
-    live.remove(alloc, step.made, &removals)?;
+    live.remove(alloc, border, &removals)?;
     Ok(mends)
 }
 
 /// Makes step number k of the history in the forest, takes out what it removes, and gives its record. The edges are those
-/// before the step, and then those after it. Twice the area of the step's loser is given. The record takes the time of a look
-/// at each edge, and of a search among the points of the map for each point of the arcs of those that border the new face.
+/// before the step, and then those after it. Twice the area of the step's loser is given. The record takes the time of one look
+/// at the faces of each edge, and of a search among the points of the map for each point of the arcs of those that border the new
+/// face.
 pub fn make_step(
     alloc: Global,
     tree: &FaceTree,
@@ -89,12 +95,15 @@ pub fn make_step(
     ensures running { OnOk result (AreRunning forest.new k (removals_to (merged forest.old.base) k) live.new.edges live.new.numbers.items) }
     ensures holders { OnOk result (AreHolders (merged forest.old.base) k live.new.holders.items) }
 {
-    let ended = ended_edges(alloc, step, live.edges.edges().as_slice())?;
+    let touched = touched_edges(alloc, step, live.edges.edges().as_slice())?;
+    let ended = ended_edges(alloc, step, touched.as_slice())?;
     let old = forest.count();
     forest.merge(alloc, step)?;
     let ratio = forest.base().rules().ratio;
-    live.merge(alloc, tree, forest, step, old, k)?;
-    let mends = remove_vertices(alloc, tree, forest, live, step, loser_area, ratio, k)?;
+    let border = live.merge(alloc, tree, forest, step, touched, old, k)?;
+    let mends = remove_vertices(
+        alloc, tree, forest, live, step, &border, loser_area, ratio, k,
+    )?;
     live.hold(alloc, forest, old, k)?;
     Ok(StepRecord {
         step: k,

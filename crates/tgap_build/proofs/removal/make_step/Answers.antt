@@ -1,21 +1,33 @@
 -- When the step was made the list is one behind.
-use Rattle.std.proofs.Common.{ℕ, ◌-◌, ◌<◌, List, All, length, sym, ap, ◌∙◌, subst, arith}
+use Rattle.std.proofs.Common.{◌≡◌, ℕ, ◌-◌, ◌<◌, List, filter, All, length, refl, sym, ap, ◌∙◌, subst, arith}
 use Rattle.std.specs.Global.{Vec}
 use Rattle.tgap_model.specs.declared.merge.MergeStep.{MergeStep}
+use Rattle.tgap_model.specs.declared.slice.Edge.{Edge}
+use Rattle.tgap_model.specs.declared.record.Mend.{Mend}
 use Rattle.tgap_model.specs.Base.{BaseMap}
-use Rattle.tgap_model.specs.Merged.{merged}
-use Rattle.tgap_model.specs.Removals.{removals_to}
-use Rattle.tgap_model.specs.Chains.{Link}
+use Rattle.tgap_model.specs.History.{class_of}
+use Rattle.tgap_model.specs.Merged.{MergedMap, merged, step_number, all_classes}
+use Rattle.tgap_model.specs.Removals.{edges_of, removals_to}
+use Rattle.tgap_model.specs.Chains.{Link, chains_at}
+use Rattle.tgap_model.specs.Records.{is_edge_between, step_record}
 use Rattle.face_tree.specs.Tree.{FaceHistory, IsFace, face_history}
 use Rattle.edge_forest.specs.Continued.{AreContinued}
 use Rattle.edge_forest.specs.Edges.{chain_of}
 use Rattle.tgap_build.specs.declared.holders.Holder.{Holder}
 use Rattle.tgap_build.specs.Holders.{AreHolders, all_held}
-use Rattle.tgap_build.specs.Running.{AreBehind, born}
+use Rattle.tgap_build.specs.Running.{AreBehind, born, is_touched}
 use Rattle.tgap_build.proofs.Behind.{are_behind}
 use Rattle.tgap_build.proofs.HolderTables.{born_held, holders_next}
 use Rattle.tgap_build.proofs.StepFaces.{step_faces}
+use Rattle.tgap_build.proofs.Untouched.{between_touched}
 use Rattle.tgap_build.proofs.removal.make_step.Goals as goal
+
+-- a record with the parts of that of a step
+record_is : (h : MergedMap) (k : ℕ) (s : MergeStep) → s ≡ step_number h k → (l w : ℕ) (mends : List Mend) (ended : List Edge)
+    → l ≡ class_of (all_classes h) s.loser → w ≡ class_of (all_classes h) s.winner → mends ≡ (step_record h k).mends
+    → ended ≡ filter (is_edge_between s.loser s.winner) (edges_of h (k - 1) (removals_to h (k - 1)) (chains_at h (k - 1)))
+    → record { step = k; loser = s.loser; loser_class = l; winner = s.winner; winner_class = w; made = s.made; mends = mends; ended = ended } ≡ step_record h k
+record_is h k s is l w mends ended a b c d = rw (a, b, c, d, is) refl
 
 pub merge-requires-2-clause-behind : goal.merge-requires-2-clause-behind
 merge-requires-2-clause-behind c =
@@ -30,6 +42,9 @@ merge-requires-2-clause-behind c =
     (are_behind f g c.requires.running.forest c.base.ensures.forest k c.requires.some c.requires.made base c.in_ok-merge.ensures.continued
     (removals_to (merged f.base) (k - 1)) edges table c.requires.running))
 
+pub merge-requires-2-clause-touched : goal.merge-requires-2-clause-touched
+merge-requires-2-clause-touched c = c.in_ok-touched.ensures ∙ ap (filter (is_touched c.args.step.now)) (c.as_slice.ensures ∙ c.edges.ensures.value)
+
 -- the table of holders stays as it was before the step, until the new edges are noted
 pub hold-requires-clause-room : goal.hold-requires-clause-room
 hold-requires-clause-room c =
@@ -39,7 +54,7 @@ hold-requires-clause-room c =
     let after = c.in_ok-mends.ensures in
     let continued = subst (AreContinued f.edges) (sym after.edges) c.in_ok-merge.ensures.continued in
     let same = after.base ∙ c.in_ok-merge.ensures.base in
-    let table = ap (λ (v : Vec Holder). v.items) (after.holders ∙ c.in_ok-merge-2.ensures.holders) in
+    let table = ap (λ (v : Vec Holder). v.items) (after.holders ∙ c.in_ok-border.ensures.holders) in
     subst (λ (hs : List Holder). All (λ i. All (λ (d : Link). d.arc < length hs) (chain_of g.edges i)) (born g c.count-old.result k)) (sym table)
     (subst (λ (n : ℕ). All (λ i. All (λ (d : Link). d.arc < length c.args.live.now.holders.items) (chain_of g.edges i)) (born g n k)) (sym c.count-old.ensures.value)
     (born_held f g c.requires.running.forest after.running.forest k c.requires.some c.requires.made (omega (arith, after.made)) same continued
@@ -53,7 +68,7 @@ returns-clause-holders c =
     let after = c.in_ok-mends.ensures in
     let continued = subst (AreContinued f.edges) (sym after.edges) c.in_ok-merge.ensures.continued in
     let same = after.base ∙ c.in_ok-merge.ensures.base in
-    let table = ap (λ (v : Vec Holder). v.items) (after.holders ∙ c.in_ok-merge-2.ensures.holders) in
+    let table = ap (λ (v : Vec Holder). v.items) (after.holders ∙ c.in_ok-border.ensures.holders) in
     let noted = c.in_ok-hold.ensures.holders
     ∙ ap (λ (hs : List Holder). all_held g.edges (born g c.count-old.result k) hs) table
     ∙ ap (λ (n : ℕ). all_held g.edges (born g n k) c.args.live.now.holders.items) c.count-old.ensures.value in
@@ -74,3 +89,17 @@ class-requires-2 c =
     let m = c.args.forest.now.base in
     let one = step_faces m c.requires.running.forest.base c.requires.running.forest.partition c.args.k c.requires.some c.requires.within in
     subst (λ (t : FaceHistory). IsFace t c.args.step.now.winner) (sym c.requires.history) (subst (λ (s : MergeStep). IsFace (face_history (merged m)) s.winner) (sym c.requires.step) one.1)
+
+-- the edges between loser and winner are among the touched ones
+pub returns-clause-record : goal.returns-clause-record
+returns-clause-record c =
+    let f = c.args.forest.now in
+    let s = c.args.step.now in
+    let between = filter (is_edge_between s.loser s.winner) in
+    let ended = c.in_ok-ended.ensures
+    ∙ ap between (c.as_slice-2.ensures ∙ c.in_ok-touched.ensures ∙ ap (filter (is_touched s)) (c.as_slice.ensures ∙ c.edges.ensures.value))
+    ∙ between_touched s c.args.live.now.edges ∙ ap between c.requires.running.edges in
+    let mends = c.in_ok-mends.ensures.mends ∙ ap (λ (m : BaseMap). (step_record (merged m) c.args.k).mends) c.in_ok-merge.ensures.base in
+    let classes = ap (λ (t : FaceHistory). t.classes) c.requires.history in
+    record_is (merged f.base) c.args.k s c.requires.step c.class.result c.class-2.result c.in_ok-mends.mends c.in_ok-ended.ended
+    (c.class.ensures ∙ ap (λ (ks : List ℕ). class_of ks s.loser) classes) (c.class-2.ensures ∙ ap (λ (ks : List ℕ). class_of ks s.winner) classes) mends ended

@@ -1,9 +1,11 @@
 -- What goes is what the step removes, so it can be noted, and the other edges do not have it; and then the edges are those after it.
-use Rattle.std.proofs.Common.{◌≡◌, ◌∙◌, ℕ, ◌-◌, ◌≤◌, false, ◌&&◌, ◌||◌, nat_le, List, length, All, sym, ap, ap₂, subst, arith}
+use Rattle.std.proofs.Common.{◌≡◌, ◌∙◌, ℕ, ◌-◌, ◌≤◌, false, ◌&&◌, ◌||◌, nat_le, List, filter, length, All, sym, ap, ap₂, subst, arith}
+use Rattle.std.specs.Prelude.{flat_map}
 use Rattle.std.specs.List.{list_any}
 use Rattle.std.specs.Global.{Vec}
 use Rattle.std.specs.Int.{w128}
 use Rattle.std.proofs.lemmas.Int.{to_z-of_z}
+use Rattle.std.proofs.lemmas.List.Elements.{All-filter}
 use Rattle.tgap_model.specs.declared.merge.MergeStep.{MergeStep}
 use Rattle.tgap_model.specs.declared.slice.Edge.{Edge}
 use Rattle.tgap_model.specs.declared.slice.Removal.{Removal}
@@ -15,6 +17,7 @@ use Rattle.removal_laws.specs.StandLaws.{edges_less}
 use Rattle.removal_laws.specs.Trace.{edges_before_sweep}
 use Rattle.grid_index.specs.Live.{AreLive}
 use Rattle.edge_forest.specs.Forest.{is_gone}
+use Rattle.tgap_build.specs.Mends.{IsCountable, needed_mends}
 use Rattle.tgap_build.proofs.EachLive.{after_live}
 use Rattle.tgap_build.proofs.ReadMends.{now_is, countable, mends_read}
 use Rattle.tgap_build.proofs.Removed.{step_removed}
@@ -95,8 +98,8 @@ remove-requires-2-clause-others c =
     let removals = c.in_ok-removals.removals in
     let area = to_z-of_z w128 c.args.loser_area c.ranges.loser_area ∙ c.requires.area in
     let is = list_is f k base planar c.requires.some within c.requires.removed c.args.live.now.edges live _ _ _ removals c.requires.ratio (ap (λ (s : MergeStep). s.made) c.requires.step) area c.in_ok-removals.ensures in
-    subst (All (λ (e : Edge). has_side c.args.step.now.made e ≡ false → without removals e.points ≡ e.points)) (sym live)
-    (subst (λ (n : ℕ). All (λ (e : Edge). has_side n e ≡ false → without removals e.points ≡ e.points) (edges_before_sweep (merged f.base) k)) (sym (ap (λ (s : MergeStep). s.made) c.requires.step))
+    subst (All (λ (e : Edge). has_side c.args.border.now.face e ≡ false → without removals e.points ≡ e.points)) (sym live)
+    (subst (λ (n : ℕ). All (λ (e : Edge). has_side n e ≡ false → without removals e.points ≡ e.points) (edges_before_sweep (merged f.base) k)) (sym (c.requires.face ∙ ap (λ (s : MergeStep). s.made) c.requires.step))
     (others_stay f.base base planar k c.requires.some within removals is))
 
 pub returns-clause-removed : goal.returns-clause-removed
@@ -134,7 +137,11 @@ pub mends_of-requires-clause-edges : goal.mends_of-requires-clause-edges
 mends_of-requires-clause-edges c =
     let f = c.args.forest.now in
     let k = c.args.k in
-    countable f k (removals_to (merged f.base) (k - 1)) c.args.live.now.edges c.args.live.now.numbers.items (omega (arith, c.requires.made)) c.requires.running
+    let live = c.args.live.now.edges in
+    let table = c.args.live.now.numbers.items in
+    subst (All (IsCountable f table)) (sym (c.as_slice-bordering.ensures ∙ c.requires.border))
+    (All-filter (has_side c.args.border.now.face) (IsCountable f table) live
+    (countable f k (removals_to (merged f.base) (k - 1)) live table (omega (arith, c.requires.made)) c.requires.running))
 
 pub returns-clause-mends : goal.returns-clause-mends
 returns-clause-mends c =
@@ -147,6 +154,8 @@ returns-clause-mends c =
     let removals = c.in_ok-removals.removals in
     let area = to_z-of_z w128 c.args.loser_area c.ranges.loser_area ∙ c.requires.area in
     let is = list_is f k base planar c.requires.some within c.requires.removed c.args.live.now.edges live _ _ _ removals c.requires.ratio (ap (λ (s : MergeStep). s.made) c.requires.step) area c.in_ok-removals.ensures in
+    let border = c.as_slice-bordering.ensures ∙ c.requires.border ∙ ap (λ (n : ℕ). filter (has_side n) c.args.live.now.edges) c.requires.face in
     c.in_ok-mends.ensures removals (λ p. c.in_ok-gone.ensures p ∙ ap (λ (rs : List Removal). is_removed rs p) c.as_slice.ensures)
+    ∙ ap (flat_map (needed_mends f c.args.live.now.numbers.items c.args.live.now.holders.items c.args.step.now (k - 1) removals)) border
     ∙ mends_read f k (omega (arith, c.requires.some)) (omega (arith, c.requires.made)) c.args.live.now.edges c.args.live.now.numbers.items c.args.live.now.holders.items c.requires.running c.requires.holders
     (c.requires.removed.by_then (k - 1) (omega arith)) c.args.step.now c.requires.step removals (is ∙ now_is f.base base planar k c.requires.some within)
