@@ -6,3 +6,6 @@ pub mod SliceForm
 pub mod PacketForm
 pub mod Replays
 pub mod Packets
+pub mod Servings
+pub mod Refusals
+pub mod Served

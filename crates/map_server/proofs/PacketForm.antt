@@ -3,7 +3,7 @@ use Rattle.std.proofs.Common.{◌≡◌, ℕ, zero, suc, ◌+◌, ◌-◌, ◌^�
 use Rattle.std.specs.Prelude.{flat_map, nat_le}
 use Rattle.std.specs.List.{list_all}
 use Rattle.std.proofs.lemmas.Bool.{and_parts, and_from, le-leb, eqb-true, ltb-true}
-use Rattle.std.proofs.lemmas.List.{length-append, length-map}
+use Rattle.std.proofs.lemmas.List.{length-map}
 use Rattle.std.proofs.lemmas.List.Sums.{length-filter, count_by-le-length}
 use Rattle.lemmas.specs.Sorting.{is_sorted_by}
 use Rattle.lemmas.proofs.Sorting.{sorted_tail, sorted_next}
@@ -14,7 +14,6 @@ use Rattle.tgap_model.specs.declared.slice.Removal.{Removal}
 use Rattle.tgap_model.specs.declared.record.Piece.{Piece}
 use Rattle.tgap_model.specs.declared.record.Put.{Put}
 use Rattle.tgap_model.specs.declared.record.Mend.{Mend}
-use Rattle.tgap_model.specs.declared.record.StepRecord.{StepRecord}
 use Rattle.tgap_model.specs.Base.{BaseMap, is_base, in_limits}
 use Rattle.tgap_model.specs.Partition.{IsPartition, base_segments}
 use Rattle.tgap_model.specs.History.{history_of}
@@ -23,7 +22,7 @@ use Rattle.tgap_model.specs.Chains.{Chain, chain_points, key, chains_at}
 use Rattle.tgap_model.specs.Removals.{edge_of, edges_of, has_side, is_removed, removals_to, without}
 use Rattle.tgap_model.specs.Slice.{left_of, right_of}
 use Rattle.tgap_model.specs.Records.{puts_from, runs, pieces_from, is_needed, is_edge_between, step_record, has_step, records_down, packet_of, ends_with_place}
-use Rattle.tgap_model.specs.SliceForms.{is_number, is_put_row, is_piece_row, is_mend_row, is_edge_row, is_record_row, goes_down, is_packet_row}
+use Rattle.tgap_model.specs.SliceForms.{is_put_row, is_piece_row, is_mend_row, is_edge_row, is_record_row, goes_down, is_packet_row}
 use Rattle.tgap_model.proofs.BaseFacts.{base_facts}
 use Rattle.map_laws.proofs.ChainMembers.{Among, all_among}
 use Rattle.map_laws.proofs.Lists.{members_all, all_from, kept_among, map_among, among_map}

@@ -1,9 +1,9 @@
 -- What comes of the packet of a map between two steps, as its definition says it and computes it.
-use Rattle.std.proofs.Common.{◌≡◌, ℕ, ◌≤◌, ◌<◌, ◌↔◌, ◌⊎◌, inl, inr, true, false, List, ◌++◌, length, Some, None, Result, Ok, Err, refl, sym, ap, ◌∙◌, le-ltb, lt-ltb, subst, nat_lt, cond, Bool}
+use Rattle.std.proofs.Common.{◌≡◌, ℕ, ◌≤◌, ◌<◌, ◌↔◌, inl, inr, true, false, List, ◌++◌, length, Some, None, Result, Ok, Err, refl, sym, ap, ◌∙◌, le-ltb, lt-ltb, subst, nat_lt, cond, Bool}
 use Rattle.std.proofs.lemmas.Bool.{cases_lt}
 use Rattle.std.specs.Result.{IsErrAnd}
 use Rattle.tgap_model.specs.declared.failure.Or.{Or}
-use Rattle.tgap_model.specs.declared.failure.Or.TheVariants.{Fault, Memory}
+use Rattle.tgap_model.specs.declared.failure.Or.TheVariants.{Fault}
 use Rattle.tgap_model.specs.declared.fault.MapFault.{MapFault}
 use Rattle.tgap_model.specs.declared.record.Packet.{Packet}
 use Rattle.tgap_model.specs.Base.{BaseMap, is_base}
@@ -22,7 +22,7 @@ use Rattle.refine_packets.specs.declared.fail.PacketFail.{PacketFail}
 use Rattle.refine_packets.specs.declared.fail.PacketFail.TheVariants as fail
 use Rattle.map_server.specs.declared.outcome.Outcome.{Outcome}
 use Rattle.map_server.specs.declared.outcome.Outcome.TheVariants.{Done, Usage, LoadFault, Refused, StepTooHigh, NotCoarser, OutOfMemory, PortFault, Unfit}
-use Rattle.map_server.specs.Outcomes.{IsOfFiles, refusal, packet_refusal}
+use Rattle.map_server.specs.Outcomes.{refusal, packet_refusal}
 use Rattle.map_server.specs.Answers.{IsEither, outcome_from}
 use Rattle.map_server.specs.Packet.{IsPacketOf, SaysPacket, SaysPacketOf, packet_outcome, packet_of_outcome}
 use Rattle.map_server.proofs.Says.{refused_is}

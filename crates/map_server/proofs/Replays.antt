@@ -1,17 +1,15 @@
 -- What comes of the texts of a slice and of a packet, and of the files that hold them.
-use Rattle.std.proofs.Common.{◌≡◌, ◌≢◌, ℕ, ◌⊎◌, ◌*◌, ◌<◌, ◌≤◌, inl, inr, true, true≢false, Option, Some, None, List, [], ◌∷◌, length, Result, Ok, Err, refl, sym, ap, ap₂, ◌∙◌, subst, arith, lt-ltb, le-ltb}
-use Rattle.std.specs.Prelude.{fold, is_none, sum_by}
+use Rattle.std.proofs.Common.{◌≡◌, ℕ, ◌≤◌, inl, inr, true, true≢false, Option, Some, None, List, [], ◌∷◌, length, Result, Ok, Err, refl, sym, ap, ap₂, ◌∙◌, subst, arith, lt-ltb, le-ltb}
+use Rattle.std.specs.Prelude.{fold, is_none}
 use Rattle.std.specs.Result.{IsErrAnd}
 use Rattle.std.proofs.lemmas.Bool.{and_from, and_parts, cases_eq}
 use Rattle.tgap_model.specs.declared.limits.TheConstants.{MAX_TEXT_BYTES}
 use Rattle.tgap_model.specs.declared.failure.Or.{Or}
 use Rattle.tgap_model.specs.declared.failure.Or.TheVariants.{Fault, Memory}
-use Rattle.tgap_model.specs.declared.fault.MapFault.TheVariants.{InputLong}
 use Rattle.tgap_model.specs.declared.slice.Slice.{Slice}
 use Rattle.tgap_model.specs.declared.record.StepRecord.{StepRecord}
 use Rattle.tgap_model.specs.declared.record.Packet.{Packet}
 use Rattle.tgap_model.specs.Records.{broken_rule, undo, replayed}
-use Rattle.tgap_model.specs.SliceForms.{segment_count, record_load, has_room}
 use Rattle.tgap_model.specs.SliceTexts.{slice_text}
 use Rattle.tgap_model.specs.SliceReading.{IsSliceText, IsPacketText, slice_of_text, packet_of_text}
 use Rattle.plain_io.specs.declared.files.Which.{Which}
@@ -27,7 +25,7 @@ use Rattle.client_replay.proofs.Replays.{some_never_none, other_step, own_step, 
 use Rattle.record_laws.specs.PacketLaws.{each_fits}
 use Rattle.map_server.specs.declared.outcome.Misfit.TheVariants.{SliceLine, PacketLine, Rule}
 use Rattle.map_server.specs.declared.outcome.Outcome.{Outcome}
-use Rattle.map_server.specs.declared.outcome.Outcome.TheVariants.{Done, LoadFault, Refused, OutOfMemory, Unfit}
+use Rattle.map_server.specs.declared.outcome.Outcome.TheVariants.{Done, LoadFault, OutOfMemory, Unfit}
 use Rattle.map_server.specs.Outcomes.{IsOfFiles, replay_refusal}
 use Rattle.map_server.specs.Command.{Command}
 use Rattle.map_server.specs.Commands.{command}

@@ -1,5 +1,5 @@
 -- A slice of a planar partition has the form of its text.
-use Rattle.std.proofs.Common.{◌≡◌, ℕ, zero, suc, ◌+◌, ◌^◌, ◌<◌, ◌≤◌, ◌&&◌, true, inl, inr, nat_lt, List, [], ◌∷◌, ◌++◌, map, filter, fold, ◌-◌, length, get_or, refl, ap, ◌∙◌, subst, arith, IsTrue}
+use Rattle.std.proofs.Common.{◌≡◌, ℕ, zero, suc, ◌+◌, ◌^◌, ◌<◌, ◌≤◌, true, inl, inr, nat_lt, List, [], ◌∷◌, map, fold, ◌-◌, length, get_or, refl, ap, ◌∙◌, subst, arith, IsTrue}
 use Rattle.std.specs.Prelude.{⊤}
 use Rattle.std.specs.List.{list_all, range_with_len}
 use Rattle.std.proofs.lemmas.Bool.{and_parts, and_from, lt-ltb, ltb-true, le-leb, leb-true}
@@ -12,7 +12,6 @@ use Rattle.tgap_model.specs.declared.merge.MergeStep.{MergeStep}
 use Rattle.tgap_model.specs.declared.base.BaseArc.{BaseArc}
 use Rattle.tgap_model.specs.declared.slice.Edge.{Edge}
 use Rattle.tgap_model.specs.declared.slice.FaceRow.{FaceRow}
-use Rattle.tgap_model.specs.declared.slice.Removal.{Removal}
 use Rattle.tgap_model.specs.Base.{BaseMap, is_base, in_limits, no_repeat}
 use Rattle.tgap_model.specs.Partition.{IsPartition, base_segments}
 use Rattle.tgap_model.specs.History.{class_of, classes_after, history_of}

@@ -1,5 +1,5 @@
 -- What each status says, from the outcome that was put. Nothing here depends on which commands there are.
-use Rattle.std.proofs.Common.{◌≡◌, ◌≢◌, ℕ, ◌<◌, ◌≤◌, ◌⊎◌, inl, inr, List, [], ◌∷◌, length, Option, Some, None, Contains, refl, sym, ap, ◌∙◌, subst, arith}
+use Rattle.std.proofs.Common.{◌≡◌, ◌≢◌, ℕ, ◌≤◌, ◌⊎◌, inl, inr, List, [], ◌∷◌, length, Option, Some, None, Contains, refl, sym, ap, ◌∙◌, subst, arith}
 use Rattle.plain_io.specs.declared.files.Which.{Which}
 use Rattle.plain_io.specs.Loads.{Told, OfFile}
 use Rattle.plain_io.specs.Puts.{Appends}
@@ -61,7 +61,7 @@ unfit_status OutOfMemory e = absurd (omega arith)
 unfit_status PortFault e = absurd (omega arith)
 unfit_status (Unfit misfit) e = (misfit, refl)
 
-usage_apart : (o : Outcome) → status_of o ≡ 2 → IsOfFiles o → ⊥
+pub usage_apart : (o : Outcome) → status_of o ≡ 2 → IsOfFiles o → ⊥
 usage_apart (Done text) e h = omega arith
 usage_apart Usage e h = h
 usage_apart (LoadFault which) e h = h
@@ -69,8 +69,19 @@ usage_apart (Refused fault) e h = omega arith
 usage_apart (StepTooHigh steps) e h = omega arith
 usage_apart (NotCoarser from to) e h = omega arith
 usage_apart OutOfMemory e h = h
-usage_apart PortFault e h = omega arith
+usage_apart PortFault e h = h
 usage_apart (Unfit misfit) e h = omega arith
+
+port_status : (o : Outcome) → status_of o ≡ 8 → o ≡ PortFault
+port_status (Done text) e = absurd (omega arith)
+port_status Usage e = absurd (omega arith)
+port_status (LoadFault which) e = absurd (omega arith)
+port_status (Refused fault) e = absurd (omega arith)
+port_status (StepTooHigh steps) e = absurd (omega arith)
+port_status (NotCoarser from to) e = absurd (omega arith)
+port_status OutOfMemory e = absurd (omega arith)
+port_status PortFault e = refl
+port_status (Unfit misfit) e = absurd (omega arith)
 
 six_apart : (o : Outcome) → status_of o ≡ 6 → ⊥
 six_apart (Done text) e = omega arith
@@ -92,7 +103,7 @@ files_status (Refused fault) h = (λ e. omega (arith, e), λ e. omega (arith, e)
 files_status (StepTooHigh steps) h = (λ e. omega (arith, e), λ e. omega (arith, e))
 files_status (NotCoarser from to) h = (λ e. omega (arith, e), λ e. omega (arith, e))
 files_status OutOfMemory h = absurd h
-files_status PortFault h = (λ e. omega (arith, e), λ e. omega (arith, e))
+files_status PortFault h = absurd h
 files_status (Unfit misfit) h = (λ e. omega (arith, e), λ e. omega (arith, e))
 
 -- ---- the outcome of words, by what they ask for
@@ -277,3 +288,13 @@ module _ {words : List (List ℕ)} {told : Which → List ℕ → Told} {rose : 
 
   pub sink_stays : status ≢ 6 → sinks ≡ sunk
   sink_stays other = elim p.delivers [ inl d ↦ d.2 | inr d ↦ absurd (other d.0) ]
+
+  pub eight_apart : status ≡ 8 → ⊥
+  eight_apart e =
+      let is = status_is 8 (λ t. omega (arith, t)) e in
+      elim cases [
+        | inl none ↦ omega (arith, is, ap status_of none.1)
+        | inr (c, asked, inl load) ↦ omega (arith, is, ap status_of load.2)
+        | inr (c, asked, inr (inl memory)) ↦ omega (arith, is, ap status_of memory)
+        | inr (c, asked, inr (inr held)) ↦ subst IsOfFiles (port_status p.outcome is) held.4
+      ]

@@ -4,7 +4,9 @@ use Rattle.map_server.specs.declared.command.Source.{Source}
 use Rattle.map_server.specs.declared.command.Source.TheVariants.{Listing, Topology}
 use Rattle.map_server.specs.declared.command.Command.{Command}
 use Rattle.map_server.specs.declared.command.Command.TheVariants.{Borders, Check, Slice, Packet, Replay}
+use Rattle.map_server.specs.declared.serve.Serving.{Serving}
 use Rattle.map_server.specs.Command as spec
+use Rattle.map_server.specs.Serving.{ServeCommand}
 
 abbrev pub source_of : Source → spec.Source
 source_of (Listing name) = spec.Listing name.now
@@ -19,3 +21,6 @@ command_of (Replay slice packet) = spec.Replay slice.now packet.now
 
 abbrev pub asked : Option Command → Option spec.Command
 asked command = option_map command_of command
+
+abbrev pub serving_of : Serving → ServeCommand
+serving_of s = record { source = source_of s.map; port = s.port; workers = s.workers; versions = s.versions }

@@ -9,6 +9,8 @@ use Rattle.slice_read.specs.declared.fail.ReadFail.{ReadFail}
 use Rattle.slice_read.specs.declared.fail.ReadFail.TheVariants as fail
 use Rattle.refine_packets.specs.declared.fail.PacketFail.{PacketFail}
 use Rattle.refine_packets.specs.declared.fail.PacketFail.TheVariants as packet_fail
+use Rattle.plain_io.specs.declared.harbour.HarbourFail.{HarbourFail}
+use Rattle.plain_io.specs.declared.harbour.HarbourFail.TheVariants as harbour_fail
 use Rattle.plain_io.specs.declared.files.Which.{Which}
 use Rattle.plain_io.specs.declared.files.Which.TheVariants.{Map, Rules, Slice, Packet}
 use Rattle.map_server.specs.declared.outcome.Misfit.{Misfit}
@@ -80,7 +82,7 @@ TakesMemory OutOfMemory = ⊥
 TakesMemory PortFault = ⊥
 TakesMemory (Unfit misfit) = ⊤
 
--- It comes of what the files hold, and not of the words alone, a failed load or want of memory.
+-- It comes of what the files hold, and not of the words alone, a failed load, a port or want of memory.
 abbrev pub IsOfFiles : Outcome → Type 0
 IsOfFiles (Done text) = ⊤
 IsOfFiles Usage = ⊥
@@ -89,7 +91,7 @@ IsOfFiles (Refused fault) = ⊤
 IsOfFiles (StepTooHigh steps) = ⊤
 IsOfFiles (NotCoarser from to) = ⊤
 IsOfFiles OutOfMemory = ⊥
-IsOfFiles PortFault = ⊤
+IsOfFiles PortFault = ⊥
 IsOfFiles (Unfit misfit) = ⊤
 
 -- the bytes of a text that is always there, or of one that was made
@@ -117,3 +119,8 @@ packet_refusal from to packet_fail.Memory = OutOfMemory
 abbrev pub replay_refusal : Or Misfitting → Outcome
 replay_refusal (Fault u) = Unfit (Rule u.step u.rule)
 replay_refusal Memory = OutOfMemory
+
+-- why there are no doors
+abbrev pub harbour_refusal : HarbourFail → Outcome
+harbour_refusal harbour_fail.Failed = PortFault
+harbour_refusal harbour_fail.Memory = OutOfMemory

@@ -11,12 +11,14 @@ mod outcome;
 mod packet;
 mod replay;
 mod run;
+mod serve;
+mod serve_store;
 mod slice;
 #[cfg(test)]
 mod tests;
 
 use outcome::Outcome;
-use plain_io::{HostFiles, HostSink};
+use plain_io::{HostFiles, HostSink, TcpHarbour};
 pub use run::run;
 use std::alloc::Global;
 use std::process::ExitCode;
@@ -27,8 +29,16 @@ use tgap_model::Memory;
 fn main(rt: HostRuntime) -> ExitCode {
     let mut files = HostFiles::new(&rt);
     let mut out = HostSink::new(io::writer(&rt));
+    let mut harbour = TcpHarbour::new(&rt);
     let status = match words(&rt, rt.alloc()) {
-        Ok(words) => run(&rt, rt.alloc(), words.as_slice(), &mut files, &mut out),
+        Ok(words) => run(
+            &rt,
+            rt.alloc(),
+            words.as_slice(),
+            &mut files,
+            &mut out,
+            &mut harbour,
+        ),
         Err(Memory) => Outcome::OutOfMemory.put(rt.alloc(), &mut out),
     };
     ExitCode::from(status)

@@ -7,7 +7,7 @@ ghost use Rattle.map_server.specs.Outcomes.{TakesMemory, status_of, text_of, loa
 ghost use Rattle.map_server.specs.Delivery.{Delivers, DeliversText};
 
 use client_replay::Unfit;
-use plain_io::{Sink, Which, put_count};
+use plain_io::{HarbourFail, Sink, Which, put_count};
 use slice_read::ReadFail;
 use std::alloc::Global;
 use tgap_model::{MapFault, Memory, Or, Text};
@@ -17,7 +17,7 @@ const USAGE: &[u8] =
     b"usage: borders MAP STEP | check MAP [OBJECT RULES] | slice MAP STEP [OBJECT RULES] | packet MAP FROM TO [OBJECT RULES] | replay SLICE PACKET | grid N | serve MAP PORT WORKERS VERSIONS [OBJECT RULES]\n";
 
 /// The status where the text could not be put.
-const SINK_FAULT: u8 = 6;
+pub const SINK_FAULT: u8 = 6;
 
 /// Why a record is not replayed: a text is none, by its first bad line, or a record breaks a rule.
 #[derive(Clone, Copy, Debug, PartialEq, Eq)]
@@ -99,6 +99,20 @@ impl From<Or<Unfit>> for Outcome {
         match refused {
             Or::Fault(Unfit { step, rule }) => Outcome::Unfit(Misfit::Rule { step, rule }),
             Or::Memory => Outcome::OutOfMemory,
+        }
+    }
+}
+
+impl From<HarbourFail> for Outcome {
+    ghost use Rattle.std.specs.Prelude.{◌≡◌};
+    ghost use Rattle.map_server.specs.Outcomes.{harbour_refusal};
+
+    ghost from_gives = { λ e o. o ≡ harbour_refusal e };
+
+    fn from(refused: HarbourFail) -> Outcome {
+        match refused {
+            HarbourFail::Failed => Outcome::PortFault,
+            HarbourFail::Memory => Outcome::OutOfMemory,
         }
     }
 }

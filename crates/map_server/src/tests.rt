@@ -1,12 +1,13 @@
 //! The program over files and sinks in memory: worked maps, bad input and faults of the outside.
 mod packets;
+mod serving;
 mod topologies;
 
 use crate::run;
 use area_listing::{read_listing, write_listing};
 use plain_io::{
     FileTexts, Files, HostFiles, HostSink, LoadFail, MemoryFile, MemoryFiles, MemorySink, Sink,
-    SureFiles, SureSink, Which,
+    SureFiles, SureHarbour, SureLink, SureSink, Which,
 };
 use std::alloc::Global;
 use std::fs;
@@ -88,6 +89,11 @@ fn words_of(alloc: Global, line: &str) -> Result<Vec<String>, Memory> {
         words.push(String::from_str(alloc, word)?)?;
     }
     Ok(words)
+}
+
+/// A harbour for what serves nothing.
+fn no_doors(alloc: Global) -> SureHarbour<SureLink> {
+    SureHarbour::new(alloc, List::new(alloc))
 }
 
 /// The list of the first call alone.
@@ -187,7 +193,14 @@ fn worked_maps(rt: HostRuntime) -> Result<(), Fail> {
         let mut out = MemorySink::new(alloc, 1000, List::new(alloc))?;
         let words_asked = words_of(alloc, words)?;
         assert_eq!(rt;
-            run(&rt, alloc, words_asked.as_slice(), &mut files, &mut out),
+            run(
+                &rt,
+                alloc,
+                words_asked.as_slice(),
+                &mut files,
+                &mut out,
+                &mut no_doors(alloc)
+            ),
             status,
             "{words}"
         );
@@ -318,7 +331,14 @@ fn slices_of_worked_maps(rt: HostRuntime) -> Result<(), Fail> {
         let mut out = MemorySink::new(alloc, 1000, List::new(alloc))?;
         let words_asked = words_of(alloc, words)?;
         assert_eq!(rt;
-            run(&rt, alloc, words_asked.as_slice(), &mut files, &mut out),
+            run(
+                &rt,
+                alloc,
+                words_asked.as_slice(),
+                &mut files,
+                &mut out,
+                &mut no_doors(alloc)
+            ),
             status,
             "{words}"
         );
@@ -384,7 +404,14 @@ fn bad_listings(rt: HostRuntime) -> Result<(), Fail> {
         let mut out = MemorySink::new(alloc, 100, List::new(alloc))?;
         let words = words_of(alloc, "borders map 0")?;
         assert_eq!(rt;
-            run(&rt, alloc, words.as_slice(), &mut files, &mut out),
+            run(
+                &rt,
+                alloc,
+                words.as_slice(),
+                &mut files,
+                &mut out,
+                &mut no_doors(alloc)
+            ),
             4,
             "{fault}"
         );
@@ -412,7 +439,17 @@ fn cut_long_and_lonely_files(rt: HostRuntime) -> Result<(), Fail> {
     ] {
         let mut files = one_file(alloc, "map", bytes, List::new(alloc))?;
         let mut out = MemorySink::new(alloc, 100, List::new(alloc))?;
-        assert_eq!(rt; run(&rt, alloc, words.as_slice(), &mut files, &mut out), 4);
+        assert_eq!(rt;
+            run(
+                &rt,
+                alloc,
+                words.as_slice(),
+                &mut files,
+                &mut out,
+                &mut no_doors(alloc)
+            ),
+            4
+        );
         assert_eq!(rt; out.bytes(), text.as_bytes());
     }
     Ok(())
@@ -534,7 +571,14 @@ fn checked_maps(rt: HostRuntime) -> Result<(), Fail> {
         let mut files = one_file(alloc, "map", bytes.as_slice(), List::new(alloc))?;
         let mut out = MemorySink::new(alloc, 100, List::new(alloc))?;
         assert_eq!(rt;
-            run(&rt, alloc, words.as_slice(), &mut files, &mut out),
+            run(
+                &rt,
+                alloc,
+                words.as_slice(),
+                &mut files,
+                &mut out,
+                &mut no_doors(alloc)
+            ),
             status,
             "{text}"
         );
@@ -553,7 +597,17 @@ fn each_cut_of_a_listing_has_its_line(rt: HostRuntime) -> Result<(), Fail> {
         let line = front.split(|b| *b == b'\n').count();
         let mut files = one_file(alloc, "map", front, List::new(alloc))?;
         let mut out = MemorySink::new(alloc, 100, List::new(alloc))?;
-        assert_eq!(rt; run(&rt, alloc, words.as_slice(), &mut files, &mut out), 4);
+        assert_eq!(rt;
+            run(
+                &rt,
+                alloc,
+                words.as_slice(),
+                &mut files,
+                &mut out,
+                &mut no_doors(alloc)
+            ),
+            4
+        );
         let text = format!(in alloc; "refused 18 bad-line {line}\n")?;
         assert_eq!(rt; out.bytes(), text.as_bytes());
     }
@@ -582,7 +636,14 @@ fn the_greatest_number_of_points(rt: HostRuntime) -> Result<(), Fail> {
         let mut files = one_file(alloc, "map", bytes.as_slice(), List::new(alloc))?;
         let mut out = MemorySink::new(alloc, 100, List::new(alloc))?;
         assert_eq!(rt;
-            run(&rt, alloc, words.as_slice(), &mut files, &mut out),
+            run(
+                &rt,
+                alloc,
+                words.as_slice(),
+                &mut files,
+                &mut out,
+                &mut no_doors(alloc)
+            ),
             status
         );
         assert_eq!(rt; out.bytes(), text.as_bytes());
@@ -614,18 +675,52 @@ fn faults_of_the_outside(rt: HostRuntime) -> Result<(), Fail> {
     let words = words_of(alloc, "borders map 1")?;
     let mut files = one_file(alloc, "map", TWO_SQUARES.as_bytes(), first_call(alloc)?)?;
     let mut out = MemorySink::new(alloc, 1000, first_call(alloc)?)?;
-    assert_eq!(rt; run(&rt, alloc, words.as_slice(), &mut files, &mut out), 6);
+    assert_eq!(rt;
+        run(
+            &rt,
+            alloc,
+            words.as_slice(),
+            &mut files,
+            &mut out,
+            &mut no_doors(alloc)
+        ),
+        6
+    );
     assert_eq!(rt; out.bytes(), b"".as_slice());
     // The second load and the second put do not fail.
-    assert_eq!(rt; run(&rt, alloc, words.as_slice(), &mut files, &mut out), 0);
+    assert_eq!(rt;
+        run(
+            &rt,
+            alloc,
+            words.as_slice(),
+            &mut files,
+            &mut out,
+            &mut no_doors(alloc)
+        ),
+        0
+    );
     let mut small = MemorySink::new(alloc, 5, List::new(alloc))?;
     assert_eq!(rt;
-        run(&rt, alloc, words.as_slice(), &mut files, &mut small),
+        run(
+            &rt,
+            alloc,
+            words.as_slice(),
+            &mut files,
+            &mut small,
+            &mut no_doors(alloc)
+        ),
         6
     );
     let mut failing = one_file(alloc, "map", TWO_SQUARES.as_bytes(), first_call(alloc)?)?;
     assert_eq!(rt;
-        run(&rt, alloc, words.as_slice(), &mut failing, &mut SureSink),
+        run(
+            &rt,
+            alloc,
+            words.as_slice(),
+            &mut failing,
+            &mut SureSink,
+            &mut no_doors(alloc)
+        ),
         3
     );
     Ok(())
@@ -642,7 +737,17 @@ fn files_that_never_fail(rt: HostRuntime) -> Result<(), Fail> {
     });
     let mut out = MemorySink::new(alloc, 1000, List::new(alloc))?;
     let words = words_of(alloc, "borders any 0")?;
-    assert_eq!(rt; run(&rt, alloc, words.as_slice(), &mut files, &mut out), 0);
+    assert_eq!(rt;
+        run(
+            &rt,
+            alloc,
+            words.as_slice(),
+            &mut files,
+            &mut out,
+            &mut no_doors(alloc)
+        ),
+        0
+    );
     assert_eq!(rt;
         out.bytes(),
         b"borders 0\nborder 0 1 0\nborder 1 2 1\nend\n".as_slice()

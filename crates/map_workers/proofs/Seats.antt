@@ -1,32 +1,48 @@
 -- One connection more at a seat.
-use Rattle.std.proofs.Common.{◌≡◌, ℕ, ◌+◌, ◌-◌, ◌^◌, ◌<◌, ◌≤◌, ◌⊎◌, min, List, [], ◌∷◌, ◌++◌, length, sum_by, count_by, refl, sym, ap, ◌∙◌, subst, arith, inl, inr, append_assoc, length-append}
+use Rattle.std.proofs.Common.{◌≡◌, ℕ, ◌+◌, ◌-◌, ◌^◌, ◌<◌, ◌≤◌, min, List, [], ◌∷◌, ◌++◌, length, sum_by, count_by, refl, sym, ap, ◌∙◌, subst, arith, inl, inr, append_assoc, length-append, map, All, Option, Some, None}
+use Rattle.std.proofs.lemmas.List.{map-append}
+use Rattle.std.proofs.lemmas.List.Elements.{All-cons, All-nil, All-head, All-tail}
 use Rattle.std.proofs.lemmas.List.Sums.{sum_by-append, sum_by-cons}
 use Rattle.plain_io.specs.declared.connection.EndKind.TheVariants as kind
 use Rattle.plain_io.specs.Faults.{Rose}
+use Rattle.plain_io.specs.declared.link.Link as OfLink
+use Rattle.plain_io.specs.Doors.{Connections, NoneCame}
 use Rattle.plain_io.specs.Links.{HasNone}
-use Rattle.session.specs.Outcomes.{Turn, starting, Outcomes, replies}
-use Rattle.session.specs.Versions.{Seen, Continues}
+use Rattle.tgap_model.specs.Base.{BaseMap}
+use Rattle.tgap_model.specs.declared.machine.Holds as Held
+use Rattle.version_store.specs.declared.name.StoreName as Named
+use Rattle.version_store.specs.declared.seat.SeatOf.{SeatOf}
+use Rattle.version_store.specs.declared.press.PressOf.{PressOf}
+use Rattle.version_store.specs.Growth.{IsPrefix}
+use Rattle.version_store.specs.Store.{press_versions, press_limit, seat_versions}
+use Rattle.map_version.specs.declared.version.Version.{Version}
+use Rattle.session.specs.Outcomes.{Turn, starting}
+use Rattle.session.specs.Versions.{Seen, seen_of, Extends, Continues}
 use Rattle.session.specs.Progress.{items_of, published_count, tells_behind}
 use Rattle.session.specs.Conversation.{Conversation, EndsBy, IsConnection}
 use Rattle.session.proofs.Talks.{outcomes_longer, replies_longer}
-use Rattle.workers.specs.Served.{Talk}
-use Rattle.map_workers.specs.Seats.{IsConversation, IsUnserved, IsTalk, AreTalks, Served, behind_in}
+use Rattle.workers.specs.Each.{EachBecame}
+use Rattle.workers.specs.Served.{Talk, Visit, handed_back, talk_of, ServesDoor}
+use Rattle.map_workers.specs.Seats.{IsConversation, IsUnserved, IsTalk, AreTalks, Served, behind_in, ServedRight, press_maps, SeesAll}
 
 -- ---- what grows
 
+extends_both : (a b c : List BaseMap) → Extends a b → Extends b c → Extends a c
+extends_both a b c p q = (p.0 ++ q.0, q.1 ∙ (ap (λ h. h ++ q.0) p.1 ∙ append_assoc a p.0 q.0))
+
 continues_both : (a b c : Seen) → Continues a b → Continues b c → Continues a c
 continues_both a b c p q = record {
-  history = (p.history.0 ++ q.history.0, q.history.1 ∙ (ap (λ h. h ++ q.history.0) p.history.1 ∙ append_assoc a.history p.history.0 q.history.0));
+  history = extends_both a.history b.history c.history p.history q.history;
   limit = q.limit ∙ p.limit;
   tellings = λ n. let x = p.tellings n in let y = q.tellings n in omega (arith, x, y);
 }
 
 -- ---- a longer list of versions
 
-talk_longer : (now later : Seen) (talk : Talk) (turns : List Turn) → Continues now later → IsTalk now talk turns → IsTalk later talk turns
-talk_longer now later talk turns c (inr none) = inr none
-talk_longer now later talk turns c (inl t) =
-    let more = c.history.0 in
+talk_longer : (limit : ℕ) (history more : List BaseMap) (talk : Talk) (turns : List Turn) → IsTalk limit history talk turns
+    → IsTalk limit (history ++ more) talk turns
+talk_longer limit history more talk turns (inr none) = inr none
+talk_longer limit history more talk turns (inl t) =
     let s = starting talk.end.first in
     inl (record {
       rest = t.rest;
@@ -38,30 +54,42 @@ talk_longer now later talk turns c (inl t) =
       told_is = t.told_is;
       split = t.split;
       items = t.items;
-      first = subst (λ h. talk.end.first < length h) (sym c.history.1) (simp length-append (omega (arith, t.first)));
-      outcomes = subst (λ l. Outcomes l later.history s turns) (sym c.limit)
-          (subst (λ h. Outcomes now.limit h s turns) (sym c.history.1) (outcomes_longer now.limit now.history more s turns t.first t.outcomes));
+      first = simp length-append (omega (arith, t.first));
+      outcomes = outcomes_longer limit history more s turns t.first t.outcomes;
       last = t.last;
       numbers = t.numbers;
       rows = t.rows;
       ends = subst (λ r. EndsBy talk.end.how (items_of turns) t.rest t.written r talk.ended)
-          (sym (ap (λ h. replies h s 0 turns) c.history.1 ∙ replies_longer now.limit now.history more s 0 turns t.first t.outcomes)) t.ends;
+          (sym (replies_longer limit history more s 0 turns t.first t.outcomes)) t.ends;
       read_fault = t.read_fault;
       write_fault = t.write_fault;
     })
 
-talks_longer : (now later : Seen) (talks : List Talk) (all : List (List Turn)) → Continues now later → AreTalks now talks all → AreTalks later talks all
-talks_longer now later [] [] c a = a
-talks_longer now later (talk ∷ talks) (turns ∷ all) c a = (talk_longer now later talk turns c a.0, talks_longer now later talks all c a.1)
-talks_longer now later [] (turns ∷ all) c a = absurd a
-talks_longer now later (talk ∷ talks) [] c a = absurd a
+-- connections that are right over a list of versions are right over a longer one
+pub talks_longer : (limit : ℕ) (history more : List BaseMap) (talks : List Talk) (all : List (List Turn)) → AreTalks limit history talks all
+    → AreTalks limit (history ++ more) talks all
+talks_longer limit history more [] [] a = a
+talks_longer limit history more (talk ∷ talks) (turns ∷ all) a =
+    (talk_longer limit history more talk turns a.0, talks_longer limit history more talks all a.1)
+talks_longer limit history more [] (turns ∷ all) a = absurd a
+talks_longer limit history more (talk ∷ talks) [] a = absurd a
 
-talks_more : (now : Seen) (talks : List Talk) (all : List (List Turn)) (talk : Talk) (turns : List Turn) → AreTalks now talks all → IsTalk now talk turns
-    → AreTalks now (talks ++ talk ∷ []) (all ++ turns ∷ [])
-talks_more now [] [] talk turns a t = (t, tt)
-talks_more now (u ∷ talks) (us ∷ all) talk turns a t = (a.0, talks_more now talks all talk turns a.1 t)
-talks_more now [] (us ∷ all) talk turns a t = absurd a
-talks_more now (u ∷ talks) [] talk turns a t = absurd a
+-- over a list that begins with the first one
+talks_extended : (limit : ℕ) (before now : List BaseMap) (talks : List Talk) (all : List (List Turn)) → Extends before now
+    → AreTalks limit before talks all → AreTalks limit now talks all
+talks_extended limit before now talks all e a = subst (λ h. AreTalks limit h talks all) (sym e.1) (talks_longer limit before e.0 talks all a)
+
+talks_later : (now later : Seen) (talks : List Talk) (all : List (List Turn)) → Continues now later → AreTalks now.limit now.history talks all
+    → AreTalks later.limit later.history talks all
+talks_later now later talks all c a =
+    subst (λ l. AreTalks l later.history talks all) (sym c.limit) (talks_extended now.limit now.history later.history talks all c.history a)
+
+talks_more : (limit : ℕ) (history : List BaseMap) (talks : List Talk) (all : List (List Turn)) (talk : Talk) (turns : List Turn)
+    → AreTalks limit history talks all → IsTalk limit history talk turns → AreTalks limit history (talks ++ talk ∷ []) (all ++ turns ∷ [])
+talks_more limit history [] [] talk turns a t = (t, tt)
+talks_more limit history (u ∷ talks) (us ∷ all) talk turns a t = (a.0, talks_more limit history talks all talk turns a.1 t)
+talks_more limit history [] (us ∷ all) talk turns a t = absurd a
+talks_more limit history (u ∷ talks) [] talk turns a t = absurd a
 
 -- ---- counts
 
@@ -76,12 +104,12 @@ told_more before middle now a b most p q = grind (arith, p, q)
 
 -- one connection more, on which these turns were handled
 pub served_turns : (before middle now : Seen) (talks : List Talk) (talk : Talk) (turns : List Turn) → Served before middle talks → Continues middle now
-    → IsTalk now talk turns → now.published ≡ middle.published + published_count turns
+    → IsTalk now.limit now.history talk turns → now.published ≡ middle.published + published_count turns
     → ((n : ℕ) → min (middle.tellings n + count_by (tells_behind n) turns) (2 ^ 64 - 1) ≤ now.tellings n) → Served before now (talks ++ talk ∷ [])
 served_turns before middle now talks talk turns s c t published tellings = record {
   continues = continues_both before middle now s.continues c;
   turns = s.turns ++ turns ∷ [];
-  each = talks_more now talks s.turns talk turns (talks_longer middle now talks s.turns c s.each) t;
+  each = talks_more now.limit now.history talks s.turns talk turns (talks_later middle now talks s.turns c s.each) t;
   published = let one = sum_more published_count s.turns turns in let all = s.published in omega (arith, one, all, published);
   tellings = λ n.
       let one = sum_more (λ (us : List Turn). count_by (tells_behind n) us) s.turns turns in
@@ -97,7 +125,7 @@ rose_some n rose = grind (arith, rose)
 
 conversation_is : (middle now : Seen) (talk : Talk) (conversation : Conversation middle now talk.taken_before talk.taken talk.told_before talk.told talk.ended talk.end)
     → HasNone talk.taken_before → HasNone talk.told_before → (talk.end.how ≡ kind.ReadFault → Rose 0 talk.take_faults)
-    → (talk.end.how ≡ kind.WriteFault → Rose 0 talk.put_faults) → IsConversation now talk conversation.turns
+    → (talk.end.how ≡ kind.WriteFault → Rose 0 talk.put_faults) → IsConversation now.limit now.history talk conversation.turns
 conversation_is middle now talk c untaken unput read_fault write_fault = record {
   rest = c.rest;
   read = c.read;
@@ -132,3 +160,63 @@ served_more before middle now talks talk (inr u) untaken unput read_fault write_
     record { how = u.how; untaken = u.unread; unput = u.unwritten; numbers = u.numbers; rows = u.rows; none = refl } in
     served_turns before middle now talks talk [] s u.continues (inr none) (omega (arith, kept))
     (λ n. let up = u.continues.tellings n in grind (arith, up))
+
+-- ---- all that a door tells
+
+-- what came and is back at a door, since none had come
+connections_new : {L : Type 0} (visits : List (Visit L)) (all : Connections L) → (all.came ≡ 0) × (all.back ≡ [])
+    → (all.came + length visits ≡ length visits) × (all.back ++ map handed_back visits ≡ map handed_back visits)
+connections_new visits all none = (omega (arith, none.0), ap (λ back. back ++ map handed_back visits) none.1)
+
+-- A seat served all connections that a door tells of: they are right over each list that begins with what the seat has seen.
+connections_right : {L : Type 0} (link : OfLink.Ghosts L) (told told' : Option (Connections L)) (before now : Seen) (history : List BaseMap) → NoneCame told
+    → ServesDoor link told told' (Served before now) → Extends now.history history → ServedRight link before.limit history told'
+connections_right link None told' before now history none s e = subst (ServedRight link before.limit history) (sym s.back) tt
+connections_right link (Some all) told' before now history none s e =
+    let new = connections_new s.visits all none in
+    subst (ServedRight link before.limit history) (sym s.back)
+    (record {
+      visits = s.visits;
+      turns = s.right.turns;
+      came = new.0;
+      back = new.1;
+      each = talks_extended before.limit now.history history (map (talk_of link) s.visits) s.right.turns e
+          (subst (λ l. AreTalks l now.history (map (talk_of link) s.visits) s.right.turns) s.right.continues.limit s.right.each);
+    })
+
+maps_extended : (front list : List Version) → IsPrefix front list → Extends (map (λ v. v.built) front) (map (λ v. v.built) list)
+maps_extended front list p =
+    (map (λ v. v.built) p.0, ap (map (λ (v : Version). v.built)) p.1 ∙ map-append (λ (v : Version). v.built) front p.0)
+
+-- Of a new door and a seat that had seen all: where the seat's list begins the list that a press has now, the connections of the door are
+-- right over that one, and it begins with the list from before.
+pub door_right : {L N P : Type 0} {held : Held.Ghosts Version} {named : Named.Ghosts N} (link : OfLink.Ghosts L) (told told' : Option (Connections L))
+    (before now : SeatOf Version N P held named) (press press' : PressOf Version N P held named) → NoneCame told → SeesAll press before
+    → ServesDoor link told told' (Served (seen_of before) (seen_of now)) → IsPrefix (seat_versions now) (press_versions press')
+    → Extends (press_maps press) (press_maps press') × ServedRight link (press_limit press) (press_maps press') told'
+door_right link told told' before now press press' none sees s front =
+    let later = maps_extended (seat_versions now) (press_versions press') front in (
+      subst (λ versions. Extends (map (λ (v : Version). v.built) versions) (press_maps press')) sees.0
+          (extends_both (seen_of before).history (seen_of now).history (press_maps press') s.right.continues.history later),
+      subst (λ l. ServedRight link l (press_maps press') told') sees.1
+          (connections_right link told told' (seen_of before) (seen_of now) (press_maps press') none s later),
+    )
+
+-- the same of all posts
+pub posts_right : {Q D L N P : Type 0} {held : Held.Ghosts Version} {named : Named.Ghosts N} (door : Q → D) (seat : Q → SeatOf Version N P held named)
+    (link : OfLink.Ghosts L) (told : D → Option (Connections L)) (xs ys : List Q) (press press' : PressOf Version N P held named)
+    → EachBecame (λ x y. ServesDoor link (told (door x)) (told (door y)) (Served (seen_of (seat x)) (seen_of (seat y)))) xs ys
+    → All (λ x. NoneCame (told (door x))) xs → All (λ x. SeesAll press (seat x)) xs
+    → All (λ y. IsPrefix (seat_versions (seat y)) (press_versions press')) ys
+    → All (λ y. Extends (press_maps press) (press_maps press') × ServedRight link (press_limit press) (press_maps press') (told (door y))) ys
+posts_right door seat link told [] [] press press' became none sees front =
+    All-nil (λ y. Extends (press_maps press) (press_maps press') × ServedRight link (press_limit press) (press_maps press') (told (door y)))
+posts_right door seat link told (x ∷ xs) (y ∷ ys) press press' became none sees front =
+    All-cons (λ y. Extends (press_maps press) (press_maps press') × ServedRight link (press_limit press) (press_maps press') (told (door y))) y ys
+    (door_right link (told (door x)) (told (door y)) (seat x) (seat y) press press' (All-head (λ x. NoneCame (told (door x))) x xs none)
+    (All-head (λ x. SeesAll press (seat x)) x xs sees) became.0
+    (All-head (λ y. IsPrefix (seat_versions (seat y)) (press_versions press')) y ys front))
+    (posts_right door seat link told xs ys press press' became.1 (All-tail (λ x. NoneCame (told (door x))) x xs none)
+    (All-tail (λ x. SeesAll press (seat x)) x xs sees) (All-tail (λ y. IsPrefix (seat_versions (seat y)) (press_versions press')) y ys front))
+posts_right door seat link told [] (y ∷ ys) press press' became none sees front = absurd became
+posts_right door seat link told (x ∷ xs) [] press press' became none sees front = absurd became

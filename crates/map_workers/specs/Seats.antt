@@ -1,20 +1,29 @@
 -- What a seat has served: each connection over the list of versions as it is at the end.
-use Rattle.std.specs.Prelude.{◌≡◌, ℕ, ◌+◌, ◌-◌, ◌^◌, ◌<◌, ◌≤◌, ◌⊎◌, min, List, [], ◌∷◌, ◌++◌, flat_map, length, sum_by, count_by, ⊤}
+use Rattle.std.specs.Prelude.{◌≡◌, ℕ, ◌+◌, ◌-◌, ◌^◌, ◌<◌, ◌≤◌, ◌⊎◌, min, List, [], ◌∷◌, ◌++◌, map, flat_map, length, sum_by, count_by, Option, IfSome, ⊤}
 use Rattle.std.proofs.Common.{refl, sym, arith}
 use Rattle.std.proofs.lemmas.List.{append-nil}
 use Rattle.plain_io.specs.declared.connection.EndKind.TheVariants.{ReadFault, WriteFault, Memory}
+use Rattle.plain_io.specs.declared.link.Link as OfLink
+use Rattle.plain_io.specs.Doors.{Connections}
 use Rattle.plain_io.specs.Links.{HasNone}
+use Rattle.tgap_model.specs.Base.{BaseMap}
+use Rattle.tgap_model.specs.declared.machine.Holds as Held
+use Rattle.version_store.specs.declared.name.StoreName as Named
+use Rattle.version_store.specs.declared.seat.SeatOf.{SeatOf}
+use Rattle.version_store.specs.declared.press.PressOf.{PressOf}
+use Rattle.version_store.specs.Store.{press_versions, press_limit, seat_versions, seat_limit}
+use Rattle.map_version.specs.declared.version.Version.{Version}
 use Rattle.session.specs.Reading.{Follows}
 use Rattle.session.specs.Items.{AreItems, item_bytes}
 use Rattle.session.specs.Outcomes.{Turn, starting, standing, Outcomes, replies}
 use Rattle.session.specs.Versions.{Seen, Continues}
 use Rattle.session.specs.Progress.{items_of, numbers_of, places_of, published_count, tells_behind}
 use Rattle.session.specs.Conversation.{EndsBy}
-use Rattle.workers.specs.Served.{Talk}
+use Rattle.workers.specs.Served.{Talk, Visit, handed_back, talk_of}
 
 -- What was read is these items and a rest, each item has an outcome over the list of versions, and the replies to them were written. How
--- it ended follows from that, and a fault is told only where the link has failed.
-pub record IsConversation (seen : Seen) (talk : Talk) (turns : List Turn) : Type 0 where
+-- it ended follows from that, and a fault is told only where the link has failed. The limit is the number of versions that there may be.
+pub record IsConversation (limit : ℕ) (history : List BaseMap) (talk : Talk) (turns : List Turn) : Type 0 where
   pub rest : List ℕ
   pub read : List ℕ
   pub written : List ℕ
@@ -24,12 +33,12 @@ pub record IsConversation (seen : Seen) (talk : Talk) (turns : List Turn) : Type
   pub told_is : Follows talk.told_before talk.told written
   pub split : read ≡ flat_map item_bytes (items_of turns) ++ rest
   pub items : AreItems rest (items_of turns)
-  pub first : talk.end.first < length seen.history
-  pub outcomes : Outcomes seen.limit seen.history (starting talk.end.first) turns
+  pub first : talk.end.first < length history
+  pub outcomes : Outcomes limit history (starting talk.end.first) turns
   pub last : talk.end.last ≡ (standing (starting talk.end.first) turns).pin
   pub numbers : talk.end.numbers ≡ numbers_of turns
   pub rows : talk.end.rows ≡ places_of turns
-  pub ends : EndsBy talk.end.how (items_of turns) rest written (replies seen.history (starting talk.end.first) 0 turns) talk.ended
+  pub ends : EndsBy talk.end.how (items_of turns) rest written (replies history (starting talk.end.first) 0 turns) talk.ended
   pub read_fault : talk.end.how ≡ ReadFault → 0 < talk.take_faults
   pub write_fault : talk.end.how ≡ WriteFault → 0 < talk.put_faults
 
@@ -42,15 +51,15 @@ pub record IsUnserved (talk : Talk) (turns : List Turn) : Type 0 where
   pub rows : talk.end.rows ≡ []
   pub none : turns ≡ []
 
-abbrev pub IsTalk : Seen → Talk → List Turn → Type 0
-IsTalk seen talk turns = IsConversation seen talk turns ⊎ IsUnserved talk turns
+abbrev pub IsTalk : ℕ → List BaseMap → Talk → List Turn → Type 0
+IsTalk limit history talk turns = IsConversation limit history talk turns ⊎ IsUnserved talk turns
 
 -- each of the connections, by what was handled on it
-abbrev pub AreTalks : Seen → List Talk → List (List Turn) → Type 0
-AreTalks seen [] [] = ⊤
-AreTalks seen (talk ∷ talks) (turns ∷ all) = IsTalk seen talk turns × AreTalks seen talks all
-AreTalks seen [] (turns ∷ all) = ⊥
-AreTalks seen (talk ∷ talks) [] = ⊥
+abbrev pub AreTalks : ℕ → List BaseMap → List Talk → List (List Turn) → Type 0
+AreTalks limit history [] [] = ⊤
+AreTalks limit history (talk ∷ talks) (turns ∷ all) = IsTalk limit history talk turns × AreTalks limit history talks all
+AreTalks limit history [] (turns ∷ all) = ⊥
+AreTalks limit history (talk ∷ talks) [] = ⊥
 
 -- how many versions were published on some connections, and how many replies named this number as the newest to a client that is behind
 abbrev pub published_in : List (List Turn) → ℕ
@@ -65,7 +74,7 @@ behind_in n all = sum_by (λ turns. count_by (tells_behind n) turns) all
 pub record Served (before now : Seen) (talks : List Talk) : Type 0 where
   pub continues : Continues before now
   pub turns : List (List Turn)
-  pub each : AreTalks now talks turns
+  pub each : AreTalks now.limit now.history talks turns
   pub published : now.published ≡ before.published + published_in turns
   pub tellings : (n : ℕ) → min (before.tellings n + behind_in n turns) (2 ^ 64 - 1) ≤ now.tellings n
 
@@ -78,3 +87,26 @@ served_none seen = record {
   published = omega arith;
   tellings = λ n. grind arith;
 }
+
+-- ---- all that a door tells
+
+-- Each link that came was handed back with the end of its connection, and each of these connections is right over this list of versions.
+pub record AreRight {L : Type 0} (link : OfLink.Ghosts L) (limit : ℕ) (history : List BaseMap) (told : Connections L) : Type 0 where
+  pub visits : List (Visit L)
+  pub turns : List (List Turn)
+  pub came : told.came ≡ length visits
+  pub back : told.back ≡ map handed_back visits
+  pub each : AreTalks limit history (map (talk_of link) visits) turns
+
+-- so it is, where the door tells of its connections
+abbrev pub ServedRight : {L : Type 0} → OfLink.Ghosts L → ℕ → List BaseMap → Option (Connections L) → Type 0
+ServedRight link limit history told = IfSome told (AreRight link limit history)
+
+module _ {N P : Type 0} {held : Held.Ghosts Version} {named : Named.Ghosts N} where
+  -- the maps of the published versions
+  abbrev pub press_maps : PressOf Version N P held named → List BaseMap
+  press_maps press = map (λ v. v.built) (press_versions press)
+
+  -- the seat has seen all published versions, and knows how many there may be
+  abbrev pub SeesAll : PressOf Version N P held named → SeatOf Version N P held named → Type 0
+  SeesAll press seat = (seat_versions seat ≡ press_versions press) × (seat_limit seat ≡ press_limit press)

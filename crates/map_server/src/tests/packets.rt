@@ -1,5 +1,5 @@
 //! Packets of a map, and packets that are replayed on slices, over files in memory.
-use super::{TWO_SQUARES, words_of};
+use super::{TWO_SQUARES, no_doors, words_of};
 use crate::run;
 use plain_io::{MemoryFile, MemoryFiles, MemorySink};
 use std::alloc::Global;
@@ -62,7 +62,14 @@ fn packets_there_and_back(rt: HostRuntime) -> Result<(), Fail> {
         let mut out = MemorySink::new(alloc, 1000, List::new(alloc))?;
         let words_asked = words_of(alloc, words)?;
         assert_eq!(rt;
-            run(&rt, alloc, words_asked.as_slice(), &mut files, &mut out),
+            run(
+                &rt,
+                alloc,
+                words_asked.as_slice(),
+                &mut files,
+                &mut out,
+                &mut no_doors(alloc)
+            ),
             status,
             "{words}"
         );

@@ -1,5 +1,5 @@
 //! The program over topologies and rules files in memory.
-use super::{USAGE, first_call, words_of};
+use super::{USAGE, first_call, no_doors, words_of};
 use crate::run;
 use area_listing::{read_rules, write_listing};
 use plain_io::{FileTexts, MemoryFile, MemoryFiles, MemorySink, SureFiles};
@@ -103,7 +103,14 @@ fn worked_topologies(rt: HostRuntime) -> Result<(), Fail> {
         let mut out = MemorySink::new(alloc, 1000, List::new(alloc))?;
         let words_asked = words_of(alloc, words)?;
         assert_eq!(rt;
-            run(&rt, alloc, words_asked.as_slice(), &mut files, &mut out),
+            run(
+                &rt,
+                alloc,
+                words_asked.as_slice(),
+                &mut files,
+                &mut out,
+                &mut no_doors(alloc)
+            ),
             status,
             "{words}"
         );
@@ -172,7 +179,14 @@ fn files_are_loaded_in_order(rt: HostRuntime) -> Result<(), Fail> {
         let mut out = MemorySink::new(alloc, 100, List::new(alloc))?;
         let words = words_of(alloc, words)?;
         assert_eq!(rt;
-            run(&rt, alloc, words.as_slice(), &mut files, &mut out),
+            run(
+                &rt,
+                alloc,
+                words.as_slice(),
+                &mut files,
+                &mut out,
+                &mut no_doors(alloc)
+            ),
             status
         );
         assert_eq!(rt; out.bytes(), text.as_bytes());
@@ -181,7 +195,14 @@ fn files_are_loaded_in_order(rt: HostRuntime) -> Result<(), Fail> {
     let mut out = MemorySink::new(alloc, 100, List::new(alloc))?;
     let words = words_of(alloc, "check map land rules")?;
     assert_eq!(rt;
-        run(&rt, alloc, words.as_slice(), &mut failing, &mut out),
+        run(
+            &rt,
+            alloc,
+            words.as_slice(),
+            &mut failing,
+            &mut out,
+            &mut no_doors(alloc)
+        ),
         3
     );
     assert_eq!(rt; out.bytes(), b"load fault map\n".as_slice());
