@@ -1,0 +1,220 @@
+// The texts of slices, windows and packets, read and written (docs/formats.md). A reader throws BadText with the first line that is not of its form.
+
+const MAX_COUNT = 0xffffffff;
+const MAX_COORDINATE = 2 ** 28;
+
+/** A text that is none of its kind: `line` is the first line, from 1, that is not what must come there. */
+export class BadText extends Error {
+  constructor(line) {
+    super(`line ${line} is not what must come there`);
+    this.line = line;
+  }
+}
+
+/** A number as it is written: the shortest way, in decimal, from `least` to `most`; null for any other word. */
+function numberOf(word, least, most) {
+  if (!/^(0|-?[1-9][0-9]*)$/.test(word ?? "")) return null;
+  const number = Number(word);
+  return number >= least && number <= most ? number : null;
+}
+
+/** The lines of a text, one after the other, each cut into words. */
+class Lines {
+  constructor(text) {
+    this.lines = text.split("\n");
+    this.number = 0;
+  }
+
+  fail() {
+    throw new BadText(this.number);
+  }
+
+  /** The words of the next line, which must begin with `first` and have `count` words after it, or any number. */
+  next(first, count) {
+    this.number += 1;
+    // What stands behind the last line feed is no line.
+    if (this.number >= this.lines.length) this.fail();
+    const words = this.lines[this.number - 1].split(" ");
+    if (words.shift() !== first || (count !== undefined && words.length !== count)) this.fail();
+    return words;
+  }
+
+  bounded(word, least, most) {
+    const number = numberOf(word, least, most);
+    if (number === null) this.fail();
+    return number;
+  }
+
+  count(word) {
+    return this.bounded(word, 0, MAX_COUNT);
+  }
+
+  coordinate(word) {
+    return this.bounded(word, -MAX_COORDINATE, MAX_COORDINATE);
+  }
+
+  point(words, at) {
+    return [this.coordinate(words[at]), this.coordinate(words[at + 1])];
+  }
+
+  /** The line `end`, and nothing after it. */
+  end() {
+    this.next("end", 0);
+    if (this.lines.length !== this.number + 1 || this.lines[this.number] !== "") {
+      this.number += 1;
+      this.fail();
+    }
+  }
+}
+
+function readFaces(lines) {
+  const count = lines.count(lines.next("faces", 1)[0]);
+  const faces = new Map();
+  let last = 0;
+  for (let i = 0; i < count; i++) {
+    const words = lines.next("face", 2);
+    const face = lines.count(words[0]);
+    if (face <= last) lines.fail();
+    faces.set(face, lines.count(words[1]));
+    last = face;
+  }
+  return faces;
+}
+
+function readEdge(lines) {
+  const words = lines.next("edge");
+  if (words.length < 4) lines.fail();
+  const [key, left, right, count] = words.slice(0, 4).map((word) => lines.count(word));
+  if (count < 2 || words.length !== 4 + 2 * count) lines.fail();
+  const points = [];
+  for (let i = 0; i < count; i++) {
+    const point = lines.point(words, 4 + 2 * i);
+    if (i > 0 && samePoint(points[i - 1], point)) lines.fail();
+    points.push(point);
+  }
+  return { key, left, right, points };
+}
+
+function readEdges(lines) {
+  const count = lines.count(lines.next("edges", 1)[0]);
+  const edges = new Map();
+  let last = -1;
+  for (let i = 0; i < count; i++) {
+    const edge = readEdge(lines);
+    if (edge.key <= last) lines.fail();
+    edges.set(edge.key, edge);
+    last = edge.key;
+  }
+  return edges;
+}
+
+export function samePoint(p, q) {
+  return p[0] === q[0] && p[1] === q[1];
+}
+
+/** A slice: `step`, `faces` (class by number) and `edges` (by key: key, left, right, points). */
+export function readSlice(text) {
+  const lines = new Lines(text);
+  const step = lines.count(lines.next("slice", 1)[0]);
+  const slice = { step, faces: readFaces(lines), edges: readEdges(lines) };
+  lines.end();
+  return slice;
+}
+
+/** A window of a slice: as a slice, with its `area` beside it. */
+export function readWindow(text) {
+  const lines = new Lines(text);
+  const words = lines.next("window", 5);
+  const step = lines.count(words[0]);
+  const [x0, y0, x1, y1] = words.slice(1).map((word) => lines.coordinate(word));
+  const slice = { step, area: { x0, y0, x1, y1 }, faces: readFaces(lines), edges: readEdges(lines) };
+  lines.end();
+  return slice;
+}
+
+function readMend(lines) {
+  const [key, putCount, pieceCount] = lines.next("mend", 3).map((word) => lines.count(word));
+  const puts = [];
+  for (let i = 0; i < putCount; i++) {
+    const words = lines.next("put", 3);
+    puts.push({ at: lines.count(words[0]), point: lines.point(words, 1) });
+  }
+  const pieces = [];
+  for (let i = 0; i < pieceCount; i++) {
+    const words = lines.next("piece", 4);
+    const [pieceKey, last, side] = words.slice(0, 3).map((word) => lines.count(word));
+    pieces.push({ key: pieceKey, last, side, turned: lines.bounded(words[3], 0, 1) === 1 });
+  }
+  return { key, puts, pieces };
+}
+
+function readRecord(lines, expected) {
+  const numbers = lines.next("step", 8).map((word) => lines.count(word));
+  const [step, loser, loserClass, winner, winnerClass, made, mendCount, endedCount] = numbers;
+  if (step !== expected) lines.fail();
+  const mends = [];
+  for (let i = 0; i < mendCount; i++) mends.push(readMend(lines));
+  const ended = [];
+  for (let i = 0; i < endedCount; i++) ended.push(readEdge(lines));
+  return { step, loser, loserClass, winner, winnerClass, made, mends, ended };
+}
+
+/** A packet: `from`, `to`, and a record for each step from the first down to the one above the second. */
+export function readPacket(text) {
+  const lines = new Lines(text);
+  const [from, to] = lines.next("packet", 2).map((word) => lines.count(word));
+  if (from < to) lines.fail();
+  const records = [];
+  for (let step = from; step > to; step--) records.push(readRecord(lines, step));
+  lines.end();
+  return { from, to, records };
+}
+
+/** The numbers in the answer to `/info`. */
+export function readInfo(text) {
+  const words = text.trimEnd().split(" ");
+  return Object.fromEntries(["version", "steps", "faces", "arcs", "points"].map((name, i) => [name, Number(words[2 * i + 1])]));
+}
+
+function edgeLine(edge) {
+  return `edge ${edge.key} ${edge.left} ${edge.right} ${edge.points.length} ${edge.points.map((p) => `${p[0]} ${p[1]}`).join(" ")}`;
+}
+
+function sliceLines(first, slice) {
+  const faces = [...slice.faces].sort((a, b) => a[0] - b[0]);
+  const edges = [...slice.edges.values()].sort((a, b) => a.key - b.key);
+  return [
+    first,
+    `faces ${faces.length}`,
+    ...faces.map(([face, ofClass]) => `face ${face} ${ofClass}`),
+    `edges ${edges.length}`,
+    ...edges.map(edgeLine),
+    "end",
+    "",
+  ].join("\n");
+}
+
+export function sliceText(slice) {
+  return sliceLines(`slice ${slice.step}`, slice);
+}
+
+export function windowText(slice) {
+  const { x0, y0, x1, y1 } = slice.area;
+  return sliceLines(`window ${slice.step} ${x0} ${y0} ${x1} ${y1}`, slice);
+}
+
+function recordLines(r) {
+  return [
+    `step ${r.step} ${r.loser} ${r.loserClass} ${r.winner} ${r.winnerClass} ${r.made} ${r.mends.length} ${r.ended.length}`,
+    ...r.mends.flatMap((mend) => [
+      `mend ${mend.key} ${mend.puts.length} ${mend.pieces.length}`,
+      ...mend.puts.map((put) => `put ${put.at} ${put.point[0]} ${put.point[1]}`),
+      ...mend.pieces.map((piece) => `piece ${piece.key} ${piece.last} ${piece.side} ${piece.turned ? 1 : 0}`),
+    ]),
+    ...r.ended.map(edgeLine),
+  ];
+}
+
+export function packetText(packet) {
+  return [`packet ${packet.from} ${packet.to}`, ...packet.records.flatMap(recordLines), "end", ""].join("\n");
+}
