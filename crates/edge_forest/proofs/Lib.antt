@@ -32,5 +32,6 @@ mod StepJoints
 mod StartJoints
 mod Steps
 mod Few
+mod Beside
 pub mod Forests
 pub mod RemovedPoints

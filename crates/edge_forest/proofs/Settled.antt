@@ -82,7 +82,7 @@ module _ (g : Growth) (low : ℕ) (s : MergeStep) (some : 0 < low) (within : low
 
   module _ (keys : List ℕ) (listed : keys ≡ keys_of_both s g) where
     -- a row with the loser or the winner at a side has its key in the lists
-    has_key : (i f : ℕ) → has_row (rows_of g) i ≡ true → (0 < f → Contains (keys_at g.faces.items f) i) → (f ≡ s.loser) ⊎ (f ≡ s.winner) → Contains keys i
+    pub has_key : (i f : ℕ) → has_row (rows_of g) i ≡ true → (0 < f → Contains (keys_at g.faces.items f) i) → (f ≡ s.loser) ⊎ (f ≡ s.winner) → Contains keys i
     has_key i f there has side =
         subst (λ (ks : List ℕ). Contains ks i) (sym listed)
         (Contains-filter (has_row (rows_of g)) (keys_at g.faces.items s.loser ++ keys_at g.faces.items s.winner) i (elim side [
@@ -94,7 +94,7 @@ module _ (g : Growth) (low : ℕ) (s : MergeStep) (some : 0 < low) (within : low
               (subst (λ (n : ℕ). Contains (keys_at g.faces.items n) i) e (has (omega (arith, e, step_is.winner.0))))
         ]) there)
 
-    row_there : (i : ℕ) (r : Current) → row_at (rows_of g) i ≡ Some r → has_row (rows_of g) i ≡ true
+    pub row_there : (i : ℕ) (r : Current) → row_at (rows_of g) i ≡ Some r → has_row (rows_of g) i ≡ true
     row_there i r e = ap (λ (x : Option Current). elim x [ None ↦ false | Some r ↦ true ]) e
 
     -- a label is one of the two, or neither

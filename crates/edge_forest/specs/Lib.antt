@@ -12,3 +12,4 @@ pub mod Start
 pub mod Settle
 pub mod Kept
 pub mod Continued
+pub mod Beside

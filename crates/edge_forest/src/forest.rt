@@ -7,6 +7,7 @@ ghost use Rattle.tgap_model.specs.Base.{same_point};
 ghost use Rattle.tgap_model.specs.Merged.{merged, step_number};
 ghost use Rattle.tgap_model.specs.Chains.{chain_points, chains_at};
 ghost use Rattle.edge_forest.specs.Edges.{IsForestEdge, edge_at, chain_of, alive_edges};
+ghost use Rattle.edge_forest.specs.Beside.{AreBeside};
 ghost use Rattle.edge_forest.specs.Forest.{IsForest, last_step, never, is_gone};
 ghost use Rattle.edge_forest.specs.Continued.{AreContinued};
 ghost use Rattle.edge_forest.specs.Kept.{closed_edge};
@@ -19,7 +20,7 @@ use crate::growth::{Growth, NEVER};
 use crate::net::Net;
 use crate::nodes::Nodes;
 use crate::removed::Removed;
-use crate::step::{grown, make_step};
+use crate::step::{grown, keys_at_both, make_step};
 use crate::walk::{Link, links_of, points_of};
 use std::alloc::Global;
 use std::marker::Model;
@@ -125,6 +126,17 @@ impl Forest {
         make_step(alloc, &mut self.growth, step, low)?;
         self.made = low;
         Ok(())
+    }
+
+    /// The keys of the edges that have not ended and border the loser or the winner of the next step. That of one that borders
+    /// both is given twice.
+    pub fn keys_beside(&self, alloc: Global, step: &MergeStep) -> Result<List<u32>, Memory>
+        requires open { self.now.closed ≡ false }
+        requires more { self.now.made < last_step self.now }
+        requires next { step.now ≡ step_number (merged self.now.base) (self.now.made + 1) }
+        ensures { IfOk result (λ keys. AreBeside self.now step.now keys) }
+    {
+        keys_at_both(alloc, &self.growth, step)
     }
 
     /// Notes these vertices, which are there, as removed at the step that was made last. It takes no memory, and a search

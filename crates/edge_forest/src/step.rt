@@ -53,7 +53,7 @@ fn push_present(keys: &mut List<u32>, net: &Net, listed: &[u32]) -> Result<(), M
 }
 
 /// The keys of the edges at the loser and then of those at the winner.
-fn keys_at_both(alloc: Global, growth: &Growth, step: &MergeStep) -> Result<List<u32>, Memory>
+pub fn keys_at_both(alloc: Global, growth: &Growth, step: &MergeStep) -> Result<List<u32>, Memory>
     requires loser { step.now.loser < length growth.now.faces.items }
     requires winner { step.now.winner < length growth.now.faces.items }
     ensures { IfOk result (λ keys. keys ≡ keys_of_both step.now growth.now) }

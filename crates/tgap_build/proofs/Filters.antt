@@ -9,6 +9,11 @@ pub map_agree : {A B : Type 0} (f g : A → B) (xs : List A) → ((x : A) → Am
 map_agree f g [] h = refl
 map_agree f g (x ∷ xs) h = ap₂ (λ y ys. y ∷ ys) (h x (inl refl)) (map_agree f g xs (λ y m. h y (inr m)))
 
+-- a filter that each member passes
+pub filter_all : {A : Type 0} (p : A → Bool) (xs : List A) → ((x : A) → Among x xs → p x ≡ true) → filter p xs ≡ xs
+filter_all p [] h = refl
+filter_all p (x ∷ xs) h = ap (λ (b : Bool). cond b (x ∷ filter p xs) (filter p xs)) (h x (inl refl)) ∙ ap (λ ys. x ∷ ys) (filter_all p xs (λ y m. h y (inr m)))
+
 -- a filter of a map
 pub filter_map : {A B : Type 0} (p : B → Bool) (f : A → B) (xs : List A) → filter p (map f xs) ≡ map f (filter (λ x. p (f x)) xs)
 filter_map p f [] = refl

@@ -12,7 +12,7 @@ use Rattle.lemmas.proofs.Orders.{nat_lt_order, order_by_key}
 use Rattle.lemmas.proofs.Members.{AllPairs-nil, AllPairs-head, AllPairs-tail, related_members, filter_agree_on, Contains-from_map}
 use Rattle.lemmas.proofs.Sorting.{sorted_cons, sorted_permutation, AllPairs-permutation}
 use Rattle.tgap_model.specs.declared.slice.Edge.{Edge}
-use Rattle.map_laws.proofs.ChainMembers.{Among, any_among, filter_among, among_right}
+use Rattle.map_laws.proofs.ChainMembers.{Among, any_among, filter_among, among_right, append_among}
 use Rattle.map_laws.proofs.Lists.{all_members, members_all, any_from, kept_among, among_kept, map_among, among_map}
 use Rattle.removal_laws.proofs.ChainEnds.{contained, among_contained}
 use Rattle.grid_index.specs.Live.{keys, without_keys, AreLive, IsLiveEdge}
@@ -26,7 +26,7 @@ pairs_mapped R f (x ∷ xs) h =
     AllPairs-cons R (f x) (map f xs) (All-map (R (f x)) f xs (AllPairs-head (λ x y. R (f x) (f y)) x xs h))
     (pairs_mapped R f xs (AllPairs-tail (λ x y. R (f x) (f y)) x xs h))
 
-pairs_across : {A : Type 0} (R : A → A → Type 0) (xs ys : List A) → AllPairs R (xs ++ ys) → (x y : A) → Among x xs → Among y ys → R x y
+pub pairs_across : {A : Type 0} (R : A → A → Type 0) (xs ys : List A) → AllPairs R (xs ++ ys) → (x y : A) → Among x xs → Among y ys → R x y
 pairs_across R [] ys h x y m n = absurd m
 pairs_across R (z ∷ xs) ys h x y (inl e) n = subst (λ w. R w y) e (members_all (R z) (xs ++ ys) y (AllPairs-head R z (xs ++ ys) h) (among_right xs ys y n))
 pairs_across R (z ∷ xs) ys h x y (inr m) n = pairs_across R xs ys (AllPairs-tail R z (xs ++ ys) h) x y m n
@@ -34,6 +34,16 @@ pairs_across R (z ∷ xs) ys h x y (inr m) n = pairs_across R xs ys (AllPairs-ta
 pairs_behind : {A : Type 0} (R : A → A → Type 0) (xs ys : List A) → AllPairs R (xs ++ ys) → AllPairs R ys
 pairs_behind R [] ys h = h
 pairs_behind R (x ∷ xs) ys h = pairs_behind R xs ys (AllPairs-tail R x (xs ++ ys) h)
+
+pub pairs_both : {A : Type 0} (R : A → A → Type 0) (xs ys : List A) → AllPairs R xs → AllPairs R ys → ((x y : A) → Among x xs → Among y ys → R x y) → AllPairs R (xs ++ ys)
+pairs_both R [] ys a b across = b
+pairs_both R (x ∷ xs) ys a b across =
+    AllPairs-cons R x (xs ++ ys)
+    (all_members (R x) (xs ++ ys) (λ y m. elim (append_among xs ys y m) [
+      | inl n ↦ members_all (R x) xs y (AllPairs-head R x xs a) n
+      | inr n ↦ across x y (inl refl) n
+    ]))
+    (pairs_both R xs ys (AllPairs-tail R x xs a) b (λ y z m n. across y z (inr m) n))
 
 -- ---- ascending edges
 
@@ -145,9 +155,17 @@ module _ (edges : List Edge) (a : Ascend edges) (p : Edge → Bool) where
 
     -- then all are there
     pub replaced : (gone : List ℕ) (new : List Edge) → gone ≡ keys (filter p edges) → new ≡ come
-        → (after : List Edge) → AreLive after → IsPermutation (without_keys gone edges ++ new) after → after ≡ all
-    replaced gone new gone_is new_is after alive h =
+        → (after : List Edge) → Ascend after → IsPermutation (without_keys gone edges ++ new) after → after ≡ all
+    replaced gone new gone_is new_is after ascend h =
         let same : without_keys gone edges ++ new ≡ kept ++ come
         = ap₂ (λ (ks : List ℕ) (es : List Edge). without_keys ks edges ++ es) gone_is new_is ∙ ap (λ (es : List Edge). es ++ come) left_is in
-        ascending_same after all alive.ascending live.ascending
+        ascending_same after all ascend live.ascending
         (IsPermutation-trans after (kept ++ come) all (IsPermutation-sym (kept ++ come) after (subst (λ (es : List Edge). IsPermutation es after) same h)) moved)
+
+-- what may come has other keys than what is left
+pub keys_apart : (edges : List Edge) (gone : List ℕ) (come : List Edge) → Ascend edges → IsReplacement edges gone come → AllPairs (λ (e f : Edge). e.key ≢ f.key) (without_keys gone edges ++ come)
+keys_apart edges gone come ascend h =
+    pairs_both (λ (e f : Edge). e.key ≢ f.key) (without_keys gone edges) come
+    (λ i j d l s e. absurd (omega (arith, AllPairs-filter (λ (e f : Edge). e.key < f.key) (λ e. not (list_any (λ k. k == e.key) gone)) edges ascend i j d l s, e)))
+    h.distinct (λ e f m n same. members_all (λ (f : Edge). ¬ (Contains (keys (without_keys gone edges)) f.key)) come f h.fresh n
+    (subst (Contains (keys (without_keys gone edges))) same (contained (keys (without_keys gone edges)) e.key (among_map (λ (e : Edge). e.key) (without_keys gone edges) e m))))

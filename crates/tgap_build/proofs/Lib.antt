@@ -5,10 +5,12 @@ pub mod Swept
 pub mod Lost
 pub mod KeyedEdges
 pub mod EachLive
+pub mod EdgeTables
 pub mod Alive
 pub mod Numbers
 pub mod Filters
 pub mod Behind
+pub mod Beside
 pub mod Untouched
 pub mod StepEdges
 pub mod Taken

@@ -23,7 +23,7 @@ fn has_side(face: u32, edge: &Edge) -> bool
 }
 
 /// Whether the edge borders a face that the step merges.
-fn is_touched(step: &MergeStep, edge: &Edge) -> bool
+pub fn is_touched(step: &MergeStep, edge: &Edge) -> bool
     ensures { result ≡ is_touched step.now edge.now }
 {
     has_side(step.loser, edge) || has_side(step.winner, edge)
@@ -50,20 +50,6 @@ pub fn copied_edges(alloc: Global, edges: &[Edge]) -> Result<List<Edge>, Memory>
         copy.push(copied_edge(alloc, edge)?)?;
     }
     Ok(copy)
-}
-
-/// Copies of those of these edges that border a face that the step merges. Of the others the two faces are looked at, and
-/// nothing else.
-pub fn touched_edges(alloc: Global, step: &MergeStep, edges: &[Edge]) -> Result<List<Edge>, Memory>
-    ensures { IfOk result (λ touched. touched ≡ filter (is_touched step.now) edges.now) }
-{
-    let mut touched = List::new(alloc);
-    for edge in edges {
-        if is_touched(step, edge) {
-            touched.push(copied_edge(alloc, edge)?)?;
-        }
-    }
-    Ok(touched)
 }
 
 impl FaceEdges {

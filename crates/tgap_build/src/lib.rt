@@ -13,6 +13,7 @@ ghost use Rattle.tgap_build.specs.Built.{HasRemoved, all_records};
 mod boxed;
 mod boxes;
 mod built;
+mod edge_table;
 mod edges;
 mod face_edges;
 mod holders;
@@ -23,6 +24,7 @@ mod parts;
 mod pieces;
 mod point_set;
 mod removal;
+mod sought;
 
 pub use boxed::BoxedForest;
 pub use built::Built;

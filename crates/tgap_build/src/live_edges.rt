@@ -1,6 +1,6 @@
 //! The edges of the last step, which are kept while the history is run.
 
-ghost use Rattle.std.specs.Prelude.{◌≡◌, ◌<◌, ◌≤◌, ◌-◌, ◌++◌, false, map, filter, length, IsPermutation, All, IfOk, OnOk};
+ghost use Rattle.std.specs.Prelude.{◌≡◌, ◌<◌, ◌≤◌, ◌-◌, ◌++◌, ℕ, false, map, filter, length, IsPermutation, All, AllPairs, IfOk, OnOk};
 ghost use Rattle.tgap_model.specs.History.{relabel, history_of};
 ghost use Rattle.tgap_model.specs.Merged.{merged, step_number};
 ghost use Rattle.tgap_model.specs.Removals.{has_side, without, removals_to};
@@ -10,24 +10,28 @@ ghost use Rattle.face_tree.specs.Tree.{face_history};
 ghost use Rattle.edge_forest.specs.Edges.{edge_at, chain_of, is_alive};
 ghost use Rattle.edge_forest.specs.Forest.{IsForest};
 ghost use Rattle.tgap_build.specs.Built.{HasRemoved};
+ghost use Rattle.tgap_build.specs.EdgeTable.{IsSought};
 ghost use Rattle.tgap_build.specs.Holders.{AreHolders, all_held};
 ghost use Rattle.tgap_build.specs.Running.{AreRunning, AreBehind, born, number_of, is_present, is_touched, relabelled, IsReplacement, noted, less, has_any};
 
+use crate::edge_table::EdgeTable;
 use crate::edges::{edges_of, push_edges};
 use crate::face_edges::{FaceEdges, copied_edges};
 use crate::holders::{Holder, note_holders};
 use crate::point_set::PointSet;
+use crate::sought::{sought_after, sought_among};
 use edge_forest::Forest;
 use face_tree::FaceTree;
 use grid_index::Live;
 use std::alloc::Global;
 use tgap_model::{Edge, List, Memory, MergeStep, Removal};
 
-/// The edges after some steps of the history, for each the number that it has in the forest, at the place of its key, and for
-/// each arc of theirs the edge that holds it.
+/// The edges after some steps of the history, where vertices are removed a look-up of their segments, for each edge the number
+/// that it has in the forest, at the place of its key, and for each arc of theirs the edge that holds it.
 #[derive(Debug, Drop)]
 pub struct LiveEdges {
-    pub edges: Live,
+    pub edges: EdgeTable,
+    pub sought: Option<Live>,
     pub numbers: Vec<u32>,
     pub holders: Vec<Holder>,
 }
@@ -158,16 +162,23 @@ fn losses(alloc: Global, gone: &PointSet, edges: &[Edge]) -> Result<Change, Memo
     Ok(change)
 }
 
-/// Takes edges out and puts others in. The look at the edges, which costs nothing, tells that they stand in order of key again.
-fn replace(alloc: Global, edges: &mut Live, change: Change) -> Result<(), Memory>
-    requires { IsReplacement edges.old change.gone change.come }
+/// Takes edges out and puts others in.
+fn replace(
+    alloc: Global,
+    edges: &mut EdgeTable,
+    sought: &mut Option<Live>,
+    change: Change,
+) -> Result<(), Memory>
+    requires change { IsReplacement edges.old change.gone change.come }
+    requires ascending { AllPairs (λ e f. e.key < f.key) edges.old }
+    requires sought { (ratio : ℕ) × IsSought ratio edges.old sought.old }
     ensures moved { OnOk result (IsPermutation (without_keys change.gone edges.old ++ change.come) edges.new) }
-    ensures live { OnOk result (AreLive edges.new) }
+    ensures ascending { OnOk result (AllPairs (λ e f. e.key < f.key) edges.new) }
+    ensures sought { (ratio : ℕ) → IsSought ratio edges.old sought.old → OnOk result (IsSought ratio edges.new sought.new) }
 {
     let Change { gone, come } = change;
-    edges.replace(alloc, &gone, come)?;
-    let _ = edges.edges();
-    Ok(())
+    *sought = sought_after(alloc, sought.take(), &gone, come.as_slice())?;
+    edges.replace(gone.as_slice(), come)
 }
 
 impl LiveEdges {
@@ -179,6 +190,7 @@ impl LiveEdges {
         requires history { tree.now ≡ face_history (merged forest.now.base) }
         requires removed { HasRemoved forest.now 0 }
         ensures running { IfOk result (λ live. AreRunning forest.now 0 (removals_to (merged forest.now.base) 0) live.edges live.numbers.items) }
+        ensures sought { IfOk result (λ live. IsSought forest.now.base.rules.ratio live.edges live.sought) }
         ensures holders { IfOk result (λ live. AreHolders (merged forest.now.base) 0 live.holders.items) }
     {
         let ids = forest.present(alloc)?;
@@ -192,8 +204,10 @@ impl LiveEdges {
         };
         let mut holders = vec![in alloc; none; arcs]?;
         note_holders(alloc, forest, ids.as_slice(), &mut holders)?;
+        let sought = sought_among(alloc, forest.base().rules().ratio, &edges)?;
         Ok(LiveEdges {
-            edges: Live::of(alloc, &edges)?,
+            edges: EdgeTable::of(alloc, edges)?,
+            sought,
             numbers,
             holders,
         })
@@ -201,8 +215,8 @@ impl LiveEdges {
 
     /// Brings the edges up to step number k, which the forest has made, and gives those that then border its new face. The forest
     /// had the first `old` edges before, and `touched` are copies of those that border the step's loser or its winner: no other
-    /// edge changes. The time is that of the points of those that go or come, and of the change of the list, in which a key that
-    /// goes for good costs a pass.
+    /// edge changes. The time is that of the points of those that go or come, and where the segments can be looked up, of a pass
+    /// over the edges.
     pub fn merge(
         &mut self,
         alloc: Global,
@@ -222,7 +236,9 @@ impl LiveEdges {
         requires old { old ≤ length forest.now.edges }
         requires behind { AreBehind forest.now k old (removals_to (merged forest.now.base) (k - 1)) self.old.edges self.old.numbers.items }
         requires touched { touched ≡ filter (is_touched step.now) self.old.edges }
+        requires sought { IsSought forest.now.base.rules.ratio self.old.edges self.old.sought }
         ensures running { OnOk result (AreRunning forest.now k (removals_to (merged forest.now.base) (k - 1)) self.new.edges self.new.numbers.items) }
+        ensures sought { OnOk result (IsSought forest.now.base.rules.ratio self.new.edges self.new.sought) }
         ensures holders { OnOk result (self.new.holders ≡ self.old.holders) }
         ensures face { IfOk result (λ border. border.face ≡ step.now.made) }
         ensures border { IfOk result (λ border. border.edges ≡ filter (has_side border.face) self.new.edges) }
@@ -234,7 +250,12 @@ impl LiveEdges {
         // They all border the new face. The forest does not tell so, and a look at their sides does.
         let border = FaceEdges::among(step.made, come);
         let come = copied_edges(alloc, border.edges.as_slice())?;
-        replace(alloc, &mut self.edges, Change { gone, come })?;
+        replace(
+            alloc,
+            &mut self.edges,
+            &mut self.sought,
+            Change { gone, come },
+        )?;
         note_numbers(forest, &mut self.numbers, born.as_slice());
         Ok(border)
     }
@@ -246,10 +267,13 @@ impl LiveEdges {
         border: &FaceEdges,
         removals: &List<Removal>,
     ) -> Result<(), Memory>
+        requires ascending { AllPairs (λ e f. e.key < f.key) self.old.edges }
+        requires sought { (ratio : ℕ) × IsSought ratio self.old.edges self.old.sought }
         requires live { AreLive (edges_less removals.now self.old.edges) }
         requires border { border.now.edges ≡ filter (has_side border.now.face) self.old.edges }
         requires others { All (λ e. has_side border.now.face e ≡ false → without removals.now e.points ≡ e.points) self.old.edges }
         ensures edges { OnOk result (self.new.edges ≡ edges_less removals.now self.old.edges) }
+        ensures sought { (ratio : ℕ) → IsSought ratio self.old.edges self.old.sought → OnOk result (IsSought ratio self.new.edges self.new.sought) }
         ensures numbers { self.new.numbers ≡ self.old.numbers }
         ensures holders { self.new.holders ≡ self.old.holders }
     {
@@ -258,7 +282,7 @@ impl LiveEdges {
         }
         let gone = PointSet::of(alloc, removals.as_slice())?;
         let change = losses(alloc, &gone, border.edges.as_slice())?;
-        replace(alloc, &mut self.edges, change)?;
+        replace(alloc, &mut self.edges, &mut self.sought, change)?;
         Ok(())
     }
 
@@ -267,6 +291,7 @@ impl LiveEdges {
         requires old { old ≤ length forest.now.edges }
         requires room { All (λ i. All (λ d. d.arc < length self.old.holders.items) (chain_of forest.now.edges i)) (born forest.now old k) }
         ensures edges { self.new.edges ≡ self.old.edges }
+        ensures sought { self.new.sought ≡ self.old.sought }
         ensures numbers { self.new.numbers ≡ self.old.numbers }
         ensures holders { OnOk result (self.new.holders.items ≡ all_held forest.now.edges (born forest.now old k) self.old.holders.items) }
     {

@@ -7,18 +7,19 @@ ghost use Rattle.tgap_model.specs.Records.{step_record};
 ghost use Rattle.face_tree.specs.Tree.{face_history};
 ghost use Rattle.edge_forest.specs.Forest.{last_step};
 ghost use Rattle.tgap_build.specs.Built.{HasRemoved};
+ghost use Rattle.tgap_build.specs.EdgeTable.{IsSought};
 ghost use Rattle.tgap_build.specs.Holders.{AreHolders};
 ghost use Rattle.tgap_build.specs.Running.{AreRunning};
 
-use crate::face_edges::{FaceEdges, touched_edges};
+use crate::face_edges::FaceEdges;
 use crate::live_edges::LiveEdges;
 use crate::mends::{ended_edges, mends_of};
 use crate::point_set::PointSet;
+use crate::sought::swept;
 use edge_forest::Forest;
 use face_tree::FaceTree;
 use std::alloc::Global;
 use tgap_model::{List, Memory, Mend, MergeStep, StepRecord};
-use vertex_drop::sweep;
 
 /// Takes out of the forest and of the edges the vertices that the last step, number k, removes: those of the edges that border
 /// its new face, which are given. It gives the mends of the step. Twice the area of the step's loser is given, and the holders of
@@ -43,6 +44,7 @@ fn remove_vertices(
     requires ratio { ratio ≡ forest.old.base.rules.ratio }
     requires removed { HasRemoved forest.old (k - 1) }
     requires running { AreRunning forest.old k (removals_to (merged forest.old.base) (k - 1)) live.old.edges live.old.numbers.items }
+    requires sought { IsSought forest.old.base.rules.ratio live.old.edges live.old.sought }
     requires holders { AreHolders (merged forest.old.base) (k - 1) live.old.holders.items }
     requires face { border.now.face ≡ step.now.made }
     requires border { border.now.edges ≡ filter (has_side border.now.face) live.old.edges }
@@ -53,9 +55,10 @@ fn remove_vertices(
     ensures edges { OnOk result (forest.new.edges ≡ forest.old.edges) }
     ensures removed { OnOk result (HasRemoved forest.new k) }
     ensures running { OnOk result (AreRunning forest.new k (removals_to (merged forest.old.base) k) live.new.edges live.new.numbers.items) }
+    ensures sought { OnOk result (IsSought forest.old.base.rules.ratio live.new.edges live.new.sought) }
     ensures holders { OnOk result (live.new.holders ≡ live.old.holders) }
 {
-    let removals = sweep(alloc, &live.edges, step.made, loser_area, ratio, k)?;
+    let removals = swept(alloc, &live.sought, step.made, loser_area, ratio, k)?;
     let gone = PointSet::of(alloc, removals.as_slice())?;
     let bordering = border.edges.as_slice();
     let mends = mends_of(alloc, tree, forest, live, step, bordering, &gone, k - 1)?;
@@ -65,9 +68,8 @@ fn remove_vertices(
 }
 
 /// Makes step number k of the history in the forest, takes out what it removes, and gives its record. The edges are those
-/// before the step, and then those after it. Twice the area of the step's loser is given. The record takes the time of one look
-/// at the faces of each edge, and of a search among the points of the map for each point of the arcs of those that border the new
-/// face.
+/// before the step, and then those after it. Twice the area of the step's loser is given. The record takes the time of a search
+/// among the points of the map for each point of the arcs of the edges that border the new face.
 pub fn make_step(
     alloc: Global,
     tree: &FaceTree,
@@ -86,6 +88,7 @@ pub fn make_step(
     requires area { loser_area ≡ face_area (merged forest.old.base) (k - 1) step.now.loser }
     requires removed { HasRemoved forest.old (k - 1) }
     requires running { AreRunning forest.old (k - 1) (removals_to (merged forest.old.base) (k - 1)) live.old.edges live.old.numbers.items }
+    requires sought { IsSought forest.old.base.rules.ratio live.old.edges live.old.sought }
     requires holders { AreHolders (merged forest.old.base) (k - 1) live.old.holders.items }
     ensures record { IfOk result (λ r. r ≡ step_record (merged forest.old.base) k) }
     ensures base { OnOk result (forest.new.base ≡ forest.old.base) }
@@ -93,9 +96,11 @@ pub fn make_step(
     ensures open { OnOk result (forest.new.closed ≡ false) }
     ensures removed { OnOk result (HasRemoved forest.new k) }
     ensures running { OnOk result (AreRunning forest.new k (removals_to (merged forest.old.base) k) live.new.edges live.new.numbers.items) }
+    ensures sought { OnOk result (IsSought forest.old.base.rules.ratio live.new.edges live.new.sought) }
     ensures holders { OnOk result (AreHolders (merged forest.old.base) k live.new.holders.items) }
 {
-    let touched = touched_edges(alloc, step, live.edges.edges().as_slice())?;
+    let keys = forest.keys_beside(alloc, step)?;
+    let touched = live.edges.touched(alloc, step, keys)?;
     let ended = ended_edges(alloc, step, touched.as_slice())?;
     let old = forest.count();
     forest.merge(alloc, step)?;

@@ -4,6 +4,7 @@ use Rattle.tgap_model.specs.Merged.{merged}
 use Rattle.tgap_model.specs.Removals.{removals_to}
 use Rattle.tgap_model.specs.Records.{step_record}
 use Rattle.tgap_build.specs.Built.{HasRemoved}
+use Rattle.tgap_build.specs.EdgeTable.{IsSought}
 use Rattle.tgap_build.specs.Holders.{AreHolders}
 use Rattle.tgap_build.specs.Running.{AreRunning}
 use Rattle.tgap_build.proofs.sweep_all.Given as goal
@@ -16,6 +17,7 @@ invariant-loop-i l = record {
   unclosed : l.forest.closed ≡ false;
   removed : HasRemoved l.forest l.i;
   running : AreRunning l.forest l.i (removals_to (merged l.forest.base) l.i) l.live.edges l.live.numbers.items;
+  sought : IsSought l.forest.base.rules.ratio l.live.edges l.live.sought;
   holders : AreHolders (merged l.forest.base) l.i l.live.holders.items;
   records : l.records ≡ map (step_record (merged l.fn.forest.base)) (range_with_len 1 l.i);
 }

@@ -15,8 +15,9 @@ use Rattle.edge_forest.specs.Continued.{AreContinued}
 use Rattle.edge_forest.specs.Edges.{chain_of}
 use Rattle.tgap_build.specs.declared.holders.Holder.{Holder}
 use Rattle.tgap_build.specs.Holders.{AreHolders, all_held}
-use Rattle.tgap_build.specs.Running.{AreBehind, born, is_touched}
+use Rattle.tgap_build.specs.Running.{AreBehind, born}
 use Rattle.tgap_build.proofs.Behind.{are_behind}
+use Rattle.tgap_build.proofs.Beside.{touched_listed}
 use Rattle.tgap_build.proofs.HolderTables.{born_held, holders_next}
 use Rattle.tgap_build.proofs.StepFaces.{step_faces}
 use Rattle.tgap_build.proofs.Untouched.{between_touched}
@@ -42,8 +43,12 @@ merge-requires-2-clause-behind c =
     (are_behind f g c.requires.running.forest c.base.ensures.forest k c.requires.some c.requires.made base c.in_ok-merge.ensures.continued
     (removals_to (merged f.base) (k - 1)) edges table c.requires.running))
 
-pub merge-requires-2-clause-touched : goal.merge-requires-2-clause-touched
-merge-requires-2-clause-touched c = c.in_ok-touched.ensures ∙ ap (filter (is_touched c.args.step.now)) (c.as_slice.ensures ∙ c.edges.ensures.value)
+-- the touched edges are among those that the forest lists
+pub touched-requires : goal.touched-requires
+touched-requires c =
+    let f = c.args.forest.now in
+    touched_listed f c.requires.running.forest (c.args.k - 1) c.requires.made (removals_to (merged f.base) (c.args.k - 1)) c.args.live.now.edges c.requires.running.edges
+    c.args.step.now c.in_ok-keys.keys c.in_ok-keys.ensures
 
 -- the table of holders stays as it was before the step, until the new edges are noted
 pub hold-requires-clause-room : goal.hold-requires-clause-room
@@ -97,7 +102,7 @@ returns-clause-record c =
     let s = c.args.step.now in
     let between = filter (is_edge_between s.loser s.winner) in
     let ended = c.in_ok-ended.ensures
-    ∙ ap between (c.as_slice-2.ensures ∙ c.in_ok-touched.ensures ∙ ap (filter (is_touched s)) (c.as_slice.ensures ∙ c.edges.ensures.value))
+    ∙ ap between (c.as_slice.ensures ∙ c.in_ok-touched.ensures)
     ∙ between_touched s c.args.live.now.edges ∙ ap between c.requires.running.edges in
     let mends = c.in_ok-mends.ensures.mends ∙ ap (λ (m : BaseMap). (step_record (merged m) c.args.k).mends) c.in_ok-merge.ensures.base in
     let classes = ap (λ (t : FaceHistory). t.classes) c.requires.history in

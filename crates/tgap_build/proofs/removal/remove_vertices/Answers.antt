@@ -1,5 +1,5 @@
 -- What goes is what the step removes, so it can be noted, and the other edges do not have it; and then the edges are those after it.
-use Rattle.std.proofs.Common.{◌≡◌, ◌∙◌, ℕ, ◌-◌, ◌≤◌, false, ◌&&◌, ◌||◌, nat_le, List, filter, length, All, sym, ap, ap₂, subst, arith}
+use Rattle.std.proofs.Common.{◌≡◌, ◌∙◌, ℕ, ◌-◌, ◌≤◌, false, ◌&&◌, ◌||◌, nat_le, List, filter, length, All, AllPairs, ◌<◌, sym, ap, ap₂, subst, arith}
 use Rattle.std.specs.Prelude.{flat_map}
 use Rattle.std.specs.List.{list_any}
 use Rattle.std.specs.Global.{Vec}
@@ -17,8 +17,9 @@ use Rattle.removal_laws.specs.StandLaws.{edges_less}
 use Rattle.removal_laws.specs.Trace.{edges_before_sweep}
 use Rattle.grid_index.specs.Live.{AreLive}
 use Rattle.edge_forest.specs.Forest.{is_gone}
+use Rattle.tgap_build.specs.EdgeTable.{IsSought}
 use Rattle.tgap_build.specs.Mends.{IsCountable, needed_mends}
-use Rattle.tgap_build.proofs.EachLive.{after_live}
+use Rattle.tgap_build.proofs.EachLive.{after_live, ascending}
 use Rattle.tgap_build.proofs.ReadMends.{now_is, countable, mends_read}
 use Rattle.tgap_build.proofs.Removed.{step_removed}
 use Rattle.tgap_build.proofs.Run.{running_less}
@@ -36,7 +37,8 @@ remove-requires-clause-steps c =
     let live = c.requires.running.edges in
     let removals = c.in_ok-removals.removals in
     let area = to_z-of_z w128 c.args.loser_area c.ranges.loser_area ∙ c.requires.area in
-    subst (λ (n : ℕ). All (λ (r : Removal). r.step ≡ n) removals) (sym c.requires.made) (list_steps f k base planar c.requires.some within c.requires.removed c.args.live.now.edges live _ _ _ removals c.requires.ratio (ap (λ (s : MergeStep). s.made) c.requires.step) area c.in_ok-removals.ensures)
+    let told = c.in_ok-removals.ensures c.args.live.now.edges (subst (λ (n : ℕ). IsSought n c.args.live.now.edges c.args.live.now.sought) (sym c.requires.ratio) c.requires.sought) in
+    subst (λ (n : ℕ). All (λ (r : Removal). r.step ≡ n) removals) (sym c.requires.made) (list_steps f k base planar c.requires.some within c.requires.removed c.args.live.now.edges live _ _ _ removals c.requires.ratio (ap (λ (s : MergeStep). s.made) c.requires.step) area told)
 
 pub remove-requires-clause-apart : goal.remove-requires-clause-apart
 remove-requires-clause-apart c =
@@ -48,7 +50,8 @@ remove-requires-clause-apart c =
     let live = c.requires.running.edges in
     let removals = c.in_ok-removals.removals in
     let area = to_z-of_z w128 c.args.loser_area c.ranges.loser_area ∙ c.requires.area in
-    list_apart f k base planar c.requires.some within c.requires.removed c.args.live.now.edges live _ _ _ removals c.requires.ratio (ap (λ (s : MergeStep). s.made) c.requires.step) area c.in_ok-removals.ensures
+    let told = c.in_ok-removals.ensures c.args.live.now.edges (subst (λ (n : ℕ). IsSought n c.args.live.now.edges c.args.live.now.sought) (sym c.requires.ratio) c.requires.sought) in
+    list_apart f k base planar c.requires.some within c.requires.removed c.args.live.now.edges live _ _ _ removals c.requires.ratio (ap (λ (s : MergeStep). s.made) c.requires.step) area told
 
 pub remove-requires-clause-there : goal.remove-requires-clause-there
 remove-requires-clause-there c =
@@ -60,7 +63,8 @@ remove-requires-clause-there c =
     let live = c.requires.running.edges in
     let removals = c.in_ok-removals.removals in
     let area = to_z-of_z w128 c.args.loser_area c.ranges.loser_area ∙ c.requires.area in
-    list_there f k base planar c.requires.some within c.requires.removed c.args.live.now.edges live _ _ _ removals c.requires.ratio (ap (λ (s : MergeStep). s.made) c.requires.step) area c.in_ok-removals.ensures
+    let told = c.in_ok-removals.ensures c.args.live.now.edges (subst (λ (n : ℕ). IsSought n c.args.live.now.edges c.args.live.now.sought) (sym c.requires.ratio) c.requires.sought) in
+    list_there f k base planar c.requires.some within c.requires.removed c.args.live.now.edges live _ _ _ removals c.requires.ratio (ap (λ (s : MergeStep). s.made) c.requires.step) area told
 
 pub remove-requires-clause-left : goal.remove-requires-clause-left
 remove-requires-clause-left c =
@@ -72,7 +76,8 @@ remove-requires-clause-left c =
     let live = c.requires.running.edges in
     let removals = c.in_ok-removals.removals in
     let area = to_z-of_z w128 c.args.loser_area c.ranges.loser_area ∙ c.requires.area in
-    subst (λ (n : ℕ). All (λ (r : Removal). is_gone f n r.point ≡ false) removals) (sym c.requires.made) (list_left f k base planar c.requires.some within c.requires.removed c.args.live.now.edges live _ _ _ removals c.requires.ratio (ap (λ (s : MergeStep). s.made) c.requires.step) area c.in_ok-removals.ensures)
+    let told = c.in_ok-removals.ensures c.args.live.now.edges (subst (λ (n : ℕ). IsSought n c.args.live.now.edges c.args.live.now.sought) (sym c.requires.ratio) c.requires.sought) in
+    subst (λ (n : ℕ). All (λ (r : Removal). is_gone f n r.point ≡ false) removals) (sym c.requires.made) (list_left f k base planar c.requires.some within c.requires.removed c.args.live.now.edges live _ _ _ removals c.requires.ratio (ap (λ (s : MergeStep). s.made) c.requires.step) area told)
 
 pub remove-requires-2-clause-live : goal.remove-requires-2-clause-live
 remove-requires-2-clause-live c =
@@ -84,7 +89,8 @@ remove-requires-2-clause-live c =
     let live = c.requires.running.edges in
     let removals = c.in_ok-removals.removals in
     let area = to_z-of_z w128 c.args.loser_area c.ranges.loser_area ∙ c.requires.area in
-    let is = list_is f k base planar c.requires.some within c.requires.removed c.args.live.now.edges live _ _ _ removals c.requires.ratio (ap (λ (s : MergeStep). s.made) c.requires.step) area c.in_ok-removals.ensures in
+    let told = c.in_ok-removals.ensures c.args.live.now.edges (subst (λ (n : ℕ). IsSought n c.args.live.now.edges c.args.live.now.sought) (sym c.requires.ratio) c.requires.sought) in
+    let is = list_is f k base planar c.requires.some within c.requires.removed c.args.live.now.edges live _ _ _ removals c.requires.ratio (ap (λ (s : MergeStep). s.made) c.requires.step) area told in
     subst AreLive (sym (ap (edges_less removals) live ∙ taken_is f.base base planar k c.requires.some within removals is)) (after_live f.base base planar k within)
 
 pub remove-requires-2-clause-others : goal.remove-requires-2-clause-others
@@ -97,7 +103,8 @@ remove-requires-2-clause-others c =
     let live = c.requires.running.edges in
     let removals = c.in_ok-removals.removals in
     let area = to_z-of_z w128 c.args.loser_area c.ranges.loser_area ∙ c.requires.area in
-    let is = list_is f k base planar c.requires.some within c.requires.removed c.args.live.now.edges live _ _ _ removals c.requires.ratio (ap (λ (s : MergeStep). s.made) c.requires.step) area c.in_ok-removals.ensures in
+    let told = c.in_ok-removals.ensures c.args.live.now.edges (subst (λ (n : ℕ). IsSought n c.args.live.now.edges c.args.live.now.sought) (sym c.requires.ratio) c.requires.sought) in
+    let is = list_is f k base planar c.requires.some within c.requires.removed c.args.live.now.edges live _ _ _ removals c.requires.ratio (ap (λ (s : MergeStep). s.made) c.requires.step) area told in
     subst (All (λ (e : Edge). has_side c.args.border.now.face e ≡ false → without removals e.points ≡ e.points)) (sym live)
     (subst (λ (n : ℕ). All (λ (e : Edge). has_side n e ≡ false → without removals e.points ≡ e.points) (edges_before_sweep (merged f.base) k)) (sym (c.requires.face ∙ ap (λ (s : MergeStep). s.made) c.requires.step))
     (others_stay f.base base planar k c.requires.some within removals is))
@@ -112,7 +119,8 @@ returns-clause-removed c =
     let live = c.requires.running.edges in
     let removals = c.in_ok-removals.removals in
     let area = to_z-of_z w128 c.args.loser_area c.ranges.loser_area ∙ c.requires.area in
-    let is = list_is f k base planar c.requires.some within c.requires.removed c.args.live.now.edges live _ _ _ removals c.requires.ratio (ap (λ (s : MergeStep). s.made) c.requires.step) area c.in_ok-removals.ensures in
+    let told = c.in_ok-removals.ensures c.args.live.now.edges (subst (λ (n : ℕ). IsSought n c.args.live.now.edges c.args.live.now.sought) (sym c.requires.ratio) c.requires.sought) in
+    let is = list_is f k base planar c.requires.some within c.requires.removed c.args.live.now.edges live _ _ _ removals c.requires.ratio (ap (λ (s : MergeStep). s.made) c.requires.step) area told in
     step_removed f c.remove.new.self k base planar c.requires.some within c.remove.ensures.base c.requires.removed (λ i p.
     c.remove.ensures.gone i p
     ∙ ap₂ (λ (n : ℕ) (rs : List Removal). is_gone f i p || (nat_le n i && list_any (λ (r : Removal). same_point r.point p) rs)) c.requires.made is)
@@ -127,7 +135,8 @@ returns-clause-running c =
     let live = c.requires.running.edges in
     let removals = c.in_ok-removals.removals in
     let area = to_z-of_z w128 c.args.loser_area c.ranges.loser_area ∙ c.requires.area in
-    let is = list_is f k base planar c.requires.some within c.requires.removed c.args.live.now.edges live _ _ _ removals c.requires.ratio (ap (λ (s : MergeStep). s.made) c.requires.step) area c.in_ok-removals.ensures in
+    let told = c.in_ok-removals.ensures c.args.live.now.edges (subst (λ (n : ℕ). IsSought n c.args.live.now.edges c.args.live.now.sought) (sym c.requires.ratio) c.requires.sought) in
+    let is = list_is f k base planar c.requires.some within c.requires.removed c.args.live.now.edges live _ _ _ removals c.requires.ratio (ap (λ (s : MergeStep). s.made) c.requires.step) area told in
     let edges = c.in_ok-remove.ensures.edges ∙ ap (edges_less removals) live ∙ taken_is f.base base planar k c.requires.some within removals is in
     running_less f c.remove.new.self k (removals_to (merged f.base) (k - 1)) (removals_to (merged f.base) k) c.args.live.now.edges c.remove-2.new.self.edges
     c.args.live.now.numbers.items c.remove-2.new.self.numbers.items c.requires.running.forest c.remove.ensures.base c.remove.ensures.made c.remove.ensures.edges
@@ -153,9 +162,19 @@ returns-clause-mends c =
     let live = c.requires.running.edges in
     let removals = c.in_ok-removals.removals in
     let area = to_z-of_z w128 c.args.loser_area c.ranges.loser_area ∙ c.requires.area in
-    let is = list_is f k base planar c.requires.some within c.requires.removed c.args.live.now.edges live _ _ _ removals c.requires.ratio (ap (λ (s : MergeStep). s.made) c.requires.step) area c.in_ok-removals.ensures in
+    let told = c.in_ok-removals.ensures c.args.live.now.edges (subst (λ (n : ℕ). IsSought n c.args.live.now.edges c.args.live.now.sought) (sym c.requires.ratio) c.requires.sought) in
+    let is = list_is f k base planar c.requires.some within c.requires.removed c.args.live.now.edges live _ _ _ removals c.requires.ratio (ap (λ (s : MergeStep). s.made) c.requires.step) area told in
     let border = c.as_slice-bordering.ensures ∙ c.requires.border ∙ ap (λ (n : ℕ). filter (has_side n) c.args.live.now.edges) c.requires.face in
     c.in_ok-mends.ensures removals (λ p. c.in_ok-gone.ensures p ∙ ap (λ (rs : List Removal). is_removed rs p) c.as_slice.ensures)
     ∙ ap (flat_map (needed_mends f c.args.live.now.numbers.items c.args.live.now.holders.items c.args.step.now (k - 1) removals)) border
     ∙ mends_read f k (omega (arith, c.requires.some)) (omega (arith, c.requires.made)) c.args.live.now.edges c.args.live.now.numbers.items c.args.live.now.holders.items c.requires.running c.requires.holders
     (c.requires.removed.by_then (k - 1) (omega arith)) c.args.step.now c.requires.step removals (is ∙ now_is f.base base planar k c.requires.some within)
+
+pub remove-requires-2-clause-ascending : goal.remove-requires-2-clause-ascending
+remove-requires-2-clause-ascending c =
+    let f = c.args.forest.now in
+    subst (AllPairs (λ (e g : Edge). e.key < g.key)) (sym c.requires.running.edges)
+    (ascending f.base c.requires.running.forest.base c.requires.running.forest.partition c.args.k (removals_to (merged f.base) (c.args.k - 1)))
+
+pub returns-clause-sought : goal.returns-clause-sought
+returns-clause-sought c = c.in_ok-remove.ensures.sought c.args.forest.now.base.rules.ratio c.requires.sought

@@ -1,4 +1,3 @@
-use Rattle.std.proofs.Common.{length}
 use Rattle.edge_forest.proofs.WalkedArcs.{made_of_earlier}
 use Rattle.edge_forest.proofs.forest.Forest.links.Goals as goal
 

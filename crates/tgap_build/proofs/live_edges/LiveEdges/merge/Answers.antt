@@ -57,8 +57,12 @@ replace-requires c =
     (c.as_slice-2.ensures ∙ c.in_ok-born.ensures) in
     let border = border_is f w k c.requires.some c.requires.made s c.requires.step c.args.old c.requires.old removals edges table c.requires.behind
     c.push_edges.new.edges c.among-border.result.edges came c.among-border.ensures.same c.among-border.ensures.ascending in
-    may_replace edges ascend (is_touched s) (filter (has_side s.made) after) after moved live c.in_ok-gone.gone c.in_ok-come-2.come gone
-    (c.in_ok-come-2.ensures ∙ c.as_slice-3.ensures ∙ border)
+    record {
+      change = may_replace edges ascend (is_touched s) (filter (has_side s.made) after) after moved live c.in_ok-gone.gone c.in_ok-come-2.come gone
+          (c.in_ok-come-2.ensures ∙ c.as_slice-3.ensures ∙ border);
+      ascending = ascend;
+      sought = (f.base.rules.ratio, c.requires.sought);
+    }
 
 pub note_numbers-requires-clause-within : goal.note_numbers-requires-clause-within
 note_numbers-requires-clause-within c =
@@ -105,7 +109,7 @@ returns-clause-running c =
     let border = border_is f w k c.requires.some c.requires.made s c.requires.step c.args.old c.requires.old removals edges table c.requires.behind
     c.push_edges.new.edges c.among-border.result.edges came c.among-border.ensures.same c.among-border.ensures.ascending in
     let now = replaced edges ascend (is_touched s) (filter (has_side s.made) after) after moved live c.in_ok-gone.gone c.in_ok-come-2.come gone
-    (c.in_ok-come-2.ensures ∙ c.as_slice-3.ensures ∙ border) c.replace.new.edges c.in_ok-replace.ensures.live c.in_ok-replace.ensures.moved in
+    (c.in_ok-come-2.ensures ∙ c.as_slice-3.ensures ∙ border) c.replace.new.edges c.in_ok-replace.ensures.ascending c.in_ok-replace.ensures.moved in
     subst (AreRunning f k removals c.replace.new.edges) (sym (c.note_numbers.ensures ∙ ap (λ (is : List ℕ). noted f.edges is table) (c.as_slice-4.ensures ∙ c.in_ok-born.ensures)))
     (running_next f w k up_to removals c.replace.new.edges now c.args.old c.requires.old edges table c.requires.behind)
 
@@ -134,5 +138,8 @@ returns-clause-border c =
     let border = border_is f w k c.requires.some c.requires.made s c.requires.step c.args.old c.requires.old removals edges table c.requires.behind
     c.push_edges.new.edges c.among-border.result.edges came c.among-border.ensures.same c.among-border.ensures.ascending in
     let now = replaced edges ascend (is_touched s) (filter (has_side s.made) after) after moved live c.in_ok-gone.gone c.in_ok-come-2.come gone
-    (c.in_ok-come-2.ensures ∙ c.as_slice-3.ensures ∙ border) c.replace.new.edges c.in_ok-replace.ensures.live c.in_ok-replace.ensures.moved in
+    (c.in_ok-come-2.ensures ∙ c.as_slice-3.ensures ∙ border) c.replace.new.edges c.in_ok-replace.ensures.ascending c.in_ok-replace.ensures.moved in
     border ∙ ap (filter (has_side s.made)) (sym now) ∙ ap (λ (n : ℕ). filter (has_side n) c.replace.new.edges) (sym c.among-border.ensures.face)
+
+pub returns-clause-sought : goal.returns-clause-sought
+returns-clause-sought c = c.in_ok-replace.ensures.sought c.args.forest.now.base.rules.ratio c.requires.sought

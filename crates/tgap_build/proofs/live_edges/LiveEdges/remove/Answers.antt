@@ -27,8 +27,12 @@ replace-requires c =
     let losing = ap (filter (has_any set)) (c.as_slice-2.ensures ∙ c.requires.border) ∙ filter_both (has_any set) (has_side face) edges in
     let found = λ (p : Point). c.in_ok-gone.ensures p ∙ ap (λ (rs : List Removal). is_removed rs p) c.as_slice.ensures in
     let moved = losing_moved set c.args.removals.now found face edges c.requires.others in
-    may_replace edges ascend (loses set face) (map (less set) (filter (loses set face) edges)) all moved c.requires.live c.in_ok-change.change.gone c.in_ok-change.change.come
-    (c.in_ok-change.ensures.gone ∙ ap keys losing) (c.in_ok-change.ensures.come ∙ ap (map (less set)) losing)
+    record {
+      change = may_replace edges ascend (loses set face) (map (less set) (filter (loses set face) edges)) all moved c.requires.live c.in_ok-change.change.gone
+          c.in_ok-change.change.come (c.in_ok-change.ensures.gone ∙ ap keys losing) (c.in_ok-change.ensures.come ∙ ap (map (less set)) losing);
+      ascending = c.requires.ascending;
+      sought = c.requires.sought;
+    }
 
 pub returns-clause-edges : goal.returns-clause-edges
 returns-clause-edges c =
@@ -42,4 +46,4 @@ returns-clause-edges c =
     let moved = losing_moved set c.args.removals.now found face edges c.requires.others in
     replaced edges ascend (loses set face) (map (less set) (filter (loses set face) edges)) all moved c.requires.live c.in_ok-change.change.gone c.in_ok-change.change.come
     (c.in_ok-change.ensures.gone ∙ ap keys losing) (c.in_ok-change.ensures.come ∙ ap (map (less set)) losing)
-    c.replace.new.edges c.in_ok-replace.ensures.live c.in_ok-replace.ensures.moved
+    c.replace.new.edges c.in_ok-replace.ensures.ascending c.in_ok-replace.ensures.moved

@@ -1,0 +1,21 @@
+-- Edges at the places of their keys, and the look-up that a sweep asks.
+use Rattle.std.specs.Prelude.{◌≡◌, ℕ, List, get_or, Option, Some, None, option_to_list}
+use Rattle.std.specs.List.{flat_map}
+use Rattle.tgap_model.specs.declared.slice.Edge.{Edge}
+
+-- the edge at a place, if there is one
+abbrev pub edge_in : List (Option Edge) → ℕ → Option Edge
+edge_in places i = get_or places i None
+
+-- all edges, in the order of the places
+abbrev pub edges_in : List (Option Edge) → List Edge
+edges_in places = flat_map option_to_list places
+
+-- each edge stands at the place of its key
+abbrev pub AreAtKeys : List (Option Edge) → Type 0
+AreAtKeys places = (i : ℕ) (e : Edge) → edge_in places i ≡ Some e → e.key ≡ i
+
+-- The look-up has these edges. With the ratio 0 no vertex is removed, and there may be none.
+abbrev pub IsSought : ℕ → List Edge → Option (List Edge) → Type 0
+IsSought ratio edges None = ratio ≡ 0
+IsSought ratio edges (Some live) = live ≡ edges
