@@ -111,10 +111,6 @@ module _ {P : Type 0} (faults : P → ℕ) where
   none_failed R [] (y ∷ ys) e all none = absurd e
   none_failed R (x ∷ xs) [] e all none = absurd e
 
-  pub all_sound : (xs : List P) → All (λ x. faults x ≡ 0) xs → NoneFailed (map faults xs)
-  all_sound [] all = tt
-  all_sound (x ∷ xs) all = (All-head (λ z. faults z ≡ 0) x xs all, all_sound xs (All-tail (λ z. faults z ≡ 0) x xs all))
-
 -- doors at posts are closed and sound
 pub doors_sound : {P D : Type 0} (door : P → D) (closed : D → Bool) (faults : D → ℕ) (xs : List P) → All (λ x. closed (door x) ≡ true) xs
     → NoneFailed (map (λ x. faults (door x)) xs) → All (λ d. (closed d ≡ true) × (faults d ≡ 0)) (map door xs)
