@@ -1,12 +1,12 @@
 -- The edges that a step touches have their keys among those that the forest lists for it, and with the look-up it is the same list.
-use Rattle.std.proofs.Common.{◌≡◌, ◌∙◌, ℕ, ◌<◌, ◌≤◌, ◌==◌, ◌||◌, ℤ, true, List, [], ◌++◌, All, AllPairs, Contains, IsPermutation, Option, Some, None, sym, ap, ap₂, subst, arith}
+use Rattle.std.proofs.Common.{◌≡◌, ◌∙◌, ℕ, ◌<◌, ◌≤◌, ◌==◌, ◌||◌, true, List, ◌++◌, All, AllPairs, Contains, IsPermutation, Option, Some, None, sym, ap, ap₂, subst, arith}
 use Rattle.std.proofs.lemmas.List.Sorted.{IsPermutation-sym, IsPermutation-trans}
 use Rattle.tgap_model.specs.declared.merge.MergeStep.{MergeStep}
 use Rattle.tgap_model.specs.declared.slice.Edge.{Edge}
 use Rattle.tgap_model.specs.declared.slice.Removal.{Removal}
 use Rattle.tgap_model.specs.Merged.{merged, label_at}
 use Rattle.tgap_model.specs.Chains.{arc_number, chains_at}
-use Rattle.tgap_model.specs.Removals.{edge_of, edges_of, sweep}
+use Rattle.tgap_model.specs.Removals.{edge_of, edges_of}
 use Rattle.map_laws.proofs.ChainMembers.{Among}
 use Rattle.map_laws.proofs.Lists.{all_members, map_among}
 use Rattle.grid_index.specs.Live.{without_keys, AreLive}
@@ -32,24 +32,14 @@ touched_listed f w k made removals edges is s keys beside = all_members (λ e. i
     (beside i.0 known.0 (subst (λ (n : ℕ). is_alive n (edge_at f.edges i.0) ≡ true) (sym made) known.1) (sides ∙ ap (is_touched s) i.2 ∙ t)))
 
 -- what stands in the look-up
-pub sought_edges : (ratio : ℕ) (edges live : List Edge) (sought : Option (List Edge)) → sought ≡ Some live → IsSought ratio edges sought → live ≡ edges
-sought_edges ratio edges live None is h = absurd cc
-sought_edges ratio edges live (Some l) is h = sym (ap (λ (o : Option (List Edge)). elim o [ None ↦ live | Some x ↦ x ]) is) ∙ h
-
--- there is none
-pub sought_none : (ratio : ℕ) (edges : List Edge) (sought : Option (List Edge)) → sought ≡ None → IsSought ratio edges sought → ratio ≡ 0
-sought_none ratio edges None is h = h
-sought_none ratio edges (Some l) is h = absurd cc
-
--- and nothing goes then
-pub none_swept : (ratio : ℕ) (area : ℤ) (made : ℕ) (edges : List Edge) → ratio ≡ 0 → sweep ratio area made edges ≡ []
-unfolding sweep
-none_swept ratio area made edges h = ap (λ (n : ℕ). sweep n area made edges) h
+pub sought_edges : (edges live : List Edge) (sought : Option (List Edge)) → sought ≡ Some live → IsSought edges sought → live ≡ edges
+sought_edges edges live None is h = absurd cc
+sought_edges edges live (Some l) is h = sym (ap (λ (o : Option (List Edge)). elim o [ None ↦ live | Some x ↦ x ]) is) ∙ h
 
 -- after the same change it is the same list again
-pub sought_changed : (ratio : ℕ) (gone : List ℕ) (before come live next after : List Edge) → live ≡ before → IsPermutation (without_keys gone live ++ come) next → AreLive next
+pub sought_changed : (gone : List ℕ) (before come live next after : List Edge) → live ≡ before → IsPermutation (without_keys gone live ++ come) next → AreLive next
     → AllPairs (λ (e f : Edge). e.key < f.key) after → IsPermutation (without_keys gone before ++ come) after → next ≡ after
-sought_changed ratio gone before come live next after same moved alive ascend moved' =
+sought_changed gone before come live next after same moved alive ascend moved' =
     ascending_same next after alive.ascending ascend
     (IsPermutation-trans next (without_keys gone before ++ come) after
     (IsPermutation-sym (without_keys gone before ++ come) next (subst (λ (es : List Edge). IsPermutation (without_keys gone es ++ come) next) same moved)) moved')

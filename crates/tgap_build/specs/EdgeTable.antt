@@ -1,5 +1,5 @@
 -- Edges at the places of their keys, and the look-up that a sweep asks.
-use Rattle.std.specs.Prelude.{◌≡◌, ℕ, List, get_or, Option, Some, None, option_to_list}
+use Rattle.std.specs.Prelude.{◌≡◌, ℕ, List, get_or, Option, Some, None, ⊤, option_to_list}
 use Rattle.std.specs.List.{flat_map}
 use Rattle.tgap_model.specs.declared.slice.Edge.{Edge}
 
@@ -15,7 +15,7 @@ edges_in places = flat_map option_to_list places
 abbrev pub AreAtKeys : List (Option Edge) → Type 0
 AreAtKeys places = (i : ℕ) (e : Edge) → edge_in places i ≡ Some e → e.key ≡ i
 
--- The look-up has these edges. With the ratio 0 no vertex is removed, and there may be none.
-abbrev pub IsSought : ℕ → List Edge → Option (List Edge) → Type 0
-IsSought ratio edges None = ratio ≡ 0
-IsSought ratio edges (Some live) = live ≡ edges
+-- The look-up has these edges, where there is one.
+abbrev pub IsSought : List Edge → Option (List Edge) → Type 0
+IsSought edges None = ⊤
+IsSought edges (Some live) = live ≡ edges

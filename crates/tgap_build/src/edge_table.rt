@@ -89,6 +89,19 @@ fn put_all(places: &mut Vec<Option<Edge>>, edges: List<Edge>) -> Result<(), Memo
     Ok(())
 }
 
+/// Copies of the edges at these places.
+fn copies_at(alloc: Global, places: &[Option<Edge>]) -> Result<List<Edge>, Memory>
+    ensures { IfOk result (λ copies. copies ≡ edges_in places.now) }
+{
+    let mut copies = List::new(alloc);
+    for place in places {
+        if let Some(edge) = place {
+            copies.push(copied_edge(alloc, edge)?)?;
+        }
+    }
+    Ok(copies)
+}
+
 /// Appends a copy of the edge at a place, if there is one and it borders a face that the step merges.
 fn push_touched(
     alloc: Global,
@@ -143,6 +156,13 @@ impl EdgeTable {
         let mut places = Vec::new(alloc);
         put_all(&mut places, edges)?;
         Ok(EdgeTable { places })
+    }
+
+    /// Copies of all edges, in order of key.
+    pub fn copies(&self, alloc: Global) -> Result<List<Edge>, Memory>
+        ensures { IfOk result (λ copies. copies ≡ self.now) }
+    {
+        copies_at(alloc, &self.places)
     }
 
     /// Copies of the edges that border a face that the step merges, in order of key. Their keys are among those that are given,

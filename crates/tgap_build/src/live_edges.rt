@@ -1,6 +1,6 @@
 //! The edges of the last step, which are kept while the history is run.
 
-ghost use Rattle.std.specs.Prelude.{◌≡◌, ◌<◌, ◌≤◌, ◌-◌, ◌++◌, ℕ, false, map, filter, length, IsPermutation, All, AllPairs, IfOk, OnOk};
+ghost use Rattle.std.specs.Prelude.{◌≡◌, ◌<◌, ◌≤◌, ◌-◌, ◌++◌, false, map, filter, length, IsPermutation, All, AllPairs, IfOk, OnOk};
 ghost use Rattle.tgap_model.specs.History.{relabel, history_of};
 ghost use Rattle.tgap_model.specs.Merged.{merged, step_number};
 ghost use Rattle.tgap_model.specs.Removals.{has_side, without, removals_to};
@@ -19,15 +19,15 @@ use crate::edges::{edges_of, push_edges};
 use crate::face_edges::{FaceEdges, copied_edges};
 use crate::holders::{Holder, note_holders};
 use crate::point_set::PointSet;
-use crate::sought::{sought_after, sought_among};
+use crate::sought::sought_after;
 use edge_forest::Forest;
 use face_tree::FaceTree;
 use grid_index::Live;
 use std::alloc::Global;
 use tgap_model::{Edge, List, Memory, MergeStep, Removal};
 
-/// The edges after some steps of the history, where vertices are removed a look-up of their segments, for each edge the number
-/// that it has in the forest, at the place of its key, and for each arc of theirs the edge that holds it.
+/// The edges after some steps of the history, a look-up of their segments where one was asked for, for each edge the number that
+/// it has in the forest, at the place of its key, and for each arc of theirs the edge that holds it.
 #[derive(Debug, Drop)]
 pub struct LiveEdges {
     pub edges: EdgeTable,
@@ -171,10 +171,10 @@ fn replace(
 ) -> Result<(), Memory>
     requires change { IsReplacement edges.old change.gone change.come }
     requires ascending { AllPairs (λ e f. e.key < f.key) edges.old }
-    requires sought { (ratio : ℕ) × IsSought ratio edges.old sought.old }
+    requires sought { IsSought edges.old sought.old }
     ensures moved { OnOk result (IsPermutation (without_keys change.gone edges.old ++ change.come) edges.new) }
     ensures ascending { OnOk result (AllPairs (λ e f. e.key < f.key) edges.new) }
-    ensures sought { (ratio : ℕ) → IsSought ratio edges.old sought.old → OnOk result (IsSought ratio edges.new sought.new) }
+    ensures sought { OnOk result (IsSought edges.new sought.new) }
 {
     let Change { gone, come } = change;
     *sought = sought_after(alloc, sought.take(), &gone, come.as_slice())?;
@@ -190,7 +190,7 @@ impl LiveEdges {
         requires history { tree.now ≡ face_history (merged forest.now.base) }
         requires removed { HasRemoved forest.now 0 }
         ensures running { IfOk result (λ live. AreRunning forest.now 0 (removals_to (merged forest.now.base) 0) live.edges live.numbers.items) }
-        ensures sought { IfOk result (λ live. IsSought forest.now.base.rules.ratio live.edges live.sought) }
+        ensures sought { IfOk result (λ live. IsSought live.edges live.sought) }
         ensures holders { IfOk result (λ live. AreHolders (merged forest.now.base) 0 live.holders.items) }
     {
         let ids = forest.present(alloc)?;
@@ -204,10 +204,9 @@ impl LiveEdges {
         };
         let mut holders = vec![in alloc; none; arcs]?;
         note_holders(alloc, forest, ids.as_slice(), &mut holders)?;
-        let sought = sought_among(alloc, forest.base().rules().ratio, &edges)?;
         Ok(LiveEdges {
             edges: EdgeTable::of(alloc, edges)?,
-            sought,
+            sought: None,
             numbers,
             holders,
         })
@@ -215,8 +214,8 @@ impl LiveEdges {
 
     /// Brings the edges up to step number k, which the forest has made, and gives those that then border its new face. The forest
     /// had the first `old` edges before, and `touched` are copies of those that border the step's loser or its winner: no other
-    /// edge changes. The time is that of the points of those that go or come, and where the segments can be looked up, of a pass
-    /// over the edges.
+    /// edge changes. The time is that of the points of those that go or come, and where there is a look-up of their segments, of a
+    /// pass over the edges.
     pub fn merge(
         &mut self,
         alloc: Global,
@@ -236,9 +235,9 @@ impl LiveEdges {
         requires old { old ≤ length forest.now.edges }
         requires behind { AreBehind forest.now k old (removals_to (merged forest.now.base) (k - 1)) self.old.edges self.old.numbers.items }
         requires touched { touched ≡ filter (is_touched step.now) self.old.edges }
-        requires sought { IsSought forest.now.base.rules.ratio self.old.edges self.old.sought }
+        requires sought { IsSought self.old.edges self.old.sought }
         ensures running { OnOk result (AreRunning forest.now k (removals_to (merged forest.now.base) (k - 1)) self.new.edges self.new.numbers.items) }
-        ensures sought { OnOk result (IsSought forest.now.base.rules.ratio self.new.edges self.new.sought) }
+        ensures sought { OnOk result (IsSought self.new.edges self.new.sought) }
         ensures holders { OnOk result (self.new.holders ≡ self.old.holders) }
         ensures face { IfOk result (λ border. border.face ≡ step.now.made) }
         ensures border { IfOk result (λ border. border.edges ≡ filter (has_side border.face) self.new.edges) }
@@ -268,12 +267,12 @@ impl LiveEdges {
         removals: &List<Removal>,
     ) -> Result<(), Memory>
         requires ascending { AllPairs (λ e f. e.key < f.key) self.old.edges }
-        requires sought { (ratio : ℕ) × IsSought ratio self.old.edges self.old.sought }
+        requires sought { IsSought self.old.edges self.old.sought }
         requires live { AreLive (edges_less removals.now self.old.edges) }
         requires border { border.now.edges ≡ filter (has_side border.now.face) self.old.edges }
         requires others { All (λ e. has_side border.now.face e ≡ false → without removals.now e.points ≡ e.points) self.old.edges }
         ensures edges { OnOk result (self.new.edges ≡ edges_less removals.now self.old.edges) }
-        ensures sought { (ratio : ℕ) → IsSought ratio self.old.edges self.old.sought → OnOk result (IsSought ratio self.new.edges self.new.sought) }
+        ensures sought { OnOk result (IsSought self.new.edges self.new.sought) }
         ensures numbers { self.new.numbers ≡ self.old.numbers }
         ensures holders { self.new.holders ≡ self.old.holders }
     {

@@ -44,7 +44,7 @@ fn remove_vertices(
     requires ratio { ratio ≡ forest.old.base.rules.ratio }
     requires removed { HasRemoved forest.old (k - 1) }
     requires running { AreRunning forest.old k (removals_to (merged forest.old.base) (k - 1)) live.old.edges live.old.numbers.items }
-    requires sought { IsSought forest.old.base.rules.ratio live.old.edges live.old.sought }
+    requires sought { IsSought live.old.edges live.old.sought }
     requires holders { AreHolders (merged forest.old.base) (k - 1) live.old.holders.items }
     requires face { border.now.face ≡ step.now.made }
     requires border { border.now.edges ≡ filter (has_side border.now.face) live.old.edges }
@@ -55,12 +55,15 @@ fn remove_vertices(
     ensures edges { OnOk result (forest.new.edges ≡ forest.old.edges) }
     ensures removed { OnOk result (HasRemoved forest.new k) }
     ensures running { OnOk result (AreRunning forest.new k (removals_to (merged forest.old.base) k) live.new.edges live.new.numbers.items) }
-    ensures sought { OnOk result (IsSought forest.old.base.rules.ratio live.new.edges live.new.sought) }
+    ensures sought { OnOk result (IsSought live.new.edges live.new.sought) }
     ensures holders { OnOk result (live.new.holders ≡ live.old.holders) }
 {
-    let removals = swept(alloc, &live.sought, step.made, loser_area, ratio, k)?;
-    let gone = PointSet::of(alloc, removals.as_slice())?;
     let bordering = border.edges.as_slice();
+    let (edges, sought) = (&live.edges, &mut live.sought);
+    let removals = swept(
+        alloc, edges, sought, bordering, step.made, loser_area, ratio, k,
+    )?;
+    let gone = PointSet::of(alloc, removals.as_slice())?;
     let mends = mends_of(alloc, tree, forest, live, step, bordering, &gone, k - 1)?;
     forest.remove(&removals);
     live.remove(alloc, border, &removals)?;
@@ -88,7 +91,7 @@ pub fn make_step(
     requires area { loser_area ≡ face_area (merged forest.old.base) (k - 1) step.now.loser }
     requires removed { HasRemoved forest.old (k - 1) }
     requires running { AreRunning forest.old (k - 1) (removals_to (merged forest.old.base) (k - 1)) live.old.edges live.old.numbers.items }
-    requires sought { IsSought forest.old.base.rules.ratio live.old.edges live.old.sought }
+    requires sought { IsSought live.old.edges live.old.sought }
     requires holders { AreHolders (merged forest.old.base) (k - 1) live.old.holders.items }
     ensures record { IfOk result (λ r. r ≡ step_record (merged forest.old.base) k) }
     ensures base { OnOk result (forest.new.base ≡ forest.old.base) }
@@ -96,7 +99,7 @@ pub fn make_step(
     ensures open { OnOk result (forest.new.closed ≡ false) }
     ensures removed { OnOk result (HasRemoved forest.new k) }
     ensures running { OnOk result (AreRunning forest.new k (removals_to (merged forest.old.base) k) live.new.edges live.new.numbers.items) }
-    ensures sought { OnOk result (IsSought forest.old.base.rules.ratio live.new.edges live.new.sought) }
+    ensures sought { OnOk result (IsSought live.new.edges live.new.sought) }
     ensures holders { OnOk result (AreHolders (merged forest.old.base) k live.new.holders.items) }
 {
     let keys = forest.keys_beside(alloc, step)?;

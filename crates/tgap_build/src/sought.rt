@@ -1,28 +1,18 @@
-//! The look-up of the segments of the edges, which a step asks for the vertices that it removes. A map of the ratio 0 has none.
+//! The look-up of the segments of the edges, which a sweep asks. It is made when a step may remove a vertex for the first time.
 
-ghost use Rattle.std.specs.Prelude.{◌≡◌, ◌<◌, ◌++◌, ℕ, List as Sequence, map, AllPairs, IsPermutation, IfOk};
+ghost use Rattle.std.specs.Prelude.{◌≡◌, ◌<◌, ◌++◌, List as Sequence, map, filter, AllPairs, IsPermutation, IfOk, OnOk};
 ghost use Rattle.tgap_model.specs.declared.slice.Edge.{Edge as Line};
-ghost use Rattle.tgap_model.specs.Removals.{sweep};
+ghost use Rattle.tgap_model.specs.Removals.{has_side, sweep};
 ghost use Rattle.grid_index.specs.Live.{without_keys, AreLive};
 ghost use Rattle.tgap_build.specs.EdgeTable.{IsSought};
 ghost use Rattle.tgap_build.specs.Running.{IsReplacement};
 
+use crate::edge_table::EdgeTable;
 use crate::face_edges::copied_edges;
 use grid_index::Live;
 use std::alloc::Global;
 use tgap_model::{Edge, List, Memory, Removal};
-use vertex_drop::sweep;
-
-/// The look-up of these edges for a map of this ratio.
-pub fn sought_among(alloc: Global, ratio: u32, edges: &List<Edge>) -> Result<Option<Live>, Memory>
-    requires { AreLive edges.now }
-    ensures { IfOk result (λ sought. IsSought ratio edges.now sought) }
-{
-    if ratio == 0 {
-        return Ok(None);
-    }
-    Ok(Some(Live::of(alloc, edges)?))
-}
+use vertex_drop::{may_remove, sweep};
 
 /// The look-up after edges with some keys were taken out and others put in. The look at its edges, which costs nothing, tells
 /// that they stand in order of key again.
@@ -32,9 +22,9 @@ pub fn sought_after(
     gone: &List<u32>,
     come: &[Edge],
 ) -> Result<Option<Live>, Memory>
-    requires { (ratio : ℕ) × (edges : Sequence Line) × IsSought ratio edges sought × IsReplacement edges gone.now come.now }
-    ensures { (ratio : ℕ) (before after : Sequence Line) → IsSought ratio before sought → AllPairs (λ e f. e.key < f.key) after
-        → IsPermutation (without_keys gone.now before ++ come.now) after → IfOk result (λ next. IsSought ratio after next) }
+    requires { (edges : Sequence Line) × IsSought edges sought × IsReplacement edges gone.now come.now }
+    ensures { (before after : Sequence Line) → IsSought before sought → AllPairs (λ e f. e.key < f.key) after
+        → IsPermutation (without_keys gone.now before ++ come.now) after → IfOk result (λ next. IsSought after next) }
 {
     let Some(mut live) = sought else {
         return Ok(None);
@@ -44,21 +34,41 @@ pub fn sought_after(
     Ok(Some(live))
 }
 
-/// What a step removes of the edges, of which `made` is the new face and `loser_area` twice the area of the loser, as `sweep`
-/// tells.
+/// The look-up of the edges, which is made where there is none.
+fn look_up(alloc: Global, sought: Option<Live>, edges: &EdgeTable) -> Result<Live, Memory>
+    requires sought { IsSought edges.now sought }
+    requires live { AreLive edges.now }
+    ensures { IfOk result (λ live. live ≡ edges.now) }
+{
+    match sought {
+        Some(live) => Ok(live),
+        None => Live::of(alloc, &edges.copies(alloc)?),
+    }
+}
+
+/// What a step removes of the edges, of which `made` is the new face, `border` those that border it, and `loser_area` twice the
+/// area of the loser, as `sweep` tells. Where no corner of them is small enough, nothing is looked up.
 pub fn swept(
     alloc: Global,
-    sought: &Option<Live>,
+    edges: &EdgeTable,
+    sought: &mut Option<Live>,
+    border: &[Edge],
     made: u32,
     loser_area: i128,
     ratio: u32,
     step: u32,
 ) -> Result<List<Removal>, Memory>
-    ensures { (edges : Sequence Line) → IsSought ratio edges sought.now
-        → IfOk result (λ removals. removals ≡ map (λ p. record { point = p; step = step }) (sweep ratio loser_area made edges)) }
+    requires sought { IsSought edges.now sought.old }
+    requires live { AreLive edges.now }
+    requires border { border.now ≡ filter (has_side made) edges.now }
+    ensures removals { IfOk result (λ removals. removals ≡ map (λ p. record { point = p; step = step }) (sweep ratio loser_area made edges.now)) }
+    ensures sought { OnOk result (IsSought edges.now sought.new) }
 {
-    match sought {
-        Some(live) => sweep(alloc, live, made, loser_area, ratio, step),
-        None => Ok(List::new(alloc)),
+    if !may_remove(border, loser_area, ratio) {
+        return Ok(List::new(alloc));
     }
+    let live = look_up(alloc, sought.take(), edges)?;
+    let removals = sweep(alloc, &live, made, loser_area, ratio, step)?;
+    *sought = Some(live);
+    Ok(removals)
 }

@@ -6,3 +6,4 @@ pub mod Removed
 pub mod NearPlaces
 pub mod Unswept
 pub mod Swept
+pub mod WideCorners

@@ -73,7 +73,7 @@ module _ (ratio : ℕ) (area : ℤ) where
       ≡ record { kept = (sweep_from ratio area others done a (c ∷ points)).kept; gone = b ∷ (sweep_from ratio area others done a (c ∷ points)).gone }
   from_gone others done a b c points e = rw (sweep_from, e) refl
 
-  from_kept : (others done : List Seg) (a b c : Point) (points : List Point) → is_removable ratio area (others ++ done ++ path (c ∷ points)) a b c ≡ false
+  pub from_kept : (others done : List Seg) (a b c : Point) (points : List Point) → is_removable ratio area (others ++ done ++ path (c ∷ points)) a b c ≡ false
       → sweep_from ratio area others done a (b ∷ c ∷ points)
       ≡ record {
         kept = a ∷ (sweep_from ratio area others (done ++ record { a = a; b = b } ∷ []) b (c ∷ points)).kept;
@@ -263,13 +263,13 @@ module _ (ratio : ℕ) (area : ℤ) (made : ℕ) where
       → sweep_rest ratio area made before (e ∷ edges) ≡ sweep_rest ratio area made (before ++ path e.points) edges
   rest_passed before e edges h = rw (sweep_rest, h) refl
 
-  edges_swept : (before : List Edge) (e : Edge) (edges : List Edge) → has_side made e ≡ true
+  pub edges_swept : (before : List Edge) (e : Edge) (edges : List Edge) → has_side made e ≡ true
       → sweep_edges ratio area made before (e ∷ edges)
       ≡ (sweep_points ratio area (live_segments before ++ live_segments edges) e.points).gone
       ++ sweep_edges ratio area made (before ++ record e { points = (sweep_points ratio area (live_segments before ++ live_segments edges) e.points).kept } ∷ []) edges
   edges_swept before e edges h = rw (sweep_edges, h) refl
 
-  edges_passed : (before : List Edge) (e : Edge) (edges : List Edge) → has_side made e ≡ false
+  pub edges_passed : (before : List Edge) (e : Edge) (edges : List Edge) → has_side made e ≡ false
       → sweep_edges ratio area made before (e ∷ edges) ≡ sweep_edges ratio area made (before ++ e ∷ []) edges
   edges_passed before e edges h = rw (sweep_edges, h) refl
 

@@ -3,3 +3,4 @@ pub mod Held
 pub mod Outside
 pub mod Left
 pub mod Sweep
+pub mod Corners

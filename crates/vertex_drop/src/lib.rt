@@ -4,6 +4,7 @@
 
 mod bounds;
 mod chunk;
+mod corners;
 mod kept;
 mod near;
 mod removable;
@@ -12,4 +13,5 @@ mod steps;
 mod tests;
 mod triangle;
 
+pub use corners::may_remove;
 pub use steps::sweep;

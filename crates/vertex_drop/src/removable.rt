@@ -6,6 +6,7 @@ ghost use Rattle.tgap_model.specs.Bounds.{max_cross};
 ghost use Rattle.tgap_model.specs.Point.{cross};
 ghost use Rattle.tgap_model.specs.Clear.{is_clear};
 ghost use Rattle.tgap_model.specs.Removals.{is_removable};
+ghost use Rattle.vertex_drop.specs.Corners.{is_small_corner};
 ghost use Rattle.vertex_drop.specs.Held.{IsNearPoint};
 ghost use Rattle.vertex_drop.specs.Left.{left_segments};
 ghost use Rattle.vertex_drop.specs.Outside.{IsTriangle};
@@ -32,6 +33,17 @@ fn is_small(rule: Rule, area: i128) -> bool
     ensures { (n : ℕ) → area ≡ pos n → result ≡ int_le (pos (rule.ratio * n)) rule.area }
 {
     i128::from(rule.ratio) * area <= rule.area
+}
+
+/// Whether the vertex of a corner is on one line with its neighbours, or their triangle is small enough.
+pub fn is_small_corner(rule: Rule, corner: Corner) -> bool
+    requires a { IsNearPoint corner.a }
+    requires b { IsNearPoint corner.b }
+    requires c { IsNearPoint corner.c }
+    ensures { result ≡ is_small_corner rule.ratio rule.area corner.a corner.b corner.c }
+{
+    let area = area2(corner.a, corner.b, corner.c);
+    area == 0 || is_small(rule, area)
 }
 
 /// Three points in a row of points.

@@ -12,7 +12,6 @@ use Rattle.tgap_model.proofs.BaseFacts.{base_facts}
 use Rattle.face_merge.specs.Areas.{lost_areas}
 use Rattle.face_merge.proofs.Steps.{length-history_of}
 use Rattle.tgap_build.specs.Built.{HasRemoved}
-use Rattle.tgap_build.specs.EdgeTable.{IsSought}
 use Rattle.tgap_build.specs.Holders.{AreHolders}
 use Rattle.tgap_build.specs.Running.{AreRunning}
 use Rattle.tgap_build.proofs.Lost.{no_step, lost_count, lost_is}
@@ -58,7 +57,7 @@ loop-i-preserved c = record {
   removed = c.in_ok-make_step.ensures.removed;
   running = subst (λ (m : BaseMap). AreRunning c.make_step.new.forest (c.loop-i.i + 1) (removals_to (merged m) (c.loop-i.i + 1)) c.make_step.new.live.edges c.make_step.new.live.numbers.items)
       (sym c.in_ok-make_step.ensures.base) c.in_ok-make_step.ensures.running;
-  sought = subst (λ (m : BaseMap). IsSought m.rules.ratio c.make_step.new.live.edges c.make_step.new.live.sought) (sym c.in_ok-make_step.ensures.base) c.in_ok-make_step.ensures.sought;
+  sought = c.in_ok-make_step.ensures.sought;
   holders = subst (λ (m : BaseMap). AreHolders (merged m) (c.loop-i.i + 1) c.make_step.new.live.holders.items) (sym c.in_ok-make_step.ensures.base) c.in_ok-make_step.ensures.holders;
   records = c.in_ok-push.ensures
       ∙ ap₂ (λ (rs : List StepRecord) (r : StepRecord). rs ++ r ∷ []) c.loop-i.invariant.records

@@ -17,7 +17,7 @@ invariant-loop-i l = record {
   unclosed : l.forest.closed ≡ false;
   removed : HasRemoved l.forest l.i;
   running : AreRunning l.forest l.i (removals_to (merged l.forest.base) l.i) l.live.edges l.live.numbers.items;
-  sought : IsSought l.forest.base.rules.ratio l.live.edges l.live.sought;
+  sought : IsSought l.live.edges l.live.sought;
   holders : AreHolders (merged l.forest.base) l.i l.live.holders.items;
   records : l.records ≡ map (step_record (merged l.fn.forest.base)) (range_with_len 1 l.i);
 }

@@ -13,8 +13,10 @@ replace-requires c =
     (keys_apart c.args.edges.now c.args.change.gone c.args.change.come c.requires.ascending c.requires.change)
 
 pub returns-clause-sought : goal.returns-clause-sought
-returns-clause-sought c = λ ratio h.
-    on_ok_weaker c.replace.result (λ moved.
-    c.in_ok-sought.ensures ratio c.args.edges.now c.replace.new.self (subst (IsSought ratio c.args.edges.now) (sym c.take.ensures.value) h) c.replace.ensures.ascending
+returns-clause-sought c =
+    on_ok_weaker c.replace.result
+    (λ moved.
+    c.in_ok-sought.ensures c.args.edges.now c.replace.new.self (subst (IsSought c.args.edges.now) (sym c.take.ensures.value) c.requires.sought) c.replace.ensures.ascending
     (subst (λ (ks : List ℕ). IsPermutation (without_keys ks c.args.edges.now ++ c.as_slice.result.now) c.replace.new.self) c.as_slice-2.ensures
-    (subst (λ (es : List Edge). IsPermutation (without_keys c.as_slice-2.result.now c.args.edges.now ++ es) c.replace.new.self) (sym c.as_slice.ensures) moved))) c.replace.ensures.moved
+    (subst (λ (es : List Edge). IsPermutation (without_keys c.as_slice-2.result.now c.args.edges.now ++ es) c.replace.new.self) (sym c.as_slice.ensures) moved)))
+    c.replace.ensures.moved

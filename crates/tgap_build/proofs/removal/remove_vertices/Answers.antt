@@ -17,9 +17,8 @@ use Rattle.removal_laws.specs.StandLaws.{edges_less}
 use Rattle.removal_laws.specs.Trace.{edges_before_sweep}
 use Rattle.grid_index.specs.Live.{AreLive}
 use Rattle.edge_forest.specs.Forest.{is_gone}
-use Rattle.tgap_build.specs.EdgeTable.{IsSought}
 use Rattle.tgap_build.specs.Mends.{IsCountable, needed_mends}
-use Rattle.tgap_build.proofs.EachLive.{after_live, ascending}
+use Rattle.tgap_build.proofs.EachLive.{after_live, before_live, ascending}
 use Rattle.tgap_build.proofs.ReadMends.{now_is, countable, mends_read}
 use Rattle.tgap_build.proofs.Removed.{step_removed}
 use Rattle.tgap_build.proofs.Run.{running_less}
@@ -37,7 +36,7 @@ remove-requires-clause-steps c =
     let live = c.requires.running.edges in
     let removals = c.in_ok-removals.removals in
     let area = to_z-of_z w128 c.args.loser_area c.ranges.loser_area ∙ c.requires.area in
-    let told = c.in_ok-removals.ensures c.args.live.now.edges (subst (λ (n : ℕ). IsSought n c.args.live.now.edges c.args.live.now.sought) (sym c.requires.ratio) c.requires.sought) in
+    let told = c.in_ok-removals.ensures.removals in
     subst (λ (n : ℕ). All (λ (r : Removal). r.step ≡ n) removals) (sym c.requires.made) (list_steps f k base planar c.requires.some within c.requires.removed c.args.live.now.edges live _ _ _ removals c.requires.ratio (ap (λ (s : MergeStep). s.made) c.requires.step) area told)
 
 pub remove-requires-clause-apart : goal.remove-requires-clause-apart
@@ -50,7 +49,7 @@ remove-requires-clause-apart c =
     let live = c.requires.running.edges in
     let removals = c.in_ok-removals.removals in
     let area = to_z-of_z w128 c.args.loser_area c.ranges.loser_area ∙ c.requires.area in
-    let told = c.in_ok-removals.ensures c.args.live.now.edges (subst (λ (n : ℕ). IsSought n c.args.live.now.edges c.args.live.now.sought) (sym c.requires.ratio) c.requires.sought) in
+    let told = c.in_ok-removals.ensures.removals in
     list_apart f k base planar c.requires.some within c.requires.removed c.args.live.now.edges live _ _ _ removals c.requires.ratio (ap (λ (s : MergeStep). s.made) c.requires.step) area told
 
 pub remove-requires-clause-there : goal.remove-requires-clause-there
@@ -63,7 +62,7 @@ remove-requires-clause-there c =
     let live = c.requires.running.edges in
     let removals = c.in_ok-removals.removals in
     let area = to_z-of_z w128 c.args.loser_area c.ranges.loser_area ∙ c.requires.area in
-    let told = c.in_ok-removals.ensures c.args.live.now.edges (subst (λ (n : ℕ). IsSought n c.args.live.now.edges c.args.live.now.sought) (sym c.requires.ratio) c.requires.sought) in
+    let told = c.in_ok-removals.ensures.removals in
     list_there f k base planar c.requires.some within c.requires.removed c.args.live.now.edges live _ _ _ removals c.requires.ratio (ap (λ (s : MergeStep). s.made) c.requires.step) area told
 
 pub remove-requires-clause-left : goal.remove-requires-clause-left
@@ -76,7 +75,7 @@ remove-requires-clause-left c =
     let live = c.requires.running.edges in
     let removals = c.in_ok-removals.removals in
     let area = to_z-of_z w128 c.args.loser_area c.ranges.loser_area ∙ c.requires.area in
-    let told = c.in_ok-removals.ensures c.args.live.now.edges (subst (λ (n : ℕ). IsSought n c.args.live.now.edges c.args.live.now.sought) (sym c.requires.ratio) c.requires.sought) in
+    let told = c.in_ok-removals.ensures.removals in
     subst (λ (n : ℕ). All (λ (r : Removal). is_gone f n r.point ≡ false) removals) (sym c.requires.made) (list_left f k base planar c.requires.some within c.requires.removed c.args.live.now.edges live _ _ _ removals c.requires.ratio (ap (λ (s : MergeStep). s.made) c.requires.step) area told)
 
 pub remove-requires-2-clause-live : goal.remove-requires-2-clause-live
@@ -89,7 +88,7 @@ remove-requires-2-clause-live c =
     let live = c.requires.running.edges in
     let removals = c.in_ok-removals.removals in
     let area = to_z-of_z w128 c.args.loser_area c.ranges.loser_area ∙ c.requires.area in
-    let told = c.in_ok-removals.ensures c.args.live.now.edges (subst (λ (n : ℕ). IsSought n c.args.live.now.edges c.args.live.now.sought) (sym c.requires.ratio) c.requires.sought) in
+    let told = c.in_ok-removals.ensures.removals in
     let is = list_is f k base planar c.requires.some within c.requires.removed c.args.live.now.edges live _ _ _ removals c.requires.ratio (ap (λ (s : MergeStep). s.made) c.requires.step) area told in
     subst AreLive (sym (ap (edges_less removals) live ∙ taken_is f.base base planar k c.requires.some within removals is)) (after_live f.base base planar k within)
 
@@ -103,7 +102,7 @@ remove-requires-2-clause-others c =
     let live = c.requires.running.edges in
     let removals = c.in_ok-removals.removals in
     let area = to_z-of_z w128 c.args.loser_area c.ranges.loser_area ∙ c.requires.area in
-    let told = c.in_ok-removals.ensures c.args.live.now.edges (subst (λ (n : ℕ). IsSought n c.args.live.now.edges c.args.live.now.sought) (sym c.requires.ratio) c.requires.sought) in
+    let told = c.in_ok-removals.ensures.removals in
     let is = list_is f k base planar c.requires.some within c.requires.removed c.args.live.now.edges live _ _ _ removals c.requires.ratio (ap (λ (s : MergeStep). s.made) c.requires.step) area told in
     subst (All (λ (e : Edge). has_side c.args.border.now.face e ≡ false → without removals e.points ≡ e.points)) (sym live)
     (subst (λ (n : ℕ). All (λ (e : Edge). has_side n e ≡ false → without removals e.points ≡ e.points) (edges_before_sweep (merged f.base) k)) (sym (c.requires.face ∙ ap (λ (s : MergeStep). s.made) c.requires.step))
@@ -119,7 +118,7 @@ returns-clause-removed c =
     let live = c.requires.running.edges in
     let removals = c.in_ok-removals.removals in
     let area = to_z-of_z w128 c.args.loser_area c.ranges.loser_area ∙ c.requires.area in
-    let told = c.in_ok-removals.ensures c.args.live.now.edges (subst (λ (n : ℕ). IsSought n c.args.live.now.edges c.args.live.now.sought) (sym c.requires.ratio) c.requires.sought) in
+    let told = c.in_ok-removals.ensures.removals in
     let is = list_is f k base planar c.requires.some within c.requires.removed c.args.live.now.edges live _ _ _ removals c.requires.ratio (ap (λ (s : MergeStep). s.made) c.requires.step) area told in
     step_removed f c.remove.new.self k base planar c.requires.some within c.remove.ensures.base c.requires.removed (λ i p.
     c.remove.ensures.gone i p
@@ -135,7 +134,7 @@ returns-clause-running c =
     let live = c.requires.running.edges in
     let removals = c.in_ok-removals.removals in
     let area = to_z-of_z w128 c.args.loser_area c.ranges.loser_area ∙ c.requires.area in
-    let told = c.in_ok-removals.ensures c.args.live.now.edges (subst (λ (n : ℕ). IsSought n c.args.live.now.edges c.args.live.now.sought) (sym c.requires.ratio) c.requires.sought) in
+    let told = c.in_ok-removals.ensures.removals in
     let is = list_is f k base planar c.requires.some within c.requires.removed c.args.live.now.edges live _ _ _ removals c.requires.ratio (ap (λ (s : MergeStep). s.made) c.requires.step) area told in
     let edges = c.in_ok-remove.ensures.edges ∙ ap (edges_less removals) live ∙ taken_is f.base base planar k c.requires.some within removals is in
     running_less f c.remove.new.self k (removals_to (merged f.base) (k - 1)) (removals_to (merged f.base) k) c.args.live.now.edges c.remove-2.new.self.edges
@@ -162,7 +161,7 @@ returns-clause-mends c =
     let live = c.requires.running.edges in
     let removals = c.in_ok-removals.removals in
     let area = to_z-of_z w128 c.args.loser_area c.ranges.loser_area ∙ c.requires.area in
-    let told = c.in_ok-removals.ensures c.args.live.now.edges (subst (λ (n : ℕ). IsSought n c.args.live.now.edges c.args.live.now.sought) (sym c.requires.ratio) c.requires.sought) in
+    let told = c.in_ok-removals.ensures.removals in
     let is = list_is f k base planar c.requires.some within c.requires.removed c.args.live.now.edges live _ _ _ removals c.requires.ratio (ap (λ (s : MergeStep). s.made) c.requires.step) area told in
     let border = c.as_slice-bordering.ensures ∙ c.requires.border ∙ ap (λ (n : ℕ). filter (has_side n) c.args.live.now.edges) c.requires.face in
     c.in_ok-mends.ensures removals (λ p. c.in_ok-gone.ensures p ∙ ap (λ (rs : List Removal). is_removed rs p) c.as_slice.ensures)
@@ -177,4 +176,10 @@ remove-requires-2-clause-ascending c =
     (ascending f.base c.requires.running.forest.base c.requires.running.forest.partition c.args.k (removals_to (merged f.base) (c.args.k - 1)))
 
 pub returns-clause-sought : goal.returns-clause-sought
-returns-clause-sought c = c.in_ok-remove.ensures.sought c.args.forest.now.base.rules.ratio c.requires.sought
+returns-clause-sought c = c.in_ok-remove.ensures.sought
+
+pub swept-requires-clause-live : goal.swept-requires-clause-live
+swept-requires-clause-live c =
+    let f = c.args.forest.now in
+    let within : c.args.k ≤ length (history_of f.base) = omega (arith, c.requires.running.forest.steps, c.requires.made) in
+    subst AreLive (sym c.requires.running.edges) (before_live f.base c.requires.running.forest.base c.requires.running.forest.partition c.args.k c.requires.some within)

@@ -1,9 +1,16 @@
--- Without a look-up the ratio is 0, and nothing goes.
-use Rattle.std.proofs.Common.{◌∙◌, map, sym, ap}
-use Rattle.tgap_model.specs.declared.geometry.Point.{Point}
-use Rattle.tgap_build.proofs.Beside.{sought_none, none_swept}
+-- The points of edges that can be looked up are within the limits.
+use Rattle.std.proofs.Common.{All, sym, subst, IsTrue}
+use Rattle.std.proofs.lemmas.List.Elements.{All-filter}
+use Rattle.tgap_model.specs.declared.slice.Edge.{Edge}
+use Rattle.tgap_model.specs.Base.{in_limits}
+use Rattle.tgap_model.specs.Removals.{has_side}
+use Rattle.map_laws.proofs.Lists.{all_members, members_all}
+use Rattle.grid_index.specs.Live.{IsLiveEdge}
 use Rattle.tgap_build.proofs.sought.swept.Goals as goal
 
-pub returns-in-None : goal.returns-in-None
-returns-in-None c = λ edges h.
-    c.new.ensures ∙ sym (ap (map (λ (p : Point). record { point = p; step = c.args.step })) (none_swept c.args.ratio c.args.loser_area c.args.made edges (sought_none c.args.ratio edges c.args.sought.now c.in-None.is h)))
+pub may_remove-requires : goal.may_remove-requires
+may_remove-requires c =
+    let edges = c.args.edges.now in
+    subst (All (λ (e : Edge). All (λ p. IsTrue (in_limits p)) e.points)) (sym c.requires.border)
+    (All-filter (has_side c.args.made) (λ (e : Edge). All (λ p. IsTrue (in_limits p)) e.points) edges
+    (all_members (λ (e : Edge). All (λ p. IsTrue (in_limits p)) e.points) edges (λ e m. (members_all IsLiveEdge edges e c.requires.live.each m).limits)))

@@ -61,7 +61,7 @@ replace-requires c =
       change = may_replace edges ascend (is_touched s) (filter (has_side s.made) after) after moved live c.in_ok-gone.gone c.in_ok-come-2.come gone
           (c.in_ok-come-2.ensures ∙ c.as_slice-3.ensures ∙ border);
       ascending = ascend;
-      sought = (f.base.rules.ratio, c.requires.sought);
+      sought = c.requires.sought;
     }
 
 pub note_numbers-requires-clause-within : goal.note_numbers-requires-clause-within
@@ -142,4 +142,4 @@ returns-clause-border c =
     border ∙ ap (filter (has_side s.made)) (sym now) ∙ ap (λ (n : ℕ). filter (has_side n) c.replace.new.edges) (sym c.among-border.ensures.face)
 
 pub returns-clause-sought : goal.returns-clause-sought
-returns-clause-sought c = c.in_ok-replace.ensures.sought c.args.forest.now.base.rules.ratio c.requires.sought
+returns-clause-sought c = c.in_ok-replace.ensures.sought

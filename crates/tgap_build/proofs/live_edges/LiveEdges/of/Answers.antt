@@ -23,14 +23,6 @@ note_numbers-requires-clause-room c =
     let zeros = ap length (c.in_ok-numbers.ensures.items_if_clones_equal (λ y same. same)) in
     λ k d l. omega (arith, room k d l, zeros, length-replicate {A = ℕ} c.len-arcs.result 0, c.len-arcs.ensures, ap length c.arcs.ensures.value, ap (λ (m : BaseMap). length m.arcs) c.base.ensures.value)
 
-pub sought_among-requires : goal.sought_among-requires
-sought_among-requires c =
-    let f = c.args.forest.now in
-    let removals = removals_to (merged f.base) 0 in
-    let chains = ap (map (chain_of f.edges)) c.as_slice.ensures ∙ c.in_ok-ids.ensures.chains ∙ ap (chains_at (merged f.base)) c.requires.made in
-    let edges = c.in_ok-edges.ensures removals (c.requires.removed.by_then 0 (omega arith)) ∙ ap (edges_of (merged f.base) 0 removals) chains in
-    subst AreLive (sym edges) (after_live f.base c.requires.forest.base c.requires.forest.partition 0 (omega arith))
-
 pub of-requires : goal.of-requires
 of-requires c =
     let f = c.args.forest.now in
