@@ -57,16 +57,19 @@ no_ordered a b e = ap (option_map at) e
     at : Fraction → Meeting
     at p = record { i = a.number; j = b.number; at = p }
 
--- so two of a row have no meeting
-pub far_apart : (a b : NumberedSegment) → is_proper a.segment ≡ true → is_proper b.segment ≡ true → boxes_meet (row_box a) (row_box b) ≡ false → meeting_of a b ≡ None
-far_apart a b first second e = by (nat_lt a.number b.number)
+-- two of a row have no meeting where they have none in either order
+pub no_pair : (a b : NumberedSegment) → meeting_point a.segment b.segment ≡ None → meeting_point b.segment a.segment ≡ None → meeting_of a b ≡ None
+no_pair a b one other = by (nat_lt a.number b.number)
   where
-    apart : AreDisjoint a.segment.segment b.segment.segment
-    apart = boxes_apart a.segment b.segment e
-
     by : (c : Bool) → (if c then ordered_meeting a b else ordered_meeting b a) ≡ None
-    by true = no_ordered a b (no_meeting a.segment b.segment first apart)
-    by false = no_ordered b a (no_meeting b.segment a.segment second (none_turned b.segment.segment a.segment.segment apart))
+    by true = no_ordered a b one
+    by false = no_ordered b a other
+
+-- so those whose boxes do not meet have none
+pub far_apart : (a b : NumberedSegment) → is_proper a.segment ≡ true → is_proper b.segment ≡ true → boxes_meet (row_box a) (row_box b) ≡ false → meeting_of a b ≡ None
+far_apart a b first second e =
+    let apart = boxes_apart a.segment b.segment e in
+    no_pair a b (no_meeting a.segment b.segment first apart) (no_meeting b.segment a.segment second (none_turned b.segment.segment a.segment.segment apart))
 
 -- ---- places of a row that are passed
 

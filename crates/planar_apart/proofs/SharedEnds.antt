@@ -25,21 +25,25 @@ use Rattle.planar_apart.specs.Ends.{leaves_line, parts_at_end}
 
 -- ---- one point on two lines that are not parallel
 
+-- of two directions (a, b) and (c, e) that are not parallel, only nothing lies along both
+pub nothing_along_both : (a b c e x y : ℤ) → a *ℤ e -ℤ b *ℤ c ≢ pos 0 → a *ℤ y -ℤ b *ℤ x ≡ pos 0 → c *ℤ y -ℤ e *ℤ x ≡ pos 0 → (x ≡ pos 0) × (y ≡ pos 0)
+nothing_along_both a b c e x y n h k = (
+  zero_from_mul_left (a *ℤ e -ℤ b *ℤ c) n (
+      same_value (a ∷ b ∷ c ∷ e ∷ x ∷ y ∷ []) ((var 0 ⊗ var 3 ⊖ var 1 ⊗ var 2) ⊗ var 4)
+      (var 2 ⊗ (var 0 ⊗ var 5 ⊖ var 1 ⊗ var 4) ⊖ var 0 ⊗ (var 2 ⊗ var 5 ⊖ var 3 ⊗ var 4)) refl ∙ nothing c a),
+  zero_from_mul_left (a *ℤ e -ℤ b *ℤ c) n (
+      same_value (a ∷ b ∷ c ∷ e ∷ x ∷ y ∷ []) ((var 0 ⊗ var 3 ⊖ var 1 ⊗ var 2) ⊗ var 5)
+      (var 3 ⊗ (var 0 ⊗ var 5 ⊖ var 1 ⊗ var 4) ⊖ var 1 ⊗ (var 2 ⊗ var 5 ⊖ var 3 ⊗ var 4)) refl ∙ nothing e b),
+)
+  where
+    nothing : (m l : ℤ) → m *ℤ (a *ℤ y -ℤ b *ℤ x) -ℤ l *ℤ (c *ℤ y -ℤ e *ℤ x) ≡ pos 0
+    nothing m l =
+        ap (λ (z : ℤ). m *ℤ z -ℤ l *ℤ (c *ℤ y -ℤ e *ℤ x)) h ∙ ap (λ (z : ℤ). m *ℤ pos 0 -ℤ l *ℤ z) k
+        ∙ same_value (m ∷ l ∷ []) (var 0 ⊗ number (pos 0) ⊖ var 1 ⊗ number (pos 0)) (number (pos 0)) refl
+
 -- a point on both lines is where a grid point on both is
 at_shared : (s t : Seg) (p : Fraction) (v : Point) → turn s t ≢ pos 0 → run s *ℤ y_gap p v -ℤ rise s *ℤ x_gap p v ≡ pos 0 → run t *ℤ y_gap p v -ℤ rise t *ℤ x_gap p v ≡ pos 0 → IsAt p v
-at_shared s t p v n e f = record {
-  x = zero_from_mul_left (turn s t) n (
-      same_value (run s ∷ rise s ∷ run t ∷ rise t ∷ x_gap p v ∷ y_gap p v ∷ []) ((var 0 ⊗ var 3 ⊖ var 1 ⊗ var 2) ⊗ var 4)
-      (var 2 ⊗ (var 0 ⊗ var 5 ⊖ var 1 ⊗ var 4) ⊖ var 0 ⊗ (var 2 ⊗ var 5 ⊖ var 3 ⊗ var 4)) refl ∙ nothing (run t) (run s));
-  y = zero_from_mul_left (turn s t) n (
-      same_value (run s ∷ rise s ∷ run t ∷ rise t ∷ x_gap p v ∷ y_gap p v ∷ []) ((var 0 ⊗ var 3 ⊖ var 1 ⊗ var 2) ⊗ var 5)
-      (var 3 ⊗ (var 0 ⊗ var 5 ⊖ var 1 ⊗ var 4) ⊖ var 1 ⊗ (var 2 ⊗ var 5 ⊖ var 3 ⊗ var 4)) refl ∙ nothing (rise t) (rise s));
-}
-  where
-    nothing : (m k : ℤ) → m *ℤ (run s *ℤ y_gap p v -ℤ rise s *ℤ x_gap p v) -ℤ k *ℤ (run t *ℤ y_gap p v -ℤ rise t *ℤ x_gap p v) ≡ pos 0
-    nothing m k =
-        ap (λ (z : ℤ). m *ℤ z -ℤ k *ℤ (run t *ℤ y_gap p v -ℤ rise t *ℤ x_gap p v)) e ∙ ap (λ (z : ℤ). m *ℤ pos 0 -ℤ k *ℤ z) f
-        ∙ same_value (m ∷ k ∷ []) (var 0 ⊗ number (pos 0) ⊖ var 1 ⊗ number (pos 0)) (number (pos 0)) refl
+at_shared s t p v n e f = let gaps = nothing_along_both (run s) (rise s) (run t) (rise t) (x_gap p v) (y_gap p v) n e f in record { x = gaps.0; y = gaps.1 }
 
 -- ---- the test
 

@@ -1,3 +1,4 @@
 pub mod Meetings
 pub mod Rows
 pub mod Ends
+pub mod Fans

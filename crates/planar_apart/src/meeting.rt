@@ -4,12 +4,15 @@ ghost use Rattle.std.specs.Prelude.{◌≡◌, ◌⊎◌, ◌<◌, ◌-◌, ◌^
 ghost use Rattle.std.specs.List.{list_all};
 ghost use Rattle.tgap_model.specs.Partition.{is_proper, meeting_from};
 ghost use Rattle.planar_apart.specs.Meetings.{meets, is_before, IsNoLater, IsEarlier};
+ghost use Rattle.planar_apart.specs.Fans.{IsFan, AreFanEnds};
 ghost use Rattle.planar_apart.specs.Rows.{ordered_meeting, meeting_of, IsRow, IsLeastBehind, IsLeastOfRow};
 
-use crate::boxes::{box_of, boxes_of};
+use crate::boxes::box_of;
+use crate::fan::fan_ends;
+use crate::hubs::order_by_hubs;
 use crate::pair::{meeting_point, part_at_end};
 use crate::row::{NumberedSegment, row_boxes, row_of};
-use grid_index::{BoxTree, order_of};
+use grid_index::BoxTree;
 use rayon::prelude::*;
 use std::alloc::Global;
 use std::thread::Threads;
@@ -82,17 +85,23 @@ fn may_meet(a: &NumberedSegment, b: &NumberedSegment) -> bool
     }
 }
 
-/// The least meeting of the segment at this place of the row with one behind it in the row, looked for among those whose
-/// boxes meet its box.
-fn least_behind(row: &[NumberedSegment], tree: &BoxTree, place: usize) -> Option<Meeting>
+/// The least meeting of the segment at this place of the row with one behind it in the row, looked for among those behind
+/// its fan whose boxes meet its box.
+fn least_behind(
+    row: &[NumberedSegment],
+    tree: &BoxTree,
+    place: usize,
+    fan_end: usize,
+) -> Option<Meeting>
     requires inside { place < length row.now }
     requires row { IsRow row.now tree.now }
+    requires fan { IsFan row.now place fan_end }
     ensures { IsLeastBehind row.now place result }
 {
     let segment = &row[place];
     let area = box_of(&segment.segment);
     let mut least = None;
-    let mut at = tree.next(&area, place + 1);
+    let mut at = tree.next(&area, fan_end);
     'near: while at < row.len() {
         let other = &row[at];
         if may_meet(segment, other) {
@@ -109,17 +118,19 @@ fn least_of_row<R: Threads + Sync>(
     rt: &R,
     row: &[NumberedSegment],
     tree: &BoxTree,
+    fan_ends: &[usize],
 ) -> Option<Meeting>
-    requires { IsRow row.now tree.now }
+    requires row { IsRow row.now tree.now }
+    requires fans { AreFanEnds row.now fan_ends.now }
     ensures { IsLeastOfRow row.now result }
 {
     (0..row.len())
         .into_par_iter()
         .map(
             |place: usize| -> Option<Meeting>
-                requires { (place < length row.now) × IsRow row.now tree.now }
+                requires { (place < length row.now) × IsRow row.now tree.now × AreFanEnds row.now fan_ends.now }
                 ensures { IsLeastBehind row.entry.now place result }
-            { least_behind(row, tree, place) },
+            { least_behind(row, tree, place, fan_ends[place]) },
         )
         .reduce(
             rt,
@@ -142,8 +153,9 @@ pub fn first_pair<R: Threads + Sync>(
     requires few { length segments.now < 2 ^ 32 - 1 }
     ensures { IfOk result (λ found. option_map meets found ≡ meeting_from 0 segments.now) }
 {
-    let order = order_of(alloc, boxes_of(alloc, segments)?.as_slice())?;
+    let order = order_by_hubs(alloc, segments)?;
     let row = row_of(alloc, segments, &order)?;
+    let fan_ends = fan_ends(alloc, row.as_slice())?;
     let tree = BoxTree::of(alloc, row_boxes(alloc, row.as_slice())?)?;
-    Ok(least_of_row(rt, row.as_slice(), &tree))
+    Ok(least_of_row(rt, row.as_slice(), &tree, &fan_ends))
 }

@@ -1,4 +1,5 @@
-use Rattle.std.proofs.Common.{◌≡◌, ◌+◌, length, get_or, Option, sym, ap, ap₂, ◌∙◌, subst, subst₂, arith}
+use Rattle.std.proofs.Common.{◌≡◌, inl, inr, ◌+◌, length, get_or, Option, sym, ap, ap₂, ◌∙◌, subst, subst₂, arith}
+use Rattle.std.proofs.lemmas.Bool.{cases_lt}
 use Rattle.std.proofs.lemmas.List.{get_or_default, length-map}
 use Rattle.tgap_model.specs.declared.geometry.Window.{Window}
 use Rattle.grid_index.specs.Near.{IsNextNear}
@@ -16,13 +17,18 @@ near-init c =
     let row = c.args.row.now in
     let boxes = c.args.tree.now in
     let place = c.args.place in
+    let end = c.args.fan_end in
     let next = c.next-at.result in
+    let fan = c.requires.fan in
     let long : length boxes ≡ length row = ap length c.requires.row.boxes_are ∙ length-map row row_box in
-    let near = subst (λ (area : Window). IsNextNear area boxes (place + 1) next) c.box_of-area.ensures c.next-at.ensures in
+    let near = subst (λ (area : Window). IsNextNear area boxes end next) c.box_of-area.ensures c.next-at.ensures in
     record {
-      behind = omega (arith, near.after);
+      behind = omega (arith, near.after, fan.after);
       within = omega (arith, near.within, long);
-      so_far = least_of_passed row place next (λ k d. passed row boxes place (place + 1) next past_row c.requires.row c.requires.inside near k d);
+      so_far = least_of_passed row place next (λ k d after lt. elim (cases_lt k end) [
+        | inl less ↦ fan.apart place k d (omega arith) (omega (arith, after)) less
+        | inr from ↦ passed row boxes place end next past_row c.requires.row c.requires.inside near k d from lt
+      ]);
     }
 
 pub near-preserved : goal.near-preserved

@@ -5,6 +5,7 @@ use Rattle.rayon.proofs.ToStd.{nat_range-All}
 use Rattle.rayon.proofs.Reducing.{Reduces-elim}
 use Rattle.planar_apart.specs.declared.meeting.Meeting.{Meeting}
 use Rattle.planar_apart.specs.Rows.{IsRow, IsLeastBehind}
+use Rattle.planar_apart.specs.Fans.{AreFanEnds}
 use Rattle.planar_apart.proofs.Earlier.{IsLeastOf, least_of_none, least_of_more, least_of_two}
 use Rattle.planar_apart.proofs.RowSearch.{least_of_all}
 use Rattle.planar_apart.proofs.meeting.least_of_row.Goals as goal
@@ -14,7 +15,7 @@ reduce-requires-clause-ready g c κs within =
     let ends = c.into_par_iter.ensures in
     let row = c.args.row.now in
     let boxes = c.args.tree.now in
-    let inside = nat_range-All (λ i. (i < length row) × IsRow row boxes) 0 (length row) (λ i low high. (high, c.requires)) in
+    let inside = nat_range-All (λ i. (i < length row) × IsRow row boxes × AreFanEnds row c.args.fan_ends.now) 0 (length row) (λ i low high. (high, c.requires.row, c.requires.fans)) in
     rw (c.map.ensures.base, c.map.ensures.f, ends.0, ends.1) (λ k d lt. (inside k d lt, λ y p. tt))
 
 pub returns : goal.returns
