@@ -6,4 +6,5 @@ pub mod Removed
 pub mod NearPlaces
 pub mod Unswept
 pub mod Swept
+pub mod CornerPlaces
 pub mod WideCorners

@@ -3,7 +3,7 @@
 ghost use Rattle.std.specs.Prelude.{◌≡◌, ℕ, List as Sequence, [], false, filter, All};
 ghost use Rattle.tgap_model.specs.declared.slice.Edge.{Edge as Line};
 ghost use Rattle.tgap_model.specs.Removals.{has_side, sweep};
-ghost use Rattle.vertex_drop.specs.Corners.{AreWide};
+ghost use Rattle.vertex_drop.specs.Corners.{has_small_corner, may_remove};
 ghost use Rattle.vertex_drop.specs.Held.{IsNearPoint};
 
 use crate::removable::{Corner, Rule, is_small_corner};
@@ -12,7 +12,7 @@ use tgap_model::{Edge, Point};
 /// Whether three points in a row of these are on one line, or have a triangle that is small enough.
 fn has_small_corner(rule: Rule, points: &[Point]) -> bool
     requires { All IsNearPoint points.now }
-    ensures { result ≡ false → AreWide rule.ratio rule.area points.now }
+    ensures { result ≡ has_small_corner rule.ratio rule.area points.now }
 {
     for i in 2..points.len() {
         let corner = Corner {
@@ -28,12 +28,13 @@ fn has_small_corner(rule: Rule, points: &[Point]) -> bool
 }
 
 /// Whether a step may remove a vertex of these edges, which are those that border its new face, where `loser_area` is twice the
-/// area of its loser: three points in a row of one of them are on one line, or the ratio times twice the area of their triangle is
-/// at most that. Where it may not, `sweep` removes nothing, and need not be asked. It takes one pass over the points. With a ratio
-/// of 0 nothing goes, and nothing is read.
+/// area of its loser: the ratio is not 0, and three points in a row of one of them are on one line, or the ratio times twice the
+/// area of their triangle is at most that. Where it may not, `sweep` removes nothing, and need not be asked. It takes one pass
+/// over the points, which ends at the first such three. With a ratio of 0 nothing is read.
 pub fn may_remove(edges: &[Edge], loser_area: i128, ratio: u32) -> bool
     requires { All (λ e. All IsNearPoint e.points) edges.now }
-    ensures { result ≡ false → (made : ℕ) (live : Sequence Line) → edges.now ≡ filter (has_side made) live → sweep ratio loser_area made live ≡ [] }
+    ensures exact { result ≡ may_remove ratio loser_area edges.now }
+    ensures none { result ≡ false → (made : ℕ) (live : Sequence Line) → edges.now ≡ filter (has_side made) live → sweep ratio loser_area made live ≡ [] }
 {
     if ratio == 0 {
         return false;
