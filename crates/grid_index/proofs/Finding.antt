@@ -21,7 +21,7 @@ use Rattle.grid_index.specs.Boxes.{meets, Covers}
 use Rattle.grid_index.specs.Near.{cons_if, boxes_near, near_boxes}
 use Rattle.grid_index.specs.Tower.{meets_at}
 use Rattle.grid_index.specs.Slots.{held, slot_at, taken, is_near, entry_near, IsBounded, IsHolder}
-use Rattle.grid_index.proofs.Covering.{meets_wider}
+use Rattle.grid_index.specs.Wider.{meets_wider}
 use Rattle.grid_index.proofs.Ranges.{filter-flat_map, flat_map-filter}
 use Rattle.grid_index.proofs.Meeting.{meets_at-within, near_filtered}
 use Rattle.grid_index.proofs.Holding.{slot_within}

@@ -11,7 +11,7 @@ use Rattle.grid_index.specs.declared.tree.TheConstants.{FANOUT}
 use Rattle.grid_index.specs.Boxes.{Covers}
 use Rattle.grid_index.specs.Near.{near_boxes}
 use Rattle.grid_index.specs.Tower.{meets_at, children, meeting, IsHull, IsTower, Leads, Reaches}
-use Rattle.grid_index.proofs.Covering.{meets_wider}
+use Rattle.grid_index.specs.Wider.{meets_wider}
 use Rattle.grid_index.proofs.Ranges.{range-append, filter-flat_map, flat_map-filter}
 use Rattle.grid_index.proofs.Meeting.{meets_at_is, meets_at-within, near_filtered, near_below, filter_short}
 

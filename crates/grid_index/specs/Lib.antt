@@ -6,3 +6,4 @@ pub mod Live
 pub mod Slots
 pub mod Merged
 pub mod Changes
+pub mod Wider

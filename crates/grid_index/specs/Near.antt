@@ -17,9 +17,13 @@ boxes_near area i (b ∷ boxes) = cons_if (meets area b) i (boxes_near area (i +
 abbrev pub near_boxes : Window → List Window → List ℕ
 near_boxes area boxes = boxes_near area 0 boxes
 
--- the first place from this one on whose box meets the area, or the number of the boxes where there is none
-pub record IsNextNear (area : Window) (boxes : List Window) (from next : ℕ) : Type 0 where
+-- the first place from this one on whose box passes the test, or the number of the boxes where there is none
+pub record IsNextHit (hits : Window → Bool) (boxes : List Window) (from next : ℕ) : Type 0 where
   pub after : from ≤ next
   pub within : next ≤ length boxes
-  pub near : (d : Window) → next < length boxes → meets area (get_or boxes next d) ≡ true
-  pub apart : (k : ℕ) (d : Window) → from ≤ k → k < next → meets area (get_or boxes k d) ≡ false
+  pub near : (d : Window) → next < length boxes → hits (get_or boxes next d) ≡ true
+  pub apart : (k : ℕ) (d : Window) → from ≤ k → k < next → hits (get_or boxes k d) ≡ false
+
+-- the same, where the boxes that meet the area pass
+abbrev pub IsNextNear : Window → List Window → ℕ → ℕ → Type 0
+IsNextNear area boxes from next = IsNextHit (meets area) boxes from next

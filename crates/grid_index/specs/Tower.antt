@@ -64,6 +64,6 @@ abbrev pub AreLevels : List (List Window) → List Window → Type 0
 AreLevels [] row = Unit
 AreLevels (top ∷ levels) row = AreHulls top levels row
 
--- no box of the row from one place on meets the area, up to another place
-abbrev pub IsClear : Window → List Window → ℕ → ℕ → Type 0
-IsClear area row from end = (k : ℕ) (d : Window) → from ≤ k → k < end → k < length row → meets area (get_or row k d) ≡ false
+-- no box of the row from one place on passes the test, up to another place
+abbrev pub IsClear : (Window → Bool) → List Window → ℕ → ℕ → Type 0
+IsClear hits row from end = (k : ℕ) (d : Window) → from ≤ k → k < end → k < length row → hits (get_or row k d) ≡ false

@@ -3,9 +3,10 @@
 ghost use Rattle.std.specs.Prelude.{◌≡◌, ◌<◌, ◌≤◌, ◌*◌, ◌++◌, List as Sequence, length, filter, slice_set, All, IfOk, OnOk};
 ghost use Rattle.std.specs.Vec.{vec_capacity, vec_len};
 ghost use Rattle.tgap_model.specs.declared.geometry.Window.{Window as Area};
-ghost use Rattle.grid_index.specs.Near.{near_boxes, IsNextNear};
+ghost use Rattle.grid_index.specs.Near.{near_boxes, IsNextHit};
 ghost use Rattle.grid_index.specs.Tower.{meets_at, children, meeting, IsHull, IsTower, HoldsGroup, IsTowerBut, AreLevels, IsClear};
 
+use crate::probe::Probe;
 use crate::window::{hull, meets};
 use std::alloc::Global;
 use std::marker::Model;
@@ -138,31 +139,31 @@ fn renew(alloc: Global, levels: &mut Vec<List<Window>>, row: &[Window], place: u
     levels.push_reserved(above);
 }
 
-/// The end of the boxes from `at` on that boxes of these levels hold which do not meet the area, or `at` itself. The last
-/// level is the one over the row, and the largest group that begins at `at` and can be passed is passed.
-fn skipped(levels: &[List<Window>], area: &Window, at: usize) -> usize
+/// The end of the boxes from `at` on that boxes of these levels hold which fail the test, or `at` itself. The last
+/// level is the one over the row, and the largest group that begins at `at` and can be passed over is passed over.
+fn skipped<P: Probe>(levels: &[List<Window>], probe: &P, at: usize) -> usize
     ensures after { at ≤ result }
-    ensures clear { (row : Sequence Area) → AreLevels levels.now row → IsClear area.now row at result }
+    ensures clear { (row : Sequence Area) → AreLevels levels.now row → IsClear (P.hits probe.now) row at result }
 {
     let Some((level, above)) = levels.split_last() else {
         return at;
     };
     let parent = at / FANOUT;
     let hulls = level.as_slice();
-    if at % FANOUT != 0 || parent >= hulls.len() || meets(area, &hulls[parent]) {
+    if at % FANOUT != 0 || parent >= hulls.len() || probe.is_hit(&hulls[parent]) {
         return at;
     }
-    let end = skipped(above, area, parent).max(parent + 1);
+    let end = skipped(above, probe, parent).max(parent + 1);
     end.saturating_mul(FANOUT)
 }
 
 /// The same. Most places begin no group, and that is seen here.
-fn passed(levels: &[List<Window>], area: &Window, at: usize) -> usize
+fn passed<P: Probe>(levels: &[List<Window>], probe: &P, at: usize) -> usize
     ensures after { at ≤ result }
-    ensures clear { (row : Sequence Area) → AreLevels levels.now row → IsClear area.now row at result }
+    ensures clear { (row : Sequence Area) → AreLevels levels.now row → IsClear (P.hits probe.now) row at result }
 {
     if at % FANOUT == 0 {
-        skipped(levels, area, at)
+        skipped(levels, probe, at)
     } else {
         at
     }
@@ -204,20 +205,21 @@ impl BoxTree {
         renew(alloc, &mut self.levels, self.boxes.as_slice(), place);
     }
 
-    /// The first place from `from` on whose box meets the area, or the number of the boxes where there is none. It takes
-    /// no memory, and all places in turn take the time of those places and little more.
-    pub fn next(&self, area: &Window, from: usize) -> usize
+    /// The first place from `from` on whose box passes the test, or the number of the boxes where there is none: with a
+    /// window, whose box meets it. It takes no memory, and all places in turn take the time of those places and of the
+    /// hulls that pass.
+    pub fn next<P: Probe>(&self, probe: &P, from: usize) -> usize
         requires { from ≤ length self.now }
-        ensures { IsNextNear area.now self.now from result }
+        ensures { IsNextHit (P.hits probe.now) self.now from result }
     {
         let boxes = self.boxes.as_slice();
         let levels = self.levels.as_slice();
         let mut at = from;
         'walk: while at < boxes.len() {
-            let end = passed(levels, area, at);
+            let end = passed(levels, probe, at);
             if at < end {
                 at = end.min(boxes.len());
-            } else if meets(area, &boxes[at]) {
+            } else if probe.is_hit(&boxes[at]) {
                 return at;
             } else {
                 at += 1;

@@ -14,6 +14,7 @@ mod hubs;
 mod meeting;
 mod pair;
 mod row;
+mod sight;
 
 pub use meeting::Meeting;
 use meeting::first_pair;
@@ -24,10 +25,10 @@ use tgap_model::{Base, Memory, base_segments};
 /// The least pair of segments that meet where they may not, with a point that both hold, or None exactly where there is
 /// none.
 ///
-/// Only pairs of segments whose bounding boxes meet are looked at, and a tree of the boxes names them. The segments that
-/// leave a node with many arcs stand next to one another by their directions, and pairs of these are passed over. So the
-/// time is near the number of segments and of the other such pairs, shared among as many threads as there are processors
-/// where there are some thousand segments; the memory is a small multiple of the segments.
+/// Only pairs of segments are looked at of which one may cross the bounding box of the other, and a tree of the boxes names
+/// them. The segments that leave a node with many arcs stand next to one another by their directions, and pairs of these
+/// are passed over. So the time is near the number of segments and of the other such pairs, shared among as many threads
+/// as there are processors where there are some thousand segments; the memory is a small multiple of the segments.
 pub fn first_meeting<R: Threads + Sync>(
     rt: &R,
     alloc: Global,

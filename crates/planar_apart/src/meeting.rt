@@ -7,11 +7,11 @@ ghost use Rattle.planar_apart.specs.Meetings.{meets, is_before, IsNoLater, IsEar
 ghost use Rattle.planar_apart.specs.Fans.{IsFan, AreFanEnds};
 ghost use Rattle.planar_apart.specs.Rows.{ordered_meeting, meeting_of, IsRow, IsLeastBehind, IsLeastOfRow};
 
-use crate::boxes::box_of;
 use crate::fan::fan_ends;
 use crate::hubs::order_by_hubs;
 use crate::pair::{meeting_point, part_at_end};
 use crate::row::{NumberedSegment, row_boxes, row_of};
+use crate::sight::Sight;
 use grid_index::BoxTree;
 use rayon::prelude::*;
 use std::alloc::Global;
@@ -86,7 +86,7 @@ fn may_meet(a: &NumberedSegment, b: &NumberedSegment) -> bool
 }
 
 /// The least meeting of the segment at this place of the row with one behind it in the row, looked for among those behind
-/// its fan whose boxes meet its box.
+/// its fan whose boxes it may cross.
 fn least_behind(
     row: &[NumberedSegment],
     tree: &BoxTree,
@@ -99,15 +99,15 @@ fn least_behind(
     ensures { IsLeastBehind row.now place result }
 {
     let segment = &row[place];
-    let area = box_of(&segment.segment);
+    let sight = Sight::of(&segment.segment);
     let mut least = None;
-    let mut at = tree.next(&area, fan_end);
+    let mut at = tree.next(&sight, fan_end);
     'near: while at < row.len() {
         let other = &row[at];
         if may_meet(segment, other) {
             least = earlier(least, meeting_of(segment, other));
         }
-        at = tree.next(&area, at + 1);
+        at = tree.next(&sight, at + 1);
     }
     least
 }

@@ -1,10 +1,12 @@
-use Rattle.std.proofs.Common.{◌≡◌, inl, inr, ◌+◌, length, get_or, Option, sym, ap, ap₂, ◌∙◌, subst, subst₂, arith}
+use Rattle.std.proofs.Common.{◌≡◌, inl, inr, ◌+◌, length, get_or, Option, sym, ap, ap₂, ◌∙◌, subst₂, arith}
 use Rattle.std.proofs.lemmas.Bool.{cases_lt}
 use Rattle.std.proofs.lemmas.List.{get_or_default, length-map}
+use Rattle.tgap_model.specs.declared.geometry.Seg.{Seg}
 use Rattle.tgap_model.specs.declared.geometry.Window.{Window}
-use Rattle.grid_index.specs.Near.{IsNextNear}
+use Rattle.grid_index.specs.Near.{IsNextHit}
 use Rattle.planar_apart.specs.declared.meeting.Meeting.{Meeting}
 use Rattle.planar_apart.specs.Meetings.{IsEarlier}
+use Rattle.planar_apart.specs.Crossing.{crosses}
 use Rattle.planar_apart.specs.Rows.{row_box, meeting_of, past_row}
 use Rattle.planar_apart.proofs.Near.{passed}
 use Rattle.planar_apart.proofs.Earlier.{earlier_than_none}
@@ -21,7 +23,7 @@ near-init c =
     let next = c.next-at.result in
     let fan = c.requires.fan in
     let long : length boxes ≡ length row = ap length c.requires.row.boxes_are ∙ length-map row row_box in
-    let near = subst (λ (area : Window). IsNextNear area boxes end next) c.box_of-area.ensures c.next-at.ensures in
+    let near = subst₂ (λ (area : Window) (segment : Seg). IsNextHit (crosses area segment) boxes end next) c.of-sight.ensures.area c.of-sight.ensures.segment c.next-at.ensures in
     record {
       behind = omega (arith, near.after, fan.after);
       within = omega (arith, near.within, long);
@@ -41,7 +43,7 @@ near-preserved c =
     let old = c.near.least in
     let new = c.if-may_meet.least in
     let long : length boxes ≡ length row = ap length c.requires.row.boxes_are ∙ length-map row row_box in
-    let near = subst (λ (area : Window). IsNextNear area boxes (at + 1) next) c.box_of-area.ensures c.next-at-in-near.ensures in
+    let near = subst₂ (λ (area : Window) (segment : Seg). IsNextHit (crosses area segment) boxes (at + 1) next) c.of-sight.ensures.area c.of-sight.ensures.segment c.next-at-in-near.ensures in
     let met = meeting_of (get_or row place past_row) (get_or row at past_row) in
     let changed : IsEarlier old met new = elim c.if-may_meet.branch [
       | then-may_meet w ↦ subst₂ (λ (found now : Option Meeting). IsEarlier old found now) w.meeting_of.ensures (sym w.least-is) w.earlier-least.ensures
