@@ -192,14 +192,14 @@ faces_few (f ∷ faces) h s =
     number g e = let p = and_parts (nat_le 1 g.face) (is_number g.face) (and_parts (nat_le 1 g.face && is_number g.face) (is_number g.class) e).0 in (leb-true 1 g.face p.0, p.1)
 
 -- what rule 2 says of the faces
-record FaceFacts (s : Slice) (r : StepRecord) : Type 0 where
-  no_loser : has_face s r.loser ≡ false
-  no_winner : has_face s r.winner ≡ false
-  differ : (r.loser == r.winner) ≡ false
-  loser : (r.loser == 0) ≡ false
-  winner : (r.winner == 0) ≡ false
+pub record FaceFacts (s : Slice) (r : StepRecord) : Type 0 where
+  pub no_loser : has_face s r.loser ≡ false
+  pub no_winner : has_face s r.winner ≡ false
+  pub differ : (r.loser == r.winner) ≡ false
+  pub loser : (r.loser == 0) ≡ false
+  pub winner : (r.winner == 0) ≡ false
 
-face_facts : (s : Slice) (r : StepRecord) → fits_faces s r ≡ true → FaceFacts s r
+pub face_facts : (s : Slice) (r : StepRecord) → fits_faces s r ≡ true → FaceFacts s r
 face_facts s r h =
     let a0 = has_made s r in
     let a1 = a0 && not (has_face s r.loser) in

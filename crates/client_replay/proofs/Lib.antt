@@ -11,4 +11,10 @@ pub mod Points
 pub mod Rows
 pub mod Form
 pub mod Told
+pub mod Tables
+pub mod Labelling
+pub mod FaceRows
+pub mod Relabelled
+pub mod LineTables
+pub mod Changing
 pub mod Replays

@@ -19,6 +19,7 @@ use Rattle.tgap_model.specs.declared.record.StepRecord.{StepRecord}
 use Rattle.tgap_model.specs.Records.{edge_before, edge_with, has_one_side, refined, undo, fits_mends, fits_keys}
 use Rattle.client_replay.specs.Coming.{faces_before, mended, coming, staying, stays, woven}
 use Rattle.client_replay.specs.Rules.{are_in_order, mends_in_order, names_edge}
+use Rattle.client_replay.specs.Working.{DifferInKey}
 use Rattle.client_replay.proofs.Found.{ascend_by, any_found}
 use Rattle.client_replay.proofs.Weaving.{edge_order, woven-permutation, woven-is_sorted, All-back}
 use Rattle.client_replay.proofs.Staying.{AreNamed, refined-permutation, staying-is_sorted, key_stays}
@@ -37,8 +38,8 @@ mends_named s r h k d l =
     named None e = e
     named (Some f) e = refl
 
-abbrev pub slice_of : ℕ → List FaceRow → List Edge → Slice
-slice_of step faces edges = record { step = step; faces = faces; edges = edges }
+abbrev pub slice_with : ℕ → List FaceRow → List Edge → Slice
+slice_with step faces edges = record { step = step; faces = faces; edges = edges }
 
 -- all edges of the finer slice
 abbrev pub all_edges : Slice → StepRecord → List Edge
@@ -150,8 +151,16 @@ module _ (s : Slice) (r : StepRecord) (in_order : are_in_order s.edges ≡ true)
             other true e = absurd (true≢false (sym (test_passes rising e) ∙ h))
             other false e = sym (ascend_by (λ f. f.key) (sort_by edge_before (all_edges s r)) ∙ e)
 
-    -- the slice one step back
-    pub undone_is : (are_in_order edges && not (list_any (λ e. stays s r e.key) edges)) ≡ true → (faces : List FaceRow) (all : List Edge)
-        → faces ≡ faces_before s.faces r → all ≡ woven (staying r r.mends s.edges) edges → slice_of (s.step - 1) faces all ≡ undo s r
+    -- those that stay and those that come differ in their keys
+    pub own_apart : IsNonDecreasingBy (λ (e : Edge). e.key) edges → (are_in_order edges && not (list_any (λ e. stays s r e.key) edges)) ≡ true
+        → AllPairs DifferInKey (staying r r.mends s.edges ++ edges)
+    own_apart rising h = all_apart rising (ap (is_sorted_by edge_before) (sorted_is_woven h) ∙ woven_is_sorted h)
+
+    -- the slice one step back has them in the order of their keys
+    pub undone_is : (faces : List FaceRow) (all : List Edge) → faces ≡ faces_before s.faces r → is_sorted_by edge_before all ≡ true
+        → IsPermutation (staying r r.mends s.edges ++ edges) all → slice_with (s.step - 1) faces all ≡ undo s r
     unfolding undo
-    undone_is h faces all f e = ap₂ (slice_of (s.step - 1)) f (e ∙ sym (sorted_is_woven h))
+    undone_is faces all f sorted perm =
+        ap₂ (slice_with (s.step - 1)) f
+        (sym (sort_by-permuted edge_order (all_edges s r) all (λ k d l. tt) sorted
+        (IsPermutation-trans (all_edges s r) (staying r r.mends s.edges ++ edges) all (all-permutation edges moved) perm)))

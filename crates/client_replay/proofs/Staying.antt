@@ -1,5 +1,5 @@
 -- The edges of the finer slice: those that stay, and the pieces of the others.
-use Rattle.std.proofs.Common.{◌≡◌, ℕ, ◌<◌, Bool, true, false, ◌&&◌, ◌||◌, cond, nat_lt, List, [], ◌∷◌, ◌++◌, get_or, All, IsPermutation, Option, Some, None, refl, sym, ap, ap₂, subst, ◌∙◌, true≢false, arith}
+use Rattle.std.proofs.Common.{◌≡◌, ℕ, ◌<◌, Bool, true, false, ◌&&◌, ◌||◌, cond, nat_lt, List, [], ◌∷◌, ◌++◌, map, filter, get_or, All, IsPermutation, Option, Some, None, refl, sym, ap, ap₂, subst, ◌∙◌, true≢false, arith}
 use Rattle.std.specs.Prelude.{◌==◌, find, flat_map, not}
 use Rattle.std.specs.List.{list_any}
 use Rattle.std.proofs.lemmas.Bool.{eq-eqb, ne_eqb, eqb-true}
@@ -7,6 +7,7 @@ use Rattle.std.proofs.lemmas.List.Elements.{All-nil, All-cons, All-head, All-tai
 use Rattle.std.proofs.lemmas.List.Folds.{list_any_none}
 use Rattle.std.proofs.lemmas.List.Sorted.{IsPermutation-refl, IsPermutation-cons, IsPermutation-trans, IsPermutation-append_right}
 use Rattle.lemmas.specs.Sorting.{is_sorted_by}
+use Rattle.lemmas.proofs.Members.{filter_agree_on}
 use Rattle.lemmas.proofs.Sorting.{sorted_tail, sorted_head, sorted_cons}
 use Rattle.tgap_model.specs.declared.slice.Edge.{Edge}
 use Rattle.tgap_model.specs.declared.record.Mend.{Mend}
@@ -126,6 +127,45 @@ module _ (r : StepRecord) where
           let whole = IsPermutation-cons (lowered r e) (flat_map (refined_by (m ∷ mends)) edges) (stay ++ flat_map (mended edges r) (m ∷ mends)) rest in
           subst (λ zs. IsPermutation zs ((lowered r e ∷ stay) ++ flat_map (mended (e ∷ edges) r) (m ∷ mends))) (sym front)
           (subst (λ zs. IsPermutation (lowered r e ∷ flat_map (refined_by (m ∷ mends)) edges) ((lowered r e ∷ stay) ++ zs)) (sym others') whole)
+
+  -- a mend of an edge with this key
+  abbrev pub is_mended : List Mend → Edge → Bool
+  is_mended mends e = list_any (λ m. m.key == e.key) mends
+
+  -- the edges that stay are those that no mend names
+  pub staying_is : (mends : List Mend) (edges : List Edge) → is_sorted_by edge_before edges ≡ true → is_sorted_by (λ x y. nat_lt x.key y.key) mends ≡ true → AreNamed edges mends
+      → staying r mends edges ≡ map (lowered r) (filter (λ e. not (is_mended mends e)) edges)
+  staying_is mends [] s t named = refl
+  staying_is [] (e ∷ edges) s t named =
+      ap (λ zs. lowered r e ∷ zs) (staying_is [] edges (sorted_tail edge_before e edges s) refl (All-nil (λ (n : Mend). list_any (λ (f : Edge). f.key == n.key) edges ≡ true)))
+  staying_is (m ∷ mends) (e ∷ edges) s t named =
+      by (e.key == m.key) refl
+      (λ named'. staying_is mends edges (sorted_tail edge_before e edges s) (sorted_tail (λ x y. nat_lt x.key y.key) m mends t) named')
+      (λ named'. staying_is (m ∷ mends) edges (sorted_tail edge_before e edges s) t named')
+    where
+      left : List Edge
+      left = filter (λ f. not (is_mended (m ∷ mends) f)) edges
+
+      by : (b : Bool) → (e.key == m.key) ≡ b
+          → (AreNamed edges mends → staying r mends edges ≡ map (lowered r) (filter (λ f. not (is_mended mends f)) edges))
+          → (AreNamed edges (m ∷ mends) → staying r (m ∷ mends) edges ≡ map (lowered r) left)
+          → cond b (staying r mends edges) (lowered r e ∷ staying r (m ∷ mends) edges) ≡ map (lowered r) (filter (λ f. not (is_mended (m ∷ mends) f)) (e ∷ edges))
+      by true h both later =
+          let same = eqb-true e.key m.key h in
+          let ne : All (λ n. e.key ≡ n.key → ⊥) mends = λ i d l q. omega (arith, q, same, above_first (λ n. n.key) m mends t i d l) in
+          let above = above_first (λ f. f.key) e edges s in
+          let others : filter (λ f. not (is_mended mends f)) edges ≡ left =
+          filter_agree_on (λ f. not (is_mended mends f)) (λ f. not (is_mended (m ∷ mends) f)) edges
+          (λ k d l. sym (ap (λ (b : Bool). not (b || is_mended mends (get_or edges k d))) (ne_eqb m.key (get_or edges k d).key (λ q. omega (arith, q, same, above k d l))))) in
+          both (still_named e edges mends ne (All-tail (λ n. list_any (λ f. f.key == n.key) (e ∷ edges) ≡ true) m mends named))
+          ∙ ap (map (lowered r)) others
+          ∙ sym (ap (λ (b : Bool). map (lowered r) (cond (not (b || is_mended mends e)) (e ∷ left) left)) (eq-eqb m.key e.key (sym same)))
+      by false h both later =
+          let above = first_two e edges m mends s t named h in
+          let ne : All (λ n. e.key ≡ n.key → ⊥) (m ∷ mends) = λ i d l q. omega (arith, q, above i d l) in
+          let none : is_mended (m ∷ mends) e ≡ false = list_any_none (λ n. n.key == e.key) (m ∷ mends) (λ i d l. ne_eqb (get_or (m ∷ mends) i d).key e.key (λ z. omega (arith, z, above i d l))) in
+          ap (λ zs. lowered r e ∷ zs) (later (still_named e edges (m ∷ mends) ne named))
+          ∙ sym (ap (λ (b : Bool). map (lowered r) (cond (not b) (e ∷ left) left)) none)
 
   -- what holds of each lowered edge holds of those that stay
   pub All-staying : (P : Edge → Type 0) (mends : List Mend) (edges : List Edge) → All (λ e. P (lowered r e)) edges → All P (staying r mends edges)

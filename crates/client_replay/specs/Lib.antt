@@ -1,4 +1,6 @@
 pub mod Between
 pub mod Coming
+pub mod Labels
 pub mod Rules
 pub mod Replaying
+pub mod Working

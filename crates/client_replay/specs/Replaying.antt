@@ -8,6 +8,11 @@ use Rattle.tgap_model.specs.declared.failure.Or.TheVariants.{Fault, Memory}
 use Rattle.tgap_model.specs.Records.{broken_rule, undo}
 use Rattle.client_replay.specs.declared.unfit.Unfit.{Unfit}
 
+-- the slice after a record: a step back, or as it was where the record breaks a rule
+abbrev pub after : Slice → StepRecord → Option ℕ → Slice
+after s r None = undo s r
+after s r (Some rule) = s
+
 -- what the records make of a slice, and why they stop before the end, where they do: the first that breaks a rule
 abbrev pub undone : Slice → List StepRecord → Slice × Option Unfit
 undone s [] = (s, None)

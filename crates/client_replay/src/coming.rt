@@ -1,7 +1,7 @@
 //! The edges that come by a record: the pieces of mended edges, and the edges that the step ended; and whether their keys
 //! differ from each other and from those of the edges that stay.
 
-ghost use Rattle.std.specs.Prelude.{◌≡◌, ◌&&◌, ◌++◌, not, nat_lt, map, flat_map, IsPermutation, IfOk, OnOk, IsTrue};
+ghost use Rattle.std.specs.Prelude.{◌≡◌, ◌&&◌, ◌++◌, [], not, nat_lt, map, flat_map, IsPermutation, IfOk, OnOk, IsTrue};
 ghost use Rattle.lemmas.specs.Sorting.{is_sorted_by};
 ghost use Rattle.std.specs.List.{list_any};
 ghost use Rattle.std.specs.List.Sorted.{IsNonDecreasingBy};
@@ -9,47 +9,61 @@ ghost use Rattle.tgap_model.specs.declared.slice.Edge.{Edge};
 ghost use Rattle.tgap_model.specs.Records.{fits_puts};
 ghost use Rattle.client_replay.specs.Coming.{mended, coming, stays};
 ghost use Rattle.client_replay.specs.Rules.{are_in_order, mends_in_order};
+ghost use Rattle.client_replay.specs.Working.{edge_of, slice_of};
 
-use crate::find::{find_edge, has_edge, has_mend};
+use crate::find::has_mend;
+use crate::lines::Line;
 use crate::order::edges_ascend;
 use crate::pieces::cut_pieces;
 use crate::puts::put_in;
+use crate::working::Working;
 use std::alloc::Global;
-use tgap_model::{Edge, List, Memory, Mend, Slice, StepRecord};
+use tgap_model::{Edge, List, Memory, Mend, StepRecord};
+
+/// The edge of a line, without its points. It takes no memory.
+fn edge_without_points(alloc: Global, working: &Working, key: u32, line: &Line) -> Edge
+    ensures { result ≡ record (edge_of working.now.labels (key, line.now)) { points = [] } }
+{
+    Edge {
+        key,
+        left: working.labels.face(line.left),
+        right: working.labels.face(line.right),
+        points: List::new(alloc),
+    }
+}
 
 /// Appends the pieces of the edge that the mend names, where there is such an edge.
 fn add_pieces(
     alloc: Global,
-    slice: &Slice,
+    working: &Working,
     step_record: &StepRecord,
     mend: &Mend,
     edges: &mut Vec<Edge>,
 ) -> Result<(), Memory>
-    requires slice { IsTrue (are_in_order slice.now.edges) }
     requires puts { IsTrue (is_sorted_by nat_lt (map (λ p. p.at) mend.now.puts)) }
-    ensures { OnOk result (edges.new.items ≡ edges.old.items ++ mended slice.now.edges step_record.now mend.now) }
+    ensures { OnOk result (edges.new.items ≡ edges.old.items ++ mended (slice_of working.now).edges step_record.now mend.now) }
 {
-    let Some(edge) = find_edge(slice.edges.as_slice(), mend.key) else {
+    let Some(line) = working.line(mend.key) else {
         return Ok(());
     };
-    let points = put_in(alloc, edge.points.as_slice(), mend.puts.as_slice())?;
+    let points = put_in(alloc, line.points.as_slice(), mend.puts.as_slice())?;
+    let edge = edge_without_points(alloc, working, mend.key, line);
     let pieces = mend.pieces.as_slice();
-    cut_pieces(alloc, step_record, edge, points.as_slice(), pieces, edges)
+    cut_pieces(alloc, step_record, &edge, points.as_slice(), pieces, edges)
 }
 
 /// Appends the pieces of all mended edges.
 fn add_mended(
     alloc: Global,
-    slice: &Slice,
+    working: &Working,
     step_record: &StepRecord,
     edges: &mut Vec<Edge>,
 ) -> Result<(), Memory>
-    requires slice { IsTrue (are_in_order slice.now.edges) }
-    requires puts { IsTrue (fits_puts slice.now step_record.now) }
-    ensures { OnOk result (edges.new.items ≡ edges.old.items ++ flat_map (mended slice.now.edges step_record.now) step_record.now.mends) }
+    requires puts { IsTrue (fits_puts (slice_of working.now) step_record.now) }
+    ensures { OnOk result (edges.new.items ≡ edges.old.items ++ flat_map (mended (slice_of working.now).edges step_record.now) step_record.now.mends) }
 {
     for mend in step_record.mends.as_slice() {
-        add_pieces(alloc, slice, step_record, mend, edges)?;
+        add_pieces(alloc, working, step_record, mend, edges)?;
     }
     Ok(())
 }
@@ -67,7 +81,7 @@ fn copy_edge(alloc: Global, edge: &Edge) -> Result<Edge, Memory>
 }
 
 /// Appends copies of these edges.
-fn add_copies(alloc: Global, copied: &[Edge], edges: &mut Vec<Edge>) -> Result<(), Memory>
+pub fn add_copies(alloc: Global, copied: &[Edge], edges: &mut Vec<Edge>) -> Result<(), Memory>
     ensures { OnOk result (edges.new.items ≡ edges.old.items ++ copied.now) }
 {
     for edge in copied {
@@ -85,36 +99,33 @@ fn sort_by_key(edges: &mut Vec<Edge>)
 }
 
 /// The edges that come, in the order of their keys. Two may have one key.
-pub fn coming(alloc: Global, slice: &Slice, step_record: &StepRecord) -> Result<Vec<Edge>, Memory>
-    requires slice { IsTrue (are_in_order slice.now.edges) }
-    requires puts { IsTrue (fits_puts slice.now step_record.now) }
-    ensures permutation { IfOk result (λ edges. IsPermutation (coming slice.now step_record.now) edges.items) }
+pub fn coming(alloc: Global, working: &Working, step_record: &StepRecord) -> Result<Vec<Edge>, Memory>
+    requires puts { IsTrue (fits_puts (slice_of working.now) step_record.now) }
+    ensures permutation { IfOk result (λ edges. IsPermutation (coming (slice_of working.now) step_record.now) edges.items) }
     ensures sorted { IfOk result (λ edges. IsNonDecreasingBy (λ (e : Edge). e.key) edges.items) }
 {
     let mut edges = Vec::new(alloc);
-    add_mended(alloc, slice, step_record, &mut edges)?;
+    add_mended(alloc, working, step_record, &mut edges)?;
     add_copies(alloc, step_record.ended.as_slice(), &mut edges)?;
     sort_by_key(&mut edges);
     Ok(edges)
 }
 
 /// Whether an edge with this key stays.
-fn stays(slice: &Slice, step_record: &StepRecord, key: u32) -> bool
-    requires slice { IsTrue (are_in_order slice.now.edges) }
+fn stays(working: &Working, step_record: &StepRecord, key: u32) -> bool
     requires mends { IsTrue (mends_in_order step_record.now.mends) }
-    ensures { result ≡ stays slice.now step_record.now key }
+    ensures { result ≡ stays (slice_of working.now) step_record.now key }
 {
-    has_edge(slice.edges.as_slice(), key) && !has_mend(step_record.mends.as_slice(), key)
+    working.has_edge(key) && !has_mend(step_record.mends.as_slice(), key)
 }
 
 /// Whether one of these edges has the key of an edge that stays.
-fn meet_staying(slice: &Slice, step_record: &StepRecord, edges: &[Edge]) -> bool
-    requires slice { IsTrue (are_in_order slice.now.edges) }
+fn meet_staying(working: &Working, step_record: &StepRecord, edges: &[Edge]) -> bool
     requires mends { IsTrue (mends_in_order step_record.now.mends) }
-    ensures { result ≡ list_any (λ e. stays slice.now step_record.now e.key) edges.now }
+    ensures { result ≡ list_any (λ e. stays (slice_of working.now) step_record.now e.key) edges.now }
 {
     for edge in edges {
-        if stays(slice, step_record, edge.key) {
+        if stays(working, step_record, edge.key) {
             return true;
         }
     }
@@ -122,10 +133,9 @@ fn meet_staying(slice: &Slice, step_record: &StepRecord, edges: &[Edge]) -> bool
 }
 
 /// Rule 7: whether the keys differ, those of the edges that come, which stand in their order, and of those that stay.
-pub fn keys_differ(slice: &Slice, step_record: &StepRecord, edges: &[Edge]) -> bool
-    requires slice { IsTrue (are_in_order slice.now.edges) }
+pub fn keys_differ(working: &Working, step_record: &StepRecord, edges: &[Edge]) -> bool
     requires mends { IsTrue (mends_in_order step_record.now.mends) }
-    ensures { result ≡ (are_in_order edges.now && not (list_any (λ e. stays slice.now step_record.now e.key) edges.now)) }
+    ensures { result ≡ (are_in_order edges.now && not (list_any (λ e. stays (slice_of working.now) step_record.now e.key) edges.now)) }
 {
-    edges_ascend(edges) && !meet_staying(slice, step_record, edges)
+    edges_ascend(edges) && !meet_staying(working, step_record, edges)
 }

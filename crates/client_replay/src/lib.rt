@@ -4,7 +4,10 @@
 #![tactic(auto)]
 
 mod coming;
+mod faces;
 mod find;
+mod labels;
+mod lines;
 mod order;
 mod packet;
 mod pieces;
@@ -12,6 +15,7 @@ mod puts;
 mod rules;
 mod undo;
 mod unfit;
+mod working;
 
 pub use packet::replay;
 pub use undo::apply;

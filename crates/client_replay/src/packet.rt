@@ -1,22 +1,49 @@
 //! The records of a packet undone on a slice.
 
-ghost use Rattle.std.specs.Prelude.{◌≡◌, OnOk, IsTrue};
-ghost use Rattle.tgap_model.specs.SliceForms.{is_slice_row, is_packet_row, has_room};
+ghost use Rattle.std.specs.Prelude.{◌≡◌, true, IfOk, OnOk, IsTrue};
+ghost use Rattle.std.specs.List.{list_all};
+ghost use Rattle.tgap_model.specs.SliceForms.{is_slice_row, is_record_row, is_packet_row, has_room};
 ghost use Rattle.tgap_model.specs.Records.{replayed};
-ghost use Rattle.client_replay.specs.Replaying.{outcome, Leaves, IsPartWay, OnMemory};
+ghost use Rattle.client_replay.specs.Replaying.{undone, outcome, Leaves, IsPartWay, OnMemory};
+ghost use Rattle.client_replay.specs.Working.{slice_of, IsSound};
 
-use crate::undo::apply;
+use crate::undo::undo_record;
 use crate::unfit::Unfit;
+use crate::working::Working;
 use std::alloc::Global;
-use tgap_model::{Or, Packet, Slice};
+use tgap_model::{Memory, Or, Packet, Slice, StepRecord};
+
+/// Undoes the steps of records, one after the other, up to the first that breaks a rule.
+fn undo_all(
+    alloc: Global,
+    working: &mut Working,
+    records: &[StepRecord],
+) -> Result<Option<Unfit>, Memory>
+    requires sound { IsSound working.old }
+    requires slice { IsTrue (is_slice_row (slice_of working.old)) }
+    requires records { list_all is_record_row records.now ≡ true }
+    requires room { IsTrue (has_room (slice_of working.old) records.now) }
+    ensures done { IfOk result (λ unfit. undone (slice_of working.old) records.now ≡ (slice_of working.new, unfit)) }
+    ensures form { OnOk result (IsTrue (is_slice_row (slice_of working.new))) }
+{
+    for step_record in records {
+        if let Some(rule) = undo_record(alloc, working, step_record)? {
+            let step = step_record.step;
+            return Ok(Some(Unfit { step, rule }));
+        }
+    }
+    Ok(None)
+}
 
 /// Undoes the steps of a packet on a slice, one after the other.
 ///
 /// Where the slice is not the one at the step that the packet begins at, it is refused by rule 1 with that step. At the first
 /// record that breaks a rule it is refused with the record's step and the least rule; the slice is then as the records
-/// before left it, and so it is on want of memory.
+/// before left it. On want of memory it is as it was before the call.
 ///
-/// Each record takes its size times a logarithm, and one pass over the faces and the edges of the slice.
+/// It takes the size of the slice, of the records and of the slice that comes of them, times a logarithm. No record passes
+/// over the whole slice, except in a slice that has an edge at a face that it does not have. All is done on a copy of the
+/// slice, which takes its place in the end.
 pub fn replay(alloc: Global, slice: &mut Slice, packet: &Packet) -> Result<(), Or<Unfit>>
     requires slice { IsTrue (is_slice_row slice.old) }
     requires packet { IsTrue (is_packet_row packet.now) }
@@ -27,6 +54,8 @@ pub fn replay(alloc: Global, slice: &mut Slice, packet: &Packet) -> Result<(), O
     ensures done { OnOk result (slice.new ≡ replayed slice.old packet.now) }
     // On want of memory some first records are undone, each of which fits.
     ensures memory { OnMemory result (IsPartWay slice.old packet.now.steps slice.new) }
+    // In fact none is: the slice is then as it was.
+    ensures whole { OnMemory result (slice.new ≡ slice.old) }
     // It has the form of a slice in each case.
     ensures form { IsTrue (is_slice_row slice.new) }
 {
@@ -34,8 +63,11 @@ pub fn replay(alloc: Global, slice: &mut Slice, packet: &Packet) -> Result<(), O
         let step = packet.from;
         return Err(Or::Fault(Unfit { step, rule: 1 }));
     }
-    for step_record in packet.steps.as_slice() {
-        apply(alloc, slice, step_record)?;
+    let mut working = Working::of(alloc, slice)?;
+    let unfit = undo_all(alloc, &mut working, packet.steps.as_slice())?;
+    *slice = working.into_slice(alloc)?;
+    match unfit {
+        Some(unfit) => Err(Or::Fault(unfit)),
+        None => Ok(()),
     }
-    Ok(())
 }

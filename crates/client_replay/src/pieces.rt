@@ -1,14 +1,15 @@
 //! The pieces of an edge: whether they fit, and the edge cut into them.
 
-ghost use Rattle.std.specs.Prelude.{◌≡◌, ◌+◌, ◌-◌, ◌≤◌, ◌&&◌, ◌||◌, ◌==◌, ◌++◌, nat_lt, map, take, drop, IfOk, OnOk, IsTrue};
+ghost use Rattle.std.specs.Prelude.{◌≡◌, ◌+◌, ◌-◌, ◌≤◌, ◌&&◌, ◌||◌, ◌==◌, ◌++◌, nat_lt, map, take, drop, IfOk, OnOk};
 ghost use Rattle.std.specs.List.{list_all};
 ghost use Rattle.tgap_model.specs.Records.{starts_after_zero, ends_with_place, fits_pieces, in_place_of, cut_piece, cut_pieces};
-ghost use Rattle.client_replay.specs.Rules.{are_in_order, reaches_end, mend_pieces_fit};
+ghost use Rattle.client_replay.specs.Rules.{reaches_end, mend_pieces_fit};
+ghost use Rattle.client_replay.specs.Working.{slice_of};
 
-use crate::find::find_edge;
 use crate::order::pieces_ascend;
+use crate::working::Working;
 use std::alloc::Global;
-use tgap_model::{Edge, List, Memory, Mend, Piece, Point, Slice, StepRecord};
+use tgap_model::{Edge, List, Memory, Mend, Piece, Point, StepRecord};
 
 /// Whether the first of these pieces ends after the first place.
 fn starts_after_zero(pieces: &[Piece]) -> bool
@@ -31,13 +32,12 @@ fn ends_with_place(place: usize, pieces: &[Piece]) -> bool
 }
 
 /// Whether the mend's pieces end where its edge ends, after its puts.
-fn reaches_end(slice: &Slice, mend: &Mend) -> bool
-    requires { IsTrue (are_in_order slice.now.edges) }
-    ensures { result ≡ reaches_end slice.now mend.now }
+fn reaches_end(working: &Working, mend: &Mend) -> bool
+    ensures { result ≡ reaches_end (slice_of working.now) mend.now }
 {
-    match find_edge(slice.edges.as_slice(), mend.key) {
-        Some(edge) => {
-            let count = edge.points.as_slice().len() + mend.puts.as_slice().len();
+    match working.line(mend.key) {
+        Some(line) => {
+            let count = line.points.as_slice().len() + mend.puts.as_slice().len();
             ends_with_place(count.saturating_sub(1), mend.pieces.as_slice())
         }
         None => true,
@@ -56,24 +56,22 @@ fn sides_fit(step_record: &StepRecord, pieces: &[Piece]) -> bool
 }
 
 /// Whether the mend's pieces cut its edge from its first point to its last.
-fn mend_pieces_fit(slice: &Slice, step_record: &StepRecord, mend: &Mend) -> bool
-    requires { IsTrue (are_in_order slice.now.edges) }
-    ensures { result ≡ mend_pieces_fit slice.now step_record.now mend.now }
+fn mend_pieces_fit(working: &Working, step_record: &StepRecord, mend: &Mend) -> bool
+    ensures { result ≡ mend_pieces_fit (slice_of working.now) step_record.now mend.now }
 {
     let pieces = mend.pieces.as_slice();
     pieces_ascend(pieces)
         && starts_after_zero(pieces)
-        && reaches_end(slice, mend)
+        && reaches_end(working, mend)
         && sides_fit(step_record, pieces)
 }
 
 /// Rule 5: whether the pieces of each mend cut its edge from its first point to its last.
-pub fn fits_pieces(slice: &Slice, step_record: &StepRecord) -> bool
-    requires { IsTrue (are_in_order slice.now.edges) }
-    ensures { result ≡ fits_pieces slice.now step_record.now }
+pub fn fits_pieces(working: &Working, step_record: &StepRecord) -> bool
+    ensures { result ≡ fits_pieces (slice_of working.now) step_record.now }
 {
     for mend in step_record.mends.as_slice() {
-        if !mend_pieces_fit(slice, step_record, mend) {
+        if !mend_pieces_fit(working, step_record, mend) {
             return false;
         }
     }

@@ -6,12 +6,13 @@ ghost use Rattle.lemmas.specs.Sorting.{is_sorted_by};
 ghost use Rattle.tgap_model.specs.Base.{same_point};
 ghost use Rattle.tgap_model.specs.Records.{puts_fit, fits_puts, put_in};
 ghost use Rattle.client_replay.specs.Between.{is_between};
-ghost use Rattle.client_replay.specs.Rules.{are_in_order, mend_puts_fit};
+ghost use Rattle.client_replay.specs.Rules.{mend_puts_fit};
+ghost use Rattle.client_replay.specs.Working.{slice_of};
 
-use crate::find::find_edge;
 use crate::order::puts_ascend;
+use crate::working::Working;
 use std::alloc::Global;
-use tgap_model::{Memory, Mend, Point, Put, Slice, StepRecord};
+use tgap_model::{Memory, Mend, Point, Put, StepRecord};
 
 /// Whether the points are not one.
 fn differ(a: Point, b: Point) -> bool
@@ -61,26 +62,24 @@ fn puts_fit(points: &[Point], puts: &[Put]) -> bool
 }
 
 /// Whether the places of the mend's puts ascend, and each fits in the mend's edge.
-fn mend_puts_fit(slice: &Slice, mend: &Mend) -> bool
-    requires { IsTrue (are_in_order slice.now.edges) }
-    ensures { result ≡ mend_puts_fit slice.now mend.now }
+fn mend_puts_fit(working: &Working, mend: &Mend) -> bool
+    ensures { result ≡ mend_puts_fit (slice_of working.now) mend.now }
 {
     if !puts_ascend(mend.puts.as_slice()) {
         return false;
     }
-    match find_edge(slice.edges.as_slice(), mend.key) {
-        Some(edge) => puts_fit(edge.points.as_slice(), mend.puts.as_slice()),
+    match working.line(mend.key) {
+        Some(line) => puts_fit(line.points.as_slice(), mend.puts.as_slice()),
         None => true,
     }
 }
 
 /// Rule 4: whether the places of each mend's puts ascend, and each put fits.
-pub fn fits_puts(slice: &Slice, step_record: &StepRecord) -> bool
-    requires { IsTrue (are_in_order slice.now.edges) }
-    ensures { result ≡ fits_puts slice.now step_record.now }
+pub fn fits_puts(working: &Working, step_record: &StepRecord) -> bool
+    ensures { result ≡ fits_puts (slice_of working.now) step_record.now }
 {
     for mend in step_record.mends.as_slice() {
-        if !mend_puts_fit(slice, mend) {
+        if !mend_puts_fit(working, mend) {
             return false;
         }
     }

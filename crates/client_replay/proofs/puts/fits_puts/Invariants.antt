@@ -1,8 +1,9 @@
 use Rattle.std.proofs.Common.{◌≡◌, drop}
 use Rattle.std.specs.List.{list_all}
 use Rattle.client_replay.specs.Rules.{mend_puts_fit}
+use Rattle.client_replay.specs.Working.{slice_of}
 use Rattle.client_replay.proofs.puts.fits_puts.Given as goal
 
 -- the puts of all mends fit where those of the mends that are left do
 abbrev pub invariant-loop-mend : goal.invariant-loop-mend
-invariant-loop-mend l = list_all (mend_puts_fit l.slice) (drop l.mend-index l.step_record.mends) ≡ list_all (mend_puts_fit l.slice) l.step_record.mends
+invariant-loop-mend l = list_all (mend_puts_fit (slice_of l.working)) (drop l.mend-index l.step_record.mends) ≡ list_all (mend_puts_fit (slice_of l.working)) l.step_record.mends
