@@ -1,12 +1,11 @@
 -- A record undone on the tables of a slice.
-use Rattle.std.proofs.Common.{◌≡◌, ℕ, ◌-◌, Bool, true, false, ◌&&◌, ◌||◌, nat_lt, nat_cmp, List, [], ◌∷◌, ◌++◌, map, filter, get_or, All, AllPairs, IsPermutation, refl, sym, ap, subst, ◌∙◌}
-use Rattle.std.specs.Prelude.{⊤, ◌==◌, not}
-use Rattle.std.specs.List.{list_any}
-use Rattle.std.specs.List.Sorted.{IsStrictlySortedBy, IsNonDecreasingBy}
+use Rattle.std.proofs.Common.{◌≡◌, ℕ, true, nat_lt, nat_cmp, List, map, filter, AllPairs, IsPermutation, refl, sym, ap, subst, ◌∙◌}
+use Rattle.std.specs.Prelude.{⊤, not}
+use Rattle.std.specs.List.Sorted.{IsStrictlySortedBy}
 use Rattle.std.specs.Map.{keys_of}
 use Rattle.std.proofs.lemmas.List.Elements.{All-filter}
 use Rattle.lemmas.specs.Sorting.{is_sorted_by}
-use Rattle.lemmas.proofs.Sorting.{map-is_sorted, sorted_pairs, sorted_permutation}
+use Rattle.lemmas.proofs.Sorting.{map-is_sorted, sorted_permutation}
 use Rattle.tgap_model.specs.declared.slice.Edge.{Edge}
 use Rattle.tgap_model.specs.declared.slice.Slice.{Slice}
 use Rattle.tgap_model.specs.declared.record.Mend.{Mend}
@@ -14,12 +13,12 @@ use Rattle.tgap_model.specs.declared.record.StepRecord.{StepRecord}
 use Rattle.tgap_model.specs.Records.{edge_before, fits_mends}
 use Rattle.client_replay.specs.declared.labels.Labels.{Labels}
 use Rattle.client_replay.specs.declared.lines.Line.{Line}
-use Rattle.client_replay.specs.Coming.{lowered, staying}
+use Rattle.client_replay.specs.Coming.{lowered}
 use Rattle.client_replay.specs.Rules.{are_in_order}
 use Rattle.client_replay.specs.Working.{edge_of, edges_of, AreLabelled, DifferInKey}
 use Rattle.client_replay.proofs.Found.{ascend_by}
-use Rattle.client_replay.proofs.Weaving.{edge_order}
-use Rattle.client_replay.proofs.Staying.{is_mended, staying_is}
+use Rattle.client_replay.proofs.Apart.{edge_order, sorted_apart}
+use Rattle.client_replay.proofs.Staying.{staying, is_mended, staying_is}
 use Rattle.client_replay.proofs.Seventh.{mends_sorted, mends_named}
 use Rattle.client_replay.proofs.Tables.{ascend, filter-map}
 use Rattle.client_replay.proofs.LineTables.{Unnamed}
@@ -48,9 +47,7 @@ left_stay s r t es left same order fits is =
 
 -- edges in the order of their keys differ in these
 pub in_order_apart : (edges : List Edge) → are_in_order edges ≡ true → AllPairs DifferInKey edges
-in_order_apart edges h i j d less short =
-    ap (λ (b : Bool). b || edge_before (get_or edges j d) (get_or edges i d))
-    (sorted_pairs edge_order edges (λ k x l. tt) (sym (ascend_by (λ (e : Edge). e.key) edges) ∙ h) i j d less short)
+in_order_apart edges h = sorted_apart edges (sym (ascend_by (λ (e : Edge). e.key) edges) ∙ h)
 
 -- two lists in that order, of the same edges, are one
 pub same_in_order : (t : Labels) (edges : List Edge) (es : List (ℕ × Line)) → are_in_order edges ≡ true → IsStrictlySortedBy nat_cmp (keys_of es)

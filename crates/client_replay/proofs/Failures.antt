@@ -82,14 +82,6 @@ none_before s r e = by (broken_before s r) refl
     by None f = refl
     by (Some k) f = let told = broken_first s r k f in cc
 
--- where no rule is broken the seventh is kept too
-pub keeps_keys : (s : Slice) (r : StepRecord) → broken_before s r ≡ None → broken_rule s r ≡ None → fits_keys s r ≡ true
-keeps_keys s r e f = by (fits_keys s r) (sym (broken_seventh s r e) ∙ f)
-  where
-    by : (b : Bool) → cond {A = Option ℕ} b None (Some 7) ≡ None → b ≡ true
-    by true h = refl
-    by false h = cc
-
 -- the rule that is told, by the first test that fails
 module _ (s : Slice) (r : StepRecord) where
   pub first : fits_step s r ≡ false → Some 1 ≡ broken_before s r

@@ -17,9 +17,8 @@ use Rattle.tgap_model.specs.declared.slice.FaceRow.{FaceRow}
 use Rattle.tgap_model.specs.declared.slice.Slice.{Slice}
 use Rattle.tgap_model.specs.declared.record.Mend.{Mend}
 use Rattle.tgap_model.specs.declared.record.StepRecord.{StepRecord}
-use Rattle.tgap_model.specs.declared.record.Packet.{Packet}
 use Rattle.tgap_model.specs.Records.{undo, refined, edge_before, face_before, has_face, edge_with, puts_fit, ends_with_place, starts_after_zero, fits_keys, fits_faces}
-use Rattle.tgap_model.specs.SliceForms.{is_packet_row, goes_down, is_number, is_slice_row, is_record_row, is_face_row, is_edge_row, is_mend_row, segment_count, record_load, replay_load, has_room}
+use Rattle.tgap_model.specs.SliceForms.{is_number, is_slice_row, is_record_row, is_face_row, is_edge_row, is_mend_row, segment_count, record_load, replay_load, has_room}
 use Rattle.client_replay.specs.Coming.{faces_before, lowered, pieces_of}
 use Rattle.client_replay.specs.Rules.{are_in_order, has_made, mend_puts_fit, mend_pieces_fit, reaches_end}
 use Rattle.client_replay.proofs.Found.{ascend_by, find_at}
@@ -80,12 +79,6 @@ record_parts r h =
     let p1 = and_parts a1 (is_number r.loser_class) p2.0 in
     let p0 = and_parts (is_number r.step) (is_number r.loser) p1.0 in
     record { loser = p0.1; loser_class = p1.1; winner = p2.1; winner_class = p3.1; mends = p7.1; ended = p8.1 }
-
--- of a packet: its records
-pub packet_records : (p : Packet) → is_packet_row p ≡ true → list_all is_record_row p.steps ≡ true
-packet_records p h =
-    let a = and_parts (is_number p.from && nat_le p.to p.from && list_all is_record_row p.steps) (goes_down p.from (p.from - p.to) p.steps) h in
-    (and_parts (is_number p.from && nat_le p.to p.from) (list_all is_record_row p.steps) a.0).1
 
 -- ---- the faces
 

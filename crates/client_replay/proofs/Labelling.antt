@@ -1,6 +1,6 @@
 -- A label for a face that had none, and a label that passes on to another face.
-use Rattle.std.proofs.Common.{◌≡◌, ◌≢◌, inl, inr, ℕ, ◌+◌, ◌<◌, Bool, true, false, cond, List, [], ◌∷◌, ◌++◌, length, get_or, Option, Some, None, refl, sym, ap, ◌∙◌, length-append, arith}
-use Rattle.std.specs.Prelude.{◌==◌, slice_set, unwrap_or}
+use Rattle.std.proofs.Common.{◌≡◌, inl, inr, ℕ, ◌<◌, Bool, cond, List, [], ◌∷◌, ◌++◌, length, get_or, Option, Some, None, sym, ap, ◌∙◌, length-append, arith}
+use Rattle.std.specs.Prelude.{slice_set, unwrap_or}
 use Rattle.std.proofs.Math.ListN.{get_or-append}
 use Rattle.std.proofs.Math.Seq.{get_or-append_seam}
 use Rattle.std.proofs.lemmas.Bool.{cases_eq, eq-eqb, ne_eqb}
@@ -82,24 +82,25 @@ module _ (faces : List ℕ) (label given relabel : ℕ → Option ℕ) (at made 
   passed-exact m i is = elim (cases_eq m made) [
     | inl same ↦ absurd (not_none (relabel made) i (ap relabel (sym same) ∙ is) gone)
     | inr nm ↦ elim (cases_eq m winner) [
-        | inl same ↦
-            let here : i ≡ at = some_is i at (sym is ∙ ap relabel same ∙ to_winner) in
-            let old = exact made at is_made in
-            (omega (arith, here, old.0, set_length), ap (λ (j : ℕ). get_or (slice_set faces at winner) j 0) here ∙ get_or-set_same faces at winner 0 old.0 ∙ sym same)
-        | inr nw ↦
-            let old = exact m i (sym (else_same m nm nw) ∙ is) in
-            let apart : i ≡ at → ⊥ = λ e. nm (sym old.1 ∙ ap (λ (j : ℕ). get_or faces j 0) e ∙ (exact made at is_made).1) in
-            (omega (arith, old.0, set_length), get_or-set_other faces at i winner 0 apart ∙ old.1)
-      ]
+      | inl same ↦
+          let here : i ≡ at = some_is i at (sym is ∙ ap relabel same ∙ to_winner) in
+          let old = exact made at is_made in
+          (omega (arith, here, old.0, set_length), ap (λ (j : ℕ). get_or (slice_set faces at winner) j 0) here ∙ get_or-set_same faces at winner 0 old.0 ∙ sym same)
+      | inr nw ↦
+          let old = exact m i (sym (else_same m nm nw) ∙ is) in
+          let apart : i ≡ at → ⊥ = λ e. nm (sym old.1 ∙ ap (λ (j : ℕ). get_or faces j 0) e ∙ (exact made at is_made).1) in
+          (omega (arith, old.0, set_length), get_or-set_other faces at i winner 0 apart ∙ old.1)
+    ]
   ]
 
   pub passed-changes : Changes (in_place_of made winner) faces label (slice_set faces at winner) relabel
   passed-changes i has = elim (cases_eq i at) [
     | inl same ↦
         let old = exact made at is_made in
-        let face : get_or (slice_set faces at winner) i 0 ≡ winner = ap (λ (j : ℕ). get_or (slice_set faces at winner) j 0) same ∙ get_or-set_same faces at winner 0 old.0 in
-        ((omega (arith, has.0, set_length), ap relabel face ∙ to_winner ∙ ap Some (sym same)),
-        face ∙ sym (in_place made winner (get_or faces i 0) (ap (λ (j : ℕ). get_or faces j 0) same ∙ old.1)))
+        let face : get_or (slice_set faces at winner) i 0 ≡ winner = ap (λ (j : ℕ). get_or (slice_set faces at winner) j 0) same ∙ get_or-set_same faces at winner 0 old.0 in (
+          (omega (arith, has.0, set_length), ap relabel face ∙ to_winner ∙ ap Some (sym same)),
+          face ∙ sym (in_place made winner (get_or faces i 0) (ap (λ (j : ℕ). get_or faces j 0) same ∙ old.1)),
+        )
     | inr ne ↦
         let m = get_or faces i 0 in
         let face : get_or (slice_set faces at winner) i 0 ≡ m = get_or-set_other faces at i winner 0 ne in

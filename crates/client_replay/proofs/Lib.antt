@@ -2,15 +2,13 @@ pub mod Walks
 pub mod Found
 pub mod Failures
 pub mod Ends
-pub mod Inserted
 pub mod Putting
-pub mod Weaving
+pub mod Apart
 pub mod Staying
 pub mod Seventh
 pub mod Points
 pub mod Rows
 pub mod Form
-pub mod Told
 pub mod Tables
 pub mod Labelling
 pub mod FaceRows

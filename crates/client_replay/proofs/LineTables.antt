@@ -1,19 +1,19 @@
 -- Edges put in and taken out.
-use Rattle.std.proofs.Common.{◌≡◌, ℕ, ◌<◌, Bool, true, false, ◌||◌, cond, nat_lt, nat_cmp, List, [], ◌∷◌, ◌++◌, map, filter, length, get_or, All, AllPairs, IsPermutation, Option, Some, None, inl, inr, refl, sym, ap, ap₂, subst, ◌∙◌, length-append, arith}
-use Rattle.std.specs.Prelude.{◌==◌, not, is_some}
+use Rattle.std.proofs.Common.{◌≡◌, ℕ, Bool, true, false, ◌||◌, cond, nat_cmp, List, [], ◌∷◌, ◌++◌, filter, length, get_or, All, AllPairs, IsPermutation, refl, sym, ap, subst, ◌∙◌, length-append, arith}
+use Rattle.std.specs.Prelude.{◌==◌, not}
 use Rattle.std.specs.List.{list_any}
 use Rattle.std.specs.Ordering.{match_ordering}
 use Rattle.std.specs.declared.cmp.Ordering.{Ordering}
 use Rattle.std.specs.declared.cmp.Ordering.TheVariants.{Less, Equal, Greater}
 use Rattle.std.specs.Map.{lookup}
 use Rattle.std.specs.BTreeMap.{is_at, insert_entry}
-use Rattle.std.proofs.lemmas.Bool.{eqb-true, eq-eqb, ne_eqb, ltb-true, or_cases}
+use Rattle.std.proofs.lemmas.Bool.{ne_eqb}
 use Rattle.std.proofs.lemmas.Bool.Decides.{nat_tests}
 use Rattle.std.proofs.Math.ListN.{get_or-append}
 use Rattle.std.proofs.Math.Seq.{get_or-append_seam}
 use Rattle.std.proofs.lemmas.List.Folds.{list_any_none}
-use Rattle.std.proofs.lemmas.List.Elements.{All-nil, All-cons, All-head, All-tail}
-use Rattle.std.proofs.lemmas.List.Sorted.{IsPermutation-trans, IsPermutation-sym, IsPermutation-middle, IsPermutation-append_left}
+use Rattle.std.proofs.lemmas.List.Elements.{All-cons, All-head, All-tail}
+use Rattle.std.proofs.lemmas.List.Sorted.{IsPermutation-trans, IsPermutation-middle, IsPermutation-append_left}
 use Rattle.lemmas.specs.Sorting.{insert_by}
 use Rattle.lemmas.proofs.Sorting.{insert_by-permutation, AllPairs-permutation}
 use Rattle.tgap_model.specs.declared.slice.Edge.{Edge}
@@ -21,10 +21,10 @@ use Rattle.tgap_model.specs.declared.record.Mend.{Mend}
 use Rattle.tgap_model.specs.Records.{edge_before}
 use Rattle.client_replay.specs.declared.labels.Labels.{Labels}
 use Rattle.client_replay.specs.declared.lines.Line.{Line}
-use Rattle.client_replay.specs.Working.{edge_of, edges_of, AreLabelled, DifferInKey}
+use Rattle.client_replay.specs.Working.{edge_of, edges_of, DifferInKey}
+use Rattle.client_replay.proofs.Apart.{keys_differ, differ_turned}
 use Rattle.client_replay.proofs.Tables.{any_lookup, inserted}
 use Rattle.client_replay.proofs.FaceRows.{not_some}
-use Rattle.client_replay.proofs.Relabelled.{IsLabelled}
 
 -- what holds of all entries and of a new one holds of all with it
 pub All-insert_entry : {X : Type 0} (P : X → Type 0) (k : ℕ) (v : X) (es : List (ℕ × X)) → All (λ p. P p.1) es → P v → All (λ p. P p.1) (insert_entry nat_cmp es k v)
@@ -48,20 +48,6 @@ line_put t k l es new =
 pub record IsPutting (all now left : List Edge) : Type 0 where
   pub moved : IsPermutation all (now ++ left)
   pub apart : AllPairs DifferInKey (now ++ left)
-
-differ_turned : (e f : Edge) → DifferInKey e f → DifferInKey f e
-differ_turned e f h = by (edge_before e f) (edge_before f e) h
-  where
-    by : (a b : Bool) → (a || b) ≡ true → (b || a) ≡ true
-    by a true h = refl
-    by true false h = refl
-    by false false h = h
-
-pub keys_differ : (e f : Edge) → DifferInKey e f → e.key ≡ f.key → ⊥
-keys_differ e f h same = elim (or_cases (edge_before e f) (edge_before f e) h) [
-  | inl t ↦ let less = ltb-true e.key f.key t in omega (arith, same, less)
-  | inr t ↦ let less = ltb-true f.key e.key t in omega (arith, same, less)
-]
 
 in_front : (now left : List Edge) (e : Edge) → AllPairs DifferInKey (now ++ e ∷ left) → All (λ f. DifferInKey f e) now
 in_front now left e h i d l =

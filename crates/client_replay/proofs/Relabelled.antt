@@ -1,5 +1,5 @@
 -- What a change of labels makes of edges.
-use Rattle.std.proofs.Common.{◌≡◌, inl, inr, ℕ, ◌<◌, Option, Some, None, List, [], ◌∷◌, map, length, get_or, All, refl, sym, ap, ap₂, subst, ◌∙◌}
+use Rattle.std.proofs.Common.{◌≡◌, inl, inr, ℕ, Some, None, List, [], ◌∷◌, map, refl, sym, ap, ap₂, subst, ◌∙◌}
 use Rattle.std.proofs.lemmas.List.Elements.{All-nil, All-cons, All-head, All-tail}
 use Rattle.tgap_model.specs.declared.slice.Edge.{Edge}
 use Rattle.client_replay.specs.declared.labels.Labels.{Labels}
@@ -17,7 +17,6 @@ changed change e = record e { left = change e.left; right = change e.right }
 abbrev pub IsLabelled : Labels → Line → Type 0
 IsLabelled t l = IsLabel t l.left × IsLabel t l.right
 
-
 -- a change that maps each line to one, and each face to what stands in its place
 pub changed_all : (t u : Labels) (turn : Line → Line) (change : ℕ → ℕ)
     → ((k : ℕ) (l : Line) → IsLabelled t l → IsLabelled u (turn l) × (edge_of u (k, turn l) ≡ changed change (edge_of t (k, l))))
@@ -26,9 +25,10 @@ pub changed_all : (t u : Labels) (turn : Line → Line) (change : ℕ → ℕ)
 changed_all t u turn change h [] labelled = (refl, All-nil (λ p. IsLabelled u p.1))
 changed_all t u turn change h (e ∷ es) labelled =
     let one = h e.0 e.1 (All-head (λ p. IsLabelled t p.1) e es labelled) in
-    let rest = changed_all t u turn change h es (All-tail (λ p. IsLabelled t p.1) e es labelled) in
-    (ap₂ (λ (x : Edge) (xs : List Edge). x ∷ xs) one.1 rest.0,
-    All-cons (λ p. IsLabelled u p.1) (e.0, turn e.1) (map (λ p. (p.0, turn p.1)) es) one.0 rest.1)
+    let rest = changed_all t u turn change h es (All-tail (λ p. IsLabelled t p.1) e es labelled) in (
+      ap₂ (λ (x : Edge) (xs : List Edge). x ∷ xs) one.1 rest.0,
+      All-cons (λ p. IsLabelled u p.1) (e.0, turn e.1) (map (λ p. (p.0, turn p.1)) es) one.0 rest.1,
+    )
 
 same_lines : (es : List (ℕ × Line)) → map (λ p. (p.0, p.1)) es ≡ es
 same_lines [] = refl
@@ -84,9 +84,10 @@ moved_lines t made winner from to exact is_made is_winner =
     side i is = elim (cases_eq i from) [
       | inl same ↦
           let there = in_place from to i same in
-          let here : face_of t i ≡ made = ap (face_of t) same ∙ (exact made from is_made).1 in
-          (subst (IsLabel t) (sym there) (is_label t.faces.items (label_of t) winner to exact is_winner),
-          ap (face_of t) there ∙ (exact winner to is_winner).1 ∙ sym (in_place made winner (face_of t i) here))
+          let here : face_of t i ≡ made = ap (face_of t) same ∙ (exact made from is_made).1 in (
+            subst (IsLabel t) (sym there) (is_label t.faces.items (label_of t) winner to exact is_winner),
+            ap (face_of t) there ∙ (exact winner to is_winner).1 ∙ sym (in_place made winner (face_of t i) here),
+          )
       | inr ne ↦
           let stays = not_in_place from to i ne in
           let other : face_of t i ≡ made → ⊥ = λ e. ne (some_is i from (sym is.1 ∙ ap (label_of t) e ∙ is_made)) in

@@ -1,15 +1,13 @@
 -- Records undone one after the other.
-use Rattle.std.proofs.Common.{◌≡◌, ℕ, Bool, cond, List, [], ◌∷◌, ◌++◌, Option, Some, None, Err, refl, sym, ap, ◌∙◌}
+use Rattle.std.proofs.Common.{◌≡◌, ℕ, Bool, cond, List, [], ◌∷◌, Option, Some, None, sym, ap}
 use Rattle.std.specs.Prelude.{fold}
 use Rattle.std.proofs.lemmas.Bool.{eq-eqb, ne_eqb}
 use Rattle.tgap_model.specs.declared.slice.Slice.{Slice}
 use Rattle.tgap_model.specs.declared.record.StepRecord.{StepRecord}
 use Rattle.tgap_model.specs.declared.record.Packet.{Packet}
-use Rattle.tgap_model.specs.declared.failure.Or.{Or}
-use Rattle.tgap_model.specs.declared.failure.Or.TheVariants.{Fault, Memory}
 use Rattle.tgap_model.specs.Records.{broken_rule, undo}
 use Rattle.client_replay.specs.declared.unfit.Unfit.{Unfit}
-use Rattle.client_replay.specs.Replaying.{undone, outcome, Leaves}
+use Rattle.client_replay.specs.Replaying.{undone, outcome}
 
 pub some_never_none : {A : Type 0} (x : A) → Some x ≡ None → ⊥
 some_never_none x e = cc
@@ -30,20 +28,6 @@ from_first s r records o = elim o [ None ↦ undone (undo s r) records | Some ru
 pub first_fits : (s : Slice) (r : StepRecord) (records : List StepRecord) → broken_rule s r ≡ None → undone s (r ∷ records) ≡ undone (undo s r) records
 first_fits s r records e = ap (from_first s r records) e
 
-pub first_breaks : (s : Slice) (r : StepRecord) (records : List StepRecord) (u : Unfit) → broken_rule s r ≡ Some u.rule → u.step ≡ r.step → undone s (r ∷ records) ≡ (s, Some u)
-first_breaks s r records u e f = ap (from_first s r records) e ∙ ap (λ (n : ℕ). (s, Some (record { step = n; rule = u.rule }))) (sym f)
-
--- one more record
-pub one_more : (s : Slice) (records : List StepRecord) (t : Slice) (r : StepRecord) → undone s records ≡ (t, None) → broken_rule t r ≡ None → undone s (records ++ r ∷ []) ≡ (undo t r, None)
-one_more s [] t r e fits =
-    let same : s ≡ t = ap (λ p. p.0) e in
-    ap (λ q. undone q (r ∷ [])) same ∙ first_fits t r [] fits
-one_more s (q ∷ records) t r e fits = by (broken_rule s q) refl e (λ g. one_more (undo s q) records t r g fits)
-  where
-    by : (o : Option ℕ) → broken_rule s q ≡ o → from_first s q records o ≡ (t, None) → (undone (undo s q) records ≡ (t, None) → undone (undo s q) (records ++ r ∷ []) ≡ (undo t r, None)) → undone s (q ∷ (records ++ r ∷ [])) ≡ (undo t r, None)
-    by None f g rest = first_fits s q (records ++ r ∷ []) f ∙ rest g
-    by (Some k) f g rest = absurd (some_never_none (record { step = q.step; rule = k }) (ap (λ p. p.1) g))
-
 -- where all are undone, it is by one after the other
 pub all_undone : (s : Slice) (records : List StepRecord) (t : Slice) → undone s records ≡ (t, None) → t ≡ fold undo s records
 all_undone s [] t e = sym (ap (λ p. p.0) e)
@@ -52,8 +36,3 @@ all_undone s (r ∷ records) t e = by (broken_rule s r) e (all_undone (undo s r)
     by : (o : Option ℕ) → from_first s r records o ≡ (t, None) → (undone (undo s r) records ≡ (t, None) → t ≡ fold undo (undo s r) records) → t ≡ fold undo s (r ∷ records)
     by None g rest = rest g
     by (Some k) g rest = absurd (some_never_none (record { step = r.step; rule = k }) (ap (λ p. p.1) g))
-
--- a call that stops
-pub stopped : (e : Or Unfit) (s : Slice) (o : Slice × Option Unfit) → ((u : Unfit) → e ≡ Fault u → o ≡ (s, Some u)) → Leaves (Err e) s o
-stopped (Fault u) s o h = h u refl
-stopped Memory s o h = tt

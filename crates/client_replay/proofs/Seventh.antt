@@ -1,28 +1,33 @@
--- The last rule, and the edges of the finer slice: those that stay and those that come, woven.
-use Rattle.std.proofs.Common.{◌≡◌, ⊎_elim, ℕ, ◌+◌, ◌-◌, Bool, true, false, ◌&&◌, ◌||◌, nat_lt, List, [], ◌∷◌, ◌++◌, map, get_or, All, AllPairs, IsPermutation, Option, Some, None, refl, sym, ap, ap₂, subst, ◌∙◌, true≢false, append_assoc, arith}
+-- The last rule, and the edges of the finer slice: those that stay and those that come.
+use Rattle.std.proofs.Common.{◌≡◌, ℕ, ◌+◌, ◌-◌, Bool, true, false, ◌&&◌, nat_lt, List, [], ◌∷◌, ◌++◌, map, get_or, All, AllPairs, IsPermutation, Option, Some, None, refl, sym, ap, ap₂, subst, ◌∙◌, true≢false, append_assoc, arith}
 use Rattle.std.specs.Prelude.{◌==◌, flat_map, not, is_some}
 use Rattle.std.specs.List.{list_all, list_any}
 use Rattle.std.specs.List.Sorted.{IsNonDecreasingBy}
 use Rattle.std.specs.Cmp.Derive.{both_true}
-use Rattle.std.proofs.lemmas.Bool.{and_parts, or_parts, eq-eqb, ne_eqb, lt-ltb, ltb-true, or_cases, not_from_false, not-true}
-use Rattle.std.proofs.lemmas.List.Elements.{All-nil, All-cons}
+use Rattle.std.proofs.lemmas.Bool.{and_parts, or_parts, eq-eqb, ne_eqb, lt-ltb, not_from_false, not-true}
+use Rattle.std.proofs.lemmas.List.Elements.{All-nil, All-cons, All-tail}
 use Rattle.std.proofs.lemmas.List.Folds.{list_any_none}
 use Rattle.std.proofs.lemmas.List.Sums.{AllPass-from_list_all}
 use Rattle.std.proofs.lemmas.List.Sorted.{IsPermutation-sym, IsPermutation-trans, IsPermutation-append_left, IsPermutation-append_right}
 use Rattle.lemmas.specs.Sorting.{is_sorted_by, sort_by}
-use Rattle.lemmas.proofs.Members.{AllPairs-head, AllPairs-tail}
-use Rattle.lemmas.proofs.Sorting.{sorted_from_adjacent, sorted_pairs, sort_by-permutation, sort_by-permuted, AllPairs-permutation}
+use Rattle.lemmas.proofs.Members.{AllPairs-head, AllPairs-tail, AllPairs-append}
+use Rattle.lemmas.proofs.Sorting.{sorted_from_adjacent, sort_by-permutation, sort_by-permuted, sort_by-is_sorted, AllPairs-permutation}
 use Rattle.tgap_model.specs.declared.slice.Edge.{Edge}
 use Rattle.tgap_model.specs.declared.slice.FaceRow.{FaceRow}
 use Rattle.tgap_model.specs.declared.slice.Slice.{Slice}
 use Rattle.tgap_model.specs.declared.record.StepRecord.{StepRecord}
 use Rattle.tgap_model.specs.Records.{edge_before, edge_with, has_one_side, refined, undo, fits_mends, fits_keys}
-use Rattle.client_replay.specs.Coming.{faces_before, mended, coming, staying, stays, woven}
+use Rattle.client_replay.specs.Coming.{faces_before, mended, coming, stays}
 use Rattle.client_replay.specs.Rules.{are_in_order, mends_in_order, names_edge}
 use Rattle.client_replay.specs.Working.{DifferInKey}
 use Rattle.client_replay.proofs.Found.{ascend_by, any_found}
-use Rattle.client_replay.proofs.Weaving.{edge_order, woven-permutation, woven-is_sorted, All-back}
-use Rattle.client_replay.proofs.Staying.{AreNamed, refined-permutation, staying-is_sorted, key_stays}
+use Rattle.client_replay.proofs.Apart.{edge_order, keys_differ, differ_in_key, differ_turned, sorted_apart}
+use Rattle.client_replay.proofs.Staying.{staying, AreNamed, refined-permutation, staying-is_sorted, key_stays}
+
+-- what holds of two lists holds of the second
+All-back : {A : Type 0} (P : A → Type 0) (xs ys : List A) → All P (xs ++ ys) → All P ys
+All-back P [] ys h = h
+All-back P (x ∷ xs) ys h = All-back P xs ys (All-tail P x (xs ++ ys) h)
 
 -- what rule 3 says
 pub mends_sorted : (s : Slice) (r : StepRecord) → fits_mends s r ≡ true → mends_in_order r.mends ≡ true
@@ -82,46 +87,37 @@ module _ (s : Slice) (r : StepRecord) (in_order : are_in_order s.edges ≡ true)
         none_of p [] h = All-nil (λ x. p x ≡ false)
         none_of p (x ∷ xs) h = let parts = or_parts (p x) (list_any p xs) h in All-cons (λ y. p y ≡ false) x xs parts.0 (none_of p xs parts.1)
 
-    -- then the edges of the finer slice are those that stay and those that come, woven
-    pub woven_is_sorted : (are_in_order edges && not (list_any (λ e. stays s r e.key) edges)) ≡ true → is_sorted_by edge_before (woven (staying r r.mends s.edges) edges) ≡ true
-    woven_is_sorted h =
+    -- then all edges differ in their keys
+    pub own_apart : (are_in_order edges && not (list_any (λ e. stays s r e.key) edges)) ≡ true → AllPairs DifferInKey (staying r r.mends s.edges ++ edges)
+    own_apart h =
         let parts = and_parts (are_in_order edges) (not (list_any (λ e. stays s r e.key) edges)) h in
-        woven-is_sorted (staying r r.mends s.edges) edges stay_sorted (sym (ascend_by (λ e. e.key) edges) ∙ parts.0)
-        (own_keys (not-true (list_any (λ e. stays s r e.key) edges) parts.1))
+        let own = own_keys (not-true (list_any (λ e. stays s r e.key) edges) parts.1) in
+        AllPairs-append DifferInKey (staying r r.mends s.edges) edges (sorted_apart (staying r r.mends s.edges) stay_sorted) (sorted_apart edges (sym (ascend_by (λ e. e.key) edges) ∙ parts.0))
+        (λ k d l i x m. differ_in_key (get_or (staying r r.mends s.edges) k d) (get_or edges i x) (own k d l i x m))
 
-    pub sorted_is_woven : (are_in_order edges && not (list_any (λ e. stays s r e.key) edges)) ≡ true → sort_by edge_before (all_edges s r) ≡ woven (staying r r.mends s.edges) edges
-    sorted_is_woven h =
-        sort_by-permuted edge_order (all_edges s r) (woven (staying r r.mends s.edges) edges) (λ k d l. tt) (woven_is_sorted h)
-        (IsPermutation-trans (all_edges s r) (staying r r.mends s.edges ++ edges) (woven (staying r r.mends s.edges) edges)
-        (all-permutation edges moved) (woven-permutation (staying r r.mends s.edges) edges))
+    -- and those of the finer slice are sorted
+    both_sorted : (are_in_order edges && not (list_any (λ e. stays s r e.key) edges)) ≡ true → is_sorted_by edge_before (sort_by edge_before (all_edges s r)) ≡ true
+    both_sorted h =
+        let both = staying r r.mends s.edges ++ edges in
+        let sorted = sort_by-is_sorted edge_before both (own_apart h) in
+        ap (is_sorted_by edge_before) (sort_by-permuted edge_order (all_edges s r) (sort_by edge_before both) (λ k d l. tt) sorted
+        (IsPermutation-trans (all_edges s r) both (sort_by edge_before both) (all-permutation edges moved) (sort_by-permutation edge_before both))) ∙ sorted
 
     -- where all keys differ the test passes
     module _ (rising : IsNonDecreasingBy (λ (e : Edge). e.key) edges) (differ : is_sorted_by edge_before (sort_by edge_before (all_edges s r)) ≡ true) where
-      abbrev Apart : Edge → Edge → Type 0
-      Apart e f = (edge_before e f || edge_before f e) ≡ true
-
-      apart_keys : (e f : Edge) → Apart e f → e.key ≡ f.key → ⊥
-      apart_keys e f h same = ⊎_elim (λ t. omega (arith, ltb-true e.key f.key t)) (λ t. omega (arith, ltb-true f.key e.key t)) (or_cases (edge_before e f) (edge_before f e) h)
-
-      all_apart : AllPairs Apart (staying r r.mends s.edges ++ edges)
+      all_apart : AllPairs DifferInKey (staying r r.mends s.edges ++ edges)
       all_apart =
           let sorted = sort_by edge_before (all_edges s r) in
-          let pairs = sorted_pairs edge_order sorted (λ k d l. tt) differ in
-          AllPairs-permutation Apart (λ x y h. turned (edge_before x y) (edge_before y x) h) sorted (staying r r.mends s.edges ++ edges)
+          AllPairs-permutation DifferInKey differ_turned sorted (staying r r.mends s.edges ++ edges)
           (IsPermutation-trans sorted (all_edges s r) (staying r r.mends s.edges ++ edges)
           (IsPermutation-sym (all_edges s r) sorted (sort_by-permutation edge_before (all_edges s r))) (all-permutation edges moved))
-          (λ i j d less short. ap (λ (b : Bool). b || edge_before (get_or sorted j d) (get_or sorted i d)) (pairs i j d less short))
-        where
-          turned : (a b : Bool) → (a || b) ≡ true → (b || a) ≡ true
-          turned a true e = refl
-          turned true false e = refl
-          turned false false e = e
+          (sorted_apart sorted differ)
 
-      parted : (xs ys : List Edge) → AllPairs Apart (xs ++ ys) → AllPairs Apart ys × All (λ x. All (Apart x) ys) xs
-      parted [] ys h = (h, All-nil (λ x. All (Apart x) ys))
+      parted : (xs ys : List Edge) → AllPairs DifferInKey (xs ++ ys) → AllPairs DifferInKey ys × All (λ x. All (DifferInKey x) ys) xs
+      parted [] ys h = (h, All-nil (λ x. All (DifferInKey x) ys))
       parted (x ∷ xs) ys h =
-          let rest = parted xs ys (AllPairs-tail Apart x (xs ++ ys) h) in
-          (rest.0, All-cons (λ z. All (Apart z) ys) x xs (All-back (Apart x) xs ys (AllPairs-head Apart x (xs ++ ys) h)) rest.1)
+          let rest = parted xs ys (AllPairs-tail DifferInKey x (xs ++ ys) h) in
+          (rest.0, All-cons (λ z. All (DifferInKey z) ys) x xs (All-back (DifferInKey x) xs ys (AllPairs-head DifferInKey x (xs ++ ys) h)) rest.1)
 
       test_passes : (are_in_order edges && not (list_any (λ e. stays s r e.key) edges)) ≡ true
       test_passes =
@@ -129,12 +125,12 @@ module _ (s : Slice) (r : StepRecord) (in_order : are_in_order s.edges ≡ true)
           both_true
           (ascend_by (λ e. e.key) edges ∙ sorted_from_adjacent edge_before edges (λ k d l.
           let le = rising k (k + 1) d (omega arith) l in
-          let ne = apart_keys (get_or edges k d) (get_or edges (k + 1) d) (parts.0 k (k + 1) d (omega arith) l) in
+          let ne = keys_differ (get_or edges k d) (get_or edges (k + 1) d) (parts.0 k (k + 1) d (omega arith) l) in
           lt-ltb (get_or edges k d).key (get_or edges (k + 1) d).key (omega arith)))
           (not_from_false (list_any (λ e. stays s r e.key) edges) (list_any_none (λ e. stays s r e.key) edges (λ k d l.
           let f = get_or edges k d in
           stays_is f.key ∙ list_any_none (λ g. g.key == f.key) (staying r r.mends s.edges) (λ i x m.
-          ne_eqb (get_or (staying r r.mends s.edges) i x).key f.key (apart_keys (get_or (staying r r.mends s.edges) i x) f (parts.1 i x m k d l))))))
+          ne_eqb (get_or (staying r r.mends s.edges) i x).key f.key (keys_differ (get_or (staying r r.mends s.edges) i x) f (parts.1 i x m k d l))))))
 
     -- the test is that of the rule
     pub seventh : IsNonDecreasingBy (λ (e : Edge). e.key) edges → (are_in_order edges && not (list_any (λ e. stays s r e.key) edges)) ≡ fits_keys s r
@@ -143,18 +139,13 @@ module _ (s : Slice) (r : StepRecord) (in_order : are_in_order s.edges ≡ true)
       where
         by : (b : Bool) → (are_in_order edges && not (list_any (λ e. stays s r e.key) edges)) ≡ b → b ≡ is_sorted_by nat_lt (map (λ e. e.key) (sort_by edge_before (all_edges s r)))
         by true h =
-            sym (ascend_by (λ e. e.key) (sort_by edge_before (all_edges s r)) ∙ ap (is_sorted_by edge_before) (sorted_is_woven h) ∙ woven_is_sorted h)
+            sym (ascend_by (λ e. e.key) (sort_by edge_before (all_edges s r)) ∙ both_sorted h)
         by false h = other (is_sorted_by edge_before (sort_by edge_before (all_edges s r))) refl
           where
             other : (c : Bool) → is_sorted_by edge_before (sort_by edge_before (all_edges s r)) ≡ c
                 → false ≡ is_sorted_by nat_lt (map (λ e. e.key) (sort_by edge_before (all_edges s r)))
             other true e = absurd (true≢false (sym (test_passes rising e) ∙ h))
             other false e = sym (ascend_by (λ f. f.key) (sort_by edge_before (all_edges s r)) ∙ e)
-
-    -- those that stay and those that come differ in their keys
-    pub own_apart : IsNonDecreasingBy (λ (e : Edge). e.key) edges → (are_in_order edges && not (list_any (λ e. stays s r e.key) edges)) ≡ true
-        → AllPairs DifferInKey (staying r r.mends s.edges ++ edges)
-    own_apart rising h = all_apart rising (ap (is_sorted_by edge_before) (sorted_is_woven h) ∙ woven_is_sorted h)
 
     -- the slice one step back has them in the order of their keys
     pub undone_is : (faces : List FaceRow) (all : List Edge) → faces ≡ faces_before s.faces r → is_sorted_by edge_before all ≡ true

@@ -1,11 +1,11 @@
 -- The edges of the finer slice: those that stay, and the pieces of the others.
-use Rattle.std.proofs.Common.{◌≡◌, ℕ, ◌<◌, Bool, true, false, ◌&&◌, ◌||◌, cond, nat_lt, List, [], ◌∷◌, ◌++◌, map, filter, get_or, All, IsPermutation, Option, Some, None, refl, sym, ap, ap₂, subst, ◌∙◌, true≢false, arith}
+use Rattle.std.proofs.Common.{◌≡◌, ℕ, ◌<◌, Bool, true, false, ◌&&◌, ◌||◌, cond, nat_lt, List, [], ◌∷◌, ◌++◌, map, filter, get_or, All, IsPermutation, Option, Some, None, refl, sym, ap, ap₂, subst, ◌∙◌, true≢false, append_assoc, arith}
 use Rattle.std.specs.Prelude.{◌==◌, find, flat_map, not}
 use Rattle.std.specs.List.{list_any}
 use Rattle.std.proofs.lemmas.Bool.{eq-eqb, ne_eqb, eqb-true}
 use Rattle.std.proofs.lemmas.List.Elements.{All-nil, All-cons, All-head, All-tail}
 use Rattle.std.proofs.lemmas.List.Folds.{list_any_none}
-use Rattle.std.proofs.lemmas.List.Sorted.{IsPermutation-refl, IsPermutation-cons, IsPermutation-trans, IsPermutation-append_right}
+use Rattle.std.proofs.lemmas.List.Sorted.{IsPermutation-refl, IsPermutation-cons, IsPermutation-trans, IsPermutation-append_left, IsPermutation-append_right, IsPermutation-append_comm}
 use Rattle.lemmas.specs.Sorting.{is_sorted_by}
 use Rattle.lemmas.proofs.Members.{filter_agree_on}
 use Rattle.lemmas.proofs.Sorting.{sorted_tail, sorted_head, sorted_cons}
@@ -13,9 +13,21 @@ use Rattle.tgap_model.specs.declared.slice.Edge.{Edge}
 use Rattle.tgap_model.specs.declared.record.Mend.{Mend}
 use Rattle.tgap_model.specs.declared.record.StepRecord.{StepRecord}
 use Rattle.tgap_model.specs.Records.{edge_before}
-use Rattle.client_replay.specs.Coming.{pieces_of, mended, lowered, staying}
+use Rattle.client_replay.specs.Coming.{pieces_of, mended, lowered}
 use Rattle.client_replay.proofs.Found.{above_first}
-use Rattle.client_replay.proofs.Weaving.{edge_order, across}
+use Rattle.client_replay.proofs.Apart.{edge_order}
+
+-- the edges that stay: those that none of the mends names, where edges and mends stand in the order of their keys
+abbrev pub staying : StepRecord → List Mend → List Edge → List Edge
+staying r mends [] = []
+staying r [] (e ∷ edges) = lowered r e ∷ staying r [] edges
+staying r (m ∷ mends) (e ∷ edges) = cond (e.key == m.key) (staying r mends edges) (lowered r e ∷ staying r (m ∷ mends) edges)
+
+-- a list moves in front of another
+across : {A : Type 0} (xs ys zs : List A) → IsPermutation (xs ++ (ys ++ zs)) (ys ++ (xs ++ zs))
+across xs ys zs =
+    subst (λ l. IsPermutation l (ys ++ (xs ++ zs))) (append_assoc xs ys zs)
+    (subst (IsPermutation ((xs ++ ys) ++ zs)) (append_assoc ys xs zs) (IsPermutation-append_left zs (xs ++ ys) (ys ++ xs) (IsPermutation-append_comm xs ys)))
 
 -- functions that agree on the members give the same lists
 pub flat_map_agree : {A B : Type 0} (f g : A → List B) (xs : List A) → All (λ x. f x ≡ g x) xs → flat_map f xs ≡ flat_map g xs

@@ -1,5 +1,5 @@
 -- The edges of the finer slice: those that stay, and those that come.
-use Rattle.std.specs.Prelude.{ℕ, Bool, false, ◌&&◌, not, nat_lt, ◌==◌, List, [], ◌∷◌, ◌++◌, flat_map, filter, find, Some, None, if◌then◌else◌}
+use Rattle.std.specs.Prelude.{ℕ, Bool, ◌&&◌, not, ◌==◌, List, [], ◌++◌, flat_map, filter, find, Some, None}
 use Rattle.std.specs.List.{list_any}
 use Rattle.lemmas.specs.Sorting.{insert_by}
 use Rattle.tgap_model.specs.declared.slice.Edge.{Edge}
@@ -31,36 +31,6 @@ coming s r = flat_map (mended s.edges r) r.mends ++ r.ended
 abbrev pub lowered : StepRecord → Edge → Edge
 lowered r e = record e { left = in_place_of r.made r.winner e.left; right = in_place_of r.made r.winner e.right }
 
--- the edges that stay: those that none of the mends names, where edges and mends stand in the order of their keys
-abbrev pub staying : StepRecord → List Mend → List Edge → List Edge
-staying r mends [] = []
-staying r [] (e ∷ edges) = lowered r e ∷ staying r [] edges
-staying r (m ∷ mends) (e ∷ edges) = if e.key == m.key then staying r mends edges else lowered r e ∷ staying r (m ∷ mends) edges
-
--- the edges up to the first whose key is not below this one, and those from there on
-abbrev pub up_to : ℕ → List Edge → List Edge
-up_to key [] = []
-up_to key (e ∷ edges) = if nat_lt e.key key then e ∷ up_to key edges else []
-
-abbrev pub from_on : ℕ → List Edge → List Edge
-from_on key [] = []
-from_on key (e ∷ edges) = if nat_lt e.key key then from_on key edges else e ∷ edges
-
--- two lists in the order of their keys as one
-abbrev pub woven : List Edge → List Edge → List Edge
-woven [] others = others
-woven (e ∷ edges) others = up_to e.key others ++ e ∷ woven edges (from_on e.key others)
-
 -- an edge with this key stays
 abbrev pub stays : Slice → StepRecord → ℕ → Bool
 stays s r key = list_any (λ e. e.key == key) s.edges && not (list_any (λ m. m.key == key) r.mends)
-
--- the first of the edges has a key below this one
-abbrev pub starts_below : ℕ → List Edge → Bool
-starts_below key [] = false
-starts_below key (e ∷ edges) = nat_lt e.key key
-
--- the first of the mends is that of the edge with this key
-abbrev pub is_first : List Mend → ℕ → Bool
-is_first [] key = false
-is_first (m ∷ mends) key = m.key == key

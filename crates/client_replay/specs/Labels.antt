@@ -2,7 +2,6 @@
 use Rattle.std.specs.Prelude.{◌≡◌, ℕ, ◌<◌, length, get_or, Option, Some}
 use Rattle.std.specs.BTreeMap.{get}
 use Rattle.std.specs.Ordering.{nat_cmp}
-use Rattle.tgap_model.specs.Records.{in_place_of}
 use Rattle.client_replay.specs.declared.labels.Labels.{Labels}
 
 -- the face of a label

@@ -99,7 +99,11 @@ fn sort_by_key(edges: &mut Vec<Edge>)
 }
 
 /// The edges that come, in the order of their keys. Two may have one key.
-pub fn coming(alloc: Global, working: &Working, step_record: &StepRecord) -> Result<Vec<Edge>, Memory>
+pub fn coming(
+    alloc: Global,
+    working: &Working,
+    step_record: &StepRecord,
+) -> Result<Vec<Edge>, Memory>
     requires puts { IsTrue (fits_puts (slice_of working.now) step_record.now) }
     ensures permutation { IfOk result (λ edges. IsPermutation (coming (slice_of working.now) step_record.now) edges.items) }
     ensures sorted { IfOk result (λ edges. IsNonDecreasingBy (λ (e : Edge). e.key) edges.items) }

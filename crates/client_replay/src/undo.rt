@@ -2,9 +2,7 @@
 
 ghost use Rattle.std.specs.Prelude.{◌≡◌, ◌&&◌, ℕ, true, not, Some, None, Ok, Err, IfOk, OnOk, OnErr, IsTrue, IsPermutation, [], ◌∷◌, ◌⊎◌};
 ghost use Rattle.std.specs.List.{list_any};
-ghost use Rattle.std.specs.List.Sorted.{IsNonDecreasingBy};
 ghost use Rattle.tgap_model.specs.declared.failure.Or.TheVariants.{Fault, Memory as WantOfMemory};
-ghost use Rattle.tgap_model.specs.declared.slice.Edge.{Edge};
 ghost use Rattle.tgap_model.specs.SliceForms.{is_slice_row, is_record_row, has_room};
 ghost use Rattle.tgap_model.specs.Records.{broken_rule, undo};
 ghost use Rattle.client_replay.specs.Coming.{coming, stays};
@@ -26,7 +24,6 @@ fn change(working: &mut Working, step_record: &StepRecord, edges: Vec<Edge>) -> 
     requires sound { IsSound working.old }
     requires rules { broken_before (slice_of working.old) step_record.now ≡ None }
     requires coming { IsPermutation (coming (slice_of working.old) step_record.now) edges.items }
-    requires rising { IsNonDecreasingBy (λ (e : Edge). e.key) edges.items }
     requires keys { (are_in_order edges.items && not (list_any (λ e. stays (slice_of working.old) step_record.now e.key) edges.items)) ≡ true }
     ensures done { OnOk result (slice_of working.new ≡ undo (slice_of working.old) step_record.now) }
     ensures sound { OnOk result (IsSound working.new) }

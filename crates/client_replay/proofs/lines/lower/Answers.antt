@@ -1,8 +1,7 @@
-use Rattle.std.proofs.Common.{List, ℕ, sym, ap, subst, ◌∙◌}
+use Rattle.std.proofs.Common.{sym, ap, subst, ◌∙◌}
 use Rattle.std.proofs.lemmas.Result.{on_ok_weaker}
 use Rattle.tgap_model.specs.Records.{in_place_of}
-use Rattle.client_replay.specs.declared.lines.Line.{Line}
-use Rattle.client_replay.specs.Working.{edges_of, AreLabelled, moved}
+use Rattle.client_replay.specs.Working.{edges_of, AreLabelled}
 use Rattle.client_replay.proofs.Relabelled.{changed_faces, unlabelled, moved_lines}
 use Rattle.client_replay.proofs.lines.lower.Goals as goal
 

@@ -1,11 +1,10 @@
-use Rattle.std.proofs.Common.{◌≡◌, ◌∙◌, ℕ, List, All, nat_cmp, sym, ap, ap₂, subst}
+use Rattle.std.proofs.Common.{◌∙◌, ℕ, sym, ap, ap₂, subst}
 use Rattle.std.specs.Prelude.{◌==◌}
 use Rattle.std.specs.List.{list_any}
 use Rattle.lemmas.specs.Sorting.{insert_by}
 use Rattle.tgap_model.specs.declared.slice.Edge.{Edge}
 use Rattle.tgap_model.specs.Records.{edge_before}
 use Rattle.client_replay.specs.declared.lines.Line.{Line}
-use Rattle.client_replay.specs.Labels.{face_of}
 use Rattle.client_replay.specs.Working.{edges_of, AreLabelled}
 use Rattle.client_replay.proofs.Relabelled.{IsLabelled, kept_faces, kept_twice}
 use Rattle.client_replay.proofs.LineTables.{All-insert_entry, line_put}

@@ -1,5 +1,4 @@
-use Rattle.std.proofs.Common.{◌++◌, List, subst}
-use Rattle.tgap_model.specs.declared.slice.Edge.{Edge}
+use Rattle.std.proofs.Common.{◌++◌, subst}
 use Rattle.client_replay.specs.Working.{edges_of}
 use Rattle.client_replay.proofs.LineTables.{IsPutting, next_new, put_next}
 use Rattle.client_replay.proofs.lines.put_all.Goals as goal

@@ -1,4 +1,4 @@
-use Rattle.std.proofs.Common.{Option, None, sym, ap, ap₂, ◌∙◌}
+use Rattle.std.proofs.Common.{Option, sym, ap₂, ◌∙◌}
 use Rattle.tgap_model.specs.declared.slice.Slice.{Slice}
 use Rattle.client_replay.specs.declared.unfit.Unfit.{Unfit}
 use Rattle.client_replay.specs.Replaying.{undone}

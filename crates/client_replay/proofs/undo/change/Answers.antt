@@ -1,7 +1,6 @@
-use Rattle.std.proofs.Common.{◌≡◌, ◌++◌, ℕ, List, AllPairs, IsPermutation, filter, refl, sym, ap, subst, ◌∙◌}
+use Rattle.std.proofs.Common.{◌++◌, List, AllPairs, IsPermutation, filter, refl, sym, ap, subst, ◌∙◌}
 use Rattle.tgap_model.specs.declared.slice.Edge.{Edge}
 use Rattle.tgap_model.specs.declared.record.Mend.{Mend}
-use Rattle.client_replay.specs.declared.lines.Line.{Line}
 use Rattle.client_replay.specs.Working.{slice_of, edges_of, rows_of, DifferInKey}
 use Rattle.client_replay.proofs.Failures.{keeps_six, step_at_least_one}
 use Rattle.client_replay.proofs.Form.{face_facts}
@@ -27,7 +26,7 @@ put_all-requires-clause-apart c =
     let left = c.take_mended.ensures.left ∙ ap (λ (ms : List Mend). filter (Unnamed ms) w.lines.entries) c.as_slice.ensures in
     let stay = c.in_ok-lower.ensures.lowered ∙ left_stay s r w.labels w.lines.entries c.take_mended.new.lines.entries refl order mends left in
     subst (λ (zs : List Edge). AllPairs DifferInKey (zs ++ c.args.edges.items)) (sym stay)
-    (own_apart s r order mends c.args.edges.items c.requires.coming c.requires.rising c.requires.keys)
+    (own_apart s r order mends c.args.edges.items c.requires.coming c.requires.keys)
 
 pub part-requires-clause-loser : goal.part-requires-clause-loser
 part-requires-clause-loser c =

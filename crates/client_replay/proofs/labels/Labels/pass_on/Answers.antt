@@ -1,4 +1,4 @@
-use Rattle.std.proofs.Common.{◌≡◌, ◌<◌, ℕ, None, Some, length, List, nat_cmp, arith}
+use Rattle.std.proofs.Common.{nat_cmp, arith}
 use Rattle.std.specs.BTreeMap.{get}
 use Rattle.client_replay.specs.Labels.{label_of}
 use Rattle.client_replay.proofs.Tables.{at_other}

@@ -1,4 +1,4 @@
-use Rattle.std.proofs.Common.{◌≡◌, ◌++◌, List, AllPairs, IsPermutation, sym, ap, ap₂, subst, ◌∙◌}
+use Rattle.std.proofs.Common.{◌++◌, List, AllPairs, IsPermutation, sym, ap, ap₂, subst, ◌∙◌}
 use Rattle.tgap_model.specs.declared.slice.Edge.{Edge}
 use Rattle.client_replay.specs.Working.{edges_of, DifferInKey}
 use Rattle.client_replay.proofs.Form.{slice_parts}
