@@ -21,7 +21,7 @@ use Rattle.client_replay.proofs.Apart.{edge_order, sorted_apart}
 use Rattle.client_replay.proofs.Staying.{staying, is_mended, staying_is}
 use Rattle.client_replay.proofs.Seventh.{mends_sorted, mends_named}
 use Rattle.client_replay.proofs.Tables.{ascend, filter-map}
-use Rattle.client_replay.proofs.LineTables.{Unnamed}
+use Rattle.client_replay.proofs.LineTables.{is_unnamed}
 use Rattle.client_replay.proofs.Relabelled.{IsLabelled}
 
 -- the edges stand in the order of their keys
@@ -32,15 +32,15 @@ pub lines_in_order : (t : Labels) (es : List (ℕ × Line)) → IsStrictlySorted
 lines_in_order t es s = ascend_by (λ (e : Edge). e.key) (edges_of t es) ∙ lines_sorted t es s
 
 -- lines that are left are labelled
-pub left_labelled : (t : Labels) (mends : List Mend) (es left : List (ℕ × Line)) → AreLabelled t es → left ≡ filter (Unnamed mends) es → AreLabelled t left
-left_labelled t mends es left h is = subst (AreLabelled t) (sym is) (All-filter (Unnamed mends) (λ p. IsLabelled t p.1) es h)
+pub left_labelled : (t : Labels) (mends : List Mend) (es left : List (ℕ × Line)) → AreLabelled t es → left ≡ filter (is_unnamed mends) es → AreLabelled t left
+left_labelled t mends es left h is = subst (AreLabelled t) (sym is) (All-filter (is_unnamed mends) (λ p. IsLabelled t p.1) es h)
 
 -- the edges that stay, by the lines that are left
 pub left_stay : (s : Slice) (r : StepRecord) (t : Labels) (es left : List (ℕ × Line)) → s.edges ≡ edges_of t es → are_in_order s.edges ≡ true → fits_mends s r ≡ true
-    → left ≡ filter (Unnamed r.mends) es → map (lowered r) (edges_of t left) ≡ staying r r.mends s.edges
+    → left ≡ filter (is_unnamed r.mends) es → map (lowered r) (edges_of t left) ≡ staying r r.mends s.edges
 left_stay s r t es left same order fits is =
     ap (λ (ps : List (ℕ × Line)). map (lowered r) (edges_of t ps)) is
-    ∙ ap (map (lowered r)) (filter-map (edge_of t) (Unnamed r.mends) (λ e. not (is_mended r r.mends e)) (λ p. refl) es)
+    ∙ ap (map (lowered r)) (filter-map (edge_of t) (is_unnamed r.mends) (λ e. not (is_mended r r.mends e)) (λ p. refl) es)
     ∙ ap (λ (xs : List Edge). map (lowered r) (filter (λ e. not (is_mended r r.mends e)) xs)) (sym same)
     ∙ sym (staying_is r r.mends s.edges (sym (ascend_by (λ (e : Edge). e.key) s.edges) ∙ order)
     (sym (ascend_by (λ (m : Mend). m.key) r.mends) ∙ mends_sorted s r fits) (mends_named s r fits))

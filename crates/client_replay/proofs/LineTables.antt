@@ -90,20 +90,20 @@ any_more p (y ∷ xs) x = by (p y) (list_any p xs) (p x) (any_more p xs x)
 key_turned : (a b : ℕ) → (a == b) ≡ (b == a)
 key_turned a b = grind (arith, nat_tests)
 
-abbrev pub Unnamed : List Mend → ℕ × Line → Bool
-Unnamed mends p = not (list_any (λ m. m.key == p.0) mends)
+abbrev pub is_unnamed : List Mend → ℕ × Line → Bool
+is_unnamed mends p = not (list_any (λ m. m.key == p.0) mends)
 
 -- without one more
-pub taken_more : (mends : List Mend) (m : Mend) (es : List (ℕ × Line)) → filter (λ p. not (p.0 == m.key)) (filter (Unnamed mends) es) ≡ filter (Unnamed (mends ++ m ∷ [])) es
+pub taken_more : (mends : List Mend) (m : Mend) (es : List (ℕ × Line)) → filter (λ p. not (p.0 == m.key)) (filter (is_unnamed mends) es) ≡ filter (is_unnamed (mends ++ m ∷ [])) es
 taken_more mends m [] = refl
 taken_more mends m (e ∷ es) =
     by (list_any (λ n. n.key == e.0) mends) (taken_more mends m es)
-    ∙ sym (ap (λ (b : Bool). cond (not b) (e ∷ filter (Unnamed (mends ++ m ∷ [])) es) (filter (Unnamed (mends ++ m ∷ [])) es)) (any_more (λ n. n.key == e.0) mends m ∙ ap (λ (b : Bool). list_any (λ n. n.key == e.0) mends || b) (key_turned m.key e.0)))
+    ∙ sym (ap (λ (b : Bool). cond (not b) (e ∷ filter (is_unnamed (mends ++ m ∷ [])) es) (filter (is_unnamed (mends ++ m ∷ [])) es)) (any_more (λ n. n.key == e.0) mends m ∙ ap (λ (b : Bool). list_any (λ n. n.key == e.0) mends || b) (key_turned m.key e.0)))
   where
     rest : List (ℕ × Line)
-    rest = filter (Unnamed (mends ++ m ∷ [])) es
+    rest = filter (is_unnamed (mends ++ m ∷ [])) es
 
-    by : (a : Bool) → filter (λ p. not (p.0 == m.key)) (filter (Unnamed mends) es) ≡ rest
-        → filter (λ p. not (p.0 == m.key)) (cond (not a) (e ∷ filter (Unnamed mends) es) (filter (Unnamed mends) es)) ≡ cond (not (a || (e.0 == m.key))) (e ∷ rest) rest
+    by : (a : Bool) → filter (λ p. not (p.0 == m.key)) (filter (is_unnamed mends) es) ≡ rest
+        → filter (λ p. not (p.0 == m.key)) (cond (not a) (e ∷ filter (is_unnamed mends) es) (filter (is_unnamed mends) es)) ≡ cond (not (a || (e.0 == m.key))) (e ∷ rest) rest
     by true h = h
     by false h = ap (λ zs. cond (not (e.0 == m.key)) (e ∷ zs) zs) h

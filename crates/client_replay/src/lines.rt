@@ -104,8 +104,8 @@ fn move_label(lines: &mut BTreeMap<u32, Line>, from: usize, to: usize)
     });
 }
 
-/// Lets the winner take the place of the new face at all edges. It takes its label, so that no edge is visited. Only in a
-/// slice that has an edge at a face that it does not have may the winner have a label, and then all edges are.
+/// Lets the winner take the place of the new face at all edges. It takes over its label, so that no edge is visited. Only
+/// where the winner has a label already, which is so in no packet of a map, all edges are.
 pub fn lower(
     lines: &mut BTreeMap<u32, Line>,
     labels: &mut Labels,

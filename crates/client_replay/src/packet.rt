@@ -41,8 +41,8 @@ fn undo_all(
 /// record that breaks a rule it is refused with the record's step and the least rule; the slice is then as the records
 /// before left it. On want of memory it is as it was before the call.
 ///
-/// It takes the size of the slice, of the records and of the slice that comes of them, times a logarithm. No record passes
-/// over the whole slice, except in a slice that has an edge at a face that it does not have. All is done on a copy of the
+/// It takes the size of the slice, of the records and of the slice that comes of them, times a logarithm. A record passes over
+/// all edges only where its winner has stood at an edge before, which is so in no packet of a map. All is done on a copy of the
 /// slice, which takes its place in the end.
 pub fn replay(alloc: Global, slice: &mut Slice, packet: &Packet) -> Result<(), Or<Unfit>>
     requires slice { IsTrue (is_slice_row slice.old) }
@@ -54,8 +54,8 @@ pub fn replay(alloc: Global, slice: &mut Slice, packet: &Packet) -> Result<(), O
     ensures done { OnOk result (slice.new ≡ replayed slice.old packet.now) }
     // On want of memory some first records are undone, each of which fits.
     ensures memory { OnMemory result (IsPartWay slice.old packet.now.steps slice.new) }
-    // In fact none is: the slice is then as it was.
-    ensures whole { OnMemory result (slice.new ≡ slice.old) }
+    // These are none: the slice is as it was.
+    ensures kept { OnMemory result (slice.new ≡ slice.old) }
     // It has the form of a slice in each case.
     ensures form { IsTrue (is_slice_row slice.new) }
 {

@@ -4,11 +4,11 @@ use Rattle.std.proofs.lemmas.List.{take_more}
 use Rattle.tgap_model.specs.declared.record.Mend.{Mend}
 use Rattle.client_replay.specs.declared.lines.Line.{Line}
 use Rattle.client_replay.proofs.Tables.{ascend, removed, filter_all}
-use Rattle.client_replay.proofs.LineTables.{Unnamed, taken_more}
+use Rattle.client_replay.proofs.LineTables.{is_unnamed, taken_more}
 use Rattle.client_replay.proofs.lines.take_mended.Goals as goal
 
 pub loop-mend-init : goal.loop-mend-init
-loop-mend-init c = record { ordered = c.requires; left = sym (filter_all (Unnamed []) c.args.lines.now.entries (λ k d l. refl)) }
+loop-mend-init c = record { ordered = c.requires; left = sym (filter_all (is_unnamed []) c.args.lines.now.entries (λ k d l. refl)) }
 
 pub loop-mend-preserved : goal.loop-mend-preserved
 loop-mend-preserved c =
@@ -22,5 +22,5 @@ loop-mend-preserved c =
       left = c.remove.ensures.entries ∙ removed m.key now (ascend now c.loop-mend.invariant.ordered)
           ∙ ap (filter (λ (p : ℕ × Line). not (p.0 == m.key))) c.loop-mend.invariant.left
           ∙ taken_more (take i mends) m old
-          ∙ ap (λ (ms : List Mend). filter (Unnamed ms) old) (ap (λ (n : Mend). take i mends ++ n ∷ []) c.mend-item.is ∙ sym (take_more mends i m c.loop-mend-test.true));
+          ∙ ap (λ (ms : List Mend). filter (is_unnamed ms) old) (ap (λ (n : Mend). take i mends ++ n ∷ []) c.mend-item.is ∙ sym (take_more mends i m c.loop-mend-test.true));
     }
