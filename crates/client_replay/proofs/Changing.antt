@@ -1,8 +1,9 @@
 -- A record undone on the tables of a slice.
-use Rattle.std.proofs.Common.{◌≡◌, ℕ, true, nat_lt, nat_cmp, List, map, filter, AllPairs, IsPermutation, refl, sym, ap, subst, ◌∙◌}
+use Rattle.std.proofs.Common.{◌≡◌, ℕ, true, nat_lt, nat_cmp, List, map, filter, AllPairs, IsPermutation, refl, sym, ap, subst, ◌∙◌, None, Bool, ◌&&◌}
 use Rattle.std.specs.Prelude.{⊤, not}
-use Rattle.std.specs.List.Sorted.{IsStrictlySortedBy}
+use Rattle.std.specs.List.Sorted.{IsStrictlySortedBy, IsNonDecreasingBy}
 use Rattle.std.specs.Map.{keys_of}
+use Rattle.std.specs.List.{list_any}
 use Rattle.std.proofs.lemmas.List.Elements.{All-filter}
 use Rattle.lemmas.specs.Sorting.{is_sorted_by}
 use Rattle.lemmas.proofs.Sorting.{map-is_sorted, sorted_permutation}
@@ -10,16 +11,18 @@ use Rattle.tgap_model.specs.declared.slice.Edge.{Edge}
 use Rattle.tgap_model.specs.declared.slice.Slice.{Slice}
 use Rattle.tgap_model.specs.declared.record.Mend.{Mend}
 use Rattle.tgap_model.specs.declared.record.StepRecord.{StepRecord}
-use Rattle.tgap_model.specs.Records.{edge_before, fits_mends}
+use Rattle.tgap_model.specs.Records.{edge_before, fits_mends, fits_keys}
 use Rattle.client_replay.specs.declared.labels.Labels.{Labels}
 use Rattle.client_replay.specs.declared.lines.Line.{Line}
-use Rattle.client_replay.specs.Coming.{lowered}
-use Rattle.client_replay.specs.Rules.{are_in_order}
-use Rattle.client_replay.specs.Working.{edge_of, edges_of, AreLabelled, DifferInKey}
+use Rattle.client_replay.specs.declared.working.Working.{Working}
+use Rattle.client_replay.specs.Coming.{lowered, coming, stays}
+use Rattle.client_replay.specs.Rules.{are_in_order, broken_before}
+use Rattle.client_replay.specs.Working.{edge_of, edges_of, slice_of, AreLabelled, DifferInKey, IsSound}
 use Rattle.client_replay.proofs.Found.{ascend_by}
 use Rattle.client_replay.proofs.Apart.{edge_order, sorted_apart}
 use Rattle.client_replay.proofs.Staying.{staying, is_mended, staying_is}
-use Rattle.client_replay.proofs.Seventh.{mends_sorted, mends_named}
+use Rattle.client_replay.proofs.Failures.{keeps_six}
+use Rattle.client_replay.proofs.Seventh.{mends_sorted, mends_named, seventh}
 use Rattle.client_replay.proofs.Tables.{ascend, filter-map}
 use Rattle.client_replay.proofs.LineTables.{is_unnamed}
 use Rattle.client_replay.proofs.Relabelled.{IsLabelled}
@@ -54,3 +57,11 @@ pub same_in_order : (t : Labels) (edges : List Edge) (es : List (ℕ × Line)) �
     → IsPermutation edges (edges_of t es) → edges_of t es ≡ edges
 same_in_order t edges es h s perm =
     sym (sorted_permutation edge_order edges (edges_of t es) (λ k d l. tt) (sym (ascend_by (λ (e : Edge). e.key) edges) ∙ h) (lines_sorted t es s) perm)
+
+-- what the test of the keys of the edges that come says of the last rule
+pub keys_tested : (w : Working) (r : StepRecord) → IsSound w → broken_before (slice_of w) r ≡ None → (edges read : List Edge) → IsPermutation (coming (slice_of w) r) edges
+    → IsNonDecreasingBy (λ (e : Edge). e.key) edges → read ≡ edges → (answer told : Bool)
+    → answer ≡ (are_in_order read && not (list_any (λ e. stays (slice_of w) r e.key) read)) → answer ≡ told → fits_keys (slice_of w) r ≡ told
+keys_tested w r sound none edges read perm rising same answer told is e =
+    sym (seventh (slice_of w) r (lines_in_order w.labels w.lines.entries sound.lines) (keeps_six (slice_of w) r none).mends edges perm rising)
+    ∙ ap (λ (es : List Edge). are_in_order es && not (list_any (λ f. stays (slice_of w) r f.key) es)) (sym same) ∙ sym is ∙ e

@@ -1,7 +1,7 @@
--- Tests of each member of a list, from its first on; and tests of each two that follow one another.
-use Rattle.std.proofs.Common.{◌≡◌, ℕ, ◌+◌, ◌<◌, Bool, true, false, ◌&&◌, ◌||◌, List, [], ◌∷◌, map, drop, length, get_or, nat_lt, refl, sym, ap, ◌∙◌, true≢false, add-one, drop-cons, suc, arith}
+-- What is left of a list on a walk; and tests of each two that follow one another.
+use Rattle.std.proofs.Common.{◌≡◌, ℕ, ◌+◌, ◌<◌, Bool, true, false, List, [], ◌∷◌, map, drop, length, get_or, nat_lt, refl, sym, ap, ◌∙◌, true≢false, add-one, drop-cons, suc, arith}
 use Rattle.std.specs.Prelude.{⊤}
-use Rattle.std.specs.List.{list_all, list_any, IsAllAdjacentAnswer}
+use Rattle.std.specs.List.{IsAllAdjacentAnswer}
 use Rattle.lemmas.specs.Sorting.{is_sorted_by}
 use Rattle.lemmas.proofs.Sorting.{adjacent_from_sorted, sorted_from_adjacent, map-is_sorted}
 
@@ -11,19 +11,6 @@ drop_step xs i x h e = rw (add-one, drop-cons xs i x) (ap (λ y. y ∷ drop (suc
 
 pub drop_next : {A : Type 0} (xs : List A) (i : ℕ) (d : A) → i < length xs → drop i xs ≡ get_or xs i d ∷ drop (i + 1) xs
 drop_next xs i d h = rw (add-one, drop-cons xs i d)
-
-module _ {A : Type 0} (p : A → Bool) (xs : List A) (i : ℕ) (x : A) (h : i < length xs) (e : x ≡ get_or xs i x) where
-  pub all_passed : p x ≡ true → list_all p (drop (i + 1) xs) ≡ list_all p (drop i xs)
-  all_passed t = sym (ap (list_all p) (drop_step xs i x h e) ∙ ap (λ (b : Bool). b && list_all p (drop (i + 1) xs)) t)
-
-  pub all_failed : p x ≡ false → list_all p (drop i xs) ≡ false
-  all_failed f = ap (list_all p) (drop_step xs i x h e) ∙ ap (λ (b : Bool). b && list_all p (drop (i + 1) xs)) f
-
-  pub any_failed : p x ≡ false → list_any p (drop (i + 1) xs) ≡ list_any p (drop i xs)
-  any_failed f = sym (ap (list_any p) (drop_step xs i x h e) ∙ ap (λ (b : Bool). b || list_any p (drop (i + 1) xs)) f)
-
-  pub any_passed : p x ≡ true → list_any p (drop i xs) ≡ true
-  any_passed t = ap (list_any p) (drop_step xs i x h e) ∙ ap (λ (b : Bool). b || list_any p (drop (i + 1) xs)) t
 
 -- what a walk over each two that follow one another answers
 sorted_answer : {A : Type 0} (before : A → A → Bool) (xs : List A) (r : Bool) → IsAllAdjacentAnswer (λ x y b. b ≡ before x y) xs r → (d : A) → r ≡ is_sorted_by before xs
