@@ -1,16 +1,19 @@
 -- What stands at the front of the bytes that are held.
-use Rattle.std.proofs.Common.{◌≡◌, ℕ, ◌+◌, ◌≤◌, ◌<◌, Bool, List, [], ◌++◌, length, take, drop, Option, Some, None, Result, Ok, Err, sym, ap, ◌∙◌, arith, append_assoc, length-append, take-append-drop, length-take-le, IfSome, subst}
+use Rattle.std.proofs.Common.{◌≡◌, inl, inr, ℕ, ◌+◌, ◌≤◌, ◌<◌, Bool, List, [], ◌++◌, length, take, drop, Option, Some, None, Result, Ok, Err, sym, ap, ◌∙◌, arith, append_assoc, length-append, take-append-drop, length-take-le, IfSome, subst}
 use Rattle.std.proofs.lemmas.List.{append-nil}
 use Rattle.httparse.specs.Grammar.{RequestHead, IsRequestHead, ReadsRequest, print_request}
 use Rattle.httparse.proofs.GrammarLemmas.{request_unique}
 use Rattle.http_face.specs.declared.head.Head.{Head}
 use Rattle.http_face.specs.declared.head.HeadState.TheVariants.{Whole as WholeHead}
 use Rattle.http_face.specs.Routes.{route_of}
+use Rattle.http_face.specs.declared.head.HeadEnds.{HeadEnds}
 use Rattle.http_face.specs.declared.head.HeadEnds.TheVariants.{Whole}
-use Rattle.http_face.specs.Heads.{HasHead, TellsState, headers_of, body_of, closes, told_of}
-use Rattle.session.specs.Items.{LacksBody}
+use Rattle.http_face.specs.Heads.{HasHead, StartsWith, TellsHead, TellsState, headers_of, body_of, closes, told_of, ends_of}
+use Rattle.http_face.proofs.HeadLaws.{told_alone}
+use Rattle.session.specs.Items.{IsOneHead, LacksBody}
 use Rattle.session.specs.Coming.{BeginsWith}
 use Rattle.session.specs.Reading.{Received}
+use Rattle.session.proofs.Ranges.{take_front}
 
 -- what a whole head tells of it
 told_whole : (n : ℕ) (c : Bool) (r : Result ℕ ℕ) (size body : ℕ) (close : Bool)
@@ -75,3 +78,22 @@ same_head bytes h found (k, starts, is, method, target) valid whole =
     let reads : ReadsRequest bytes h [] = (valid, whole ∙ sym (append-nil (print_request h))) in
     let one : k ≡ h = (request_unique bytes k h starts.rest [] starts.reads reads).0 in
     ap (λ m. route_of m found.target) method ∙ ap (λ t. route_of k.method t) target ∙ ap (λ x. route_of x.method x.target) one
+
+-- of the bytes of one good head it is told that it is whole
+pub one_head_told : (bytes : List ℕ) (told : HeadEnds) → IsOneHead bytes → TellsHead bytes told → (size : ℕ) × (body : ℕ) × (close : Bool) × (told ≡ Whole size body close)
+one_head_told bytes told (h, body, request, is) tells =
+    let size = length (print_request h) in
+    let close = closes h.minor (headers_of h) in
+    let reads : ReadsRequest bytes h [] = (request.valid, is ∙ sym (append-nil (print_request h))) in
+    let starts : StartsWith bytes h = record { rest = []; reads = reads; short = request.short } in
+    let ends : ends_of h ≡ Whole size (length body) close = ap (told_of size close) request.whole in
+    elim (told_alone bytes (Whole size (length body) close) told (h, starts, ends) tells) [
+      | inl same ↦ (size, length body, close, same)
+      | inr is_open ↦ absurd (is_open.none h [] reads)
+    ]
+
+-- the head of a request that the bytes begin with
+pub front_of : (bytes : List ℕ) (size body : ℕ) (close : Bool) → (b : BeginsWith bytes size body close) → take size bytes ≡ print_request b.head
+front_of bytes size body close b =
+    ap (λ xs. take size xs) b.bytes_are ∙ ap (λ n. take n (print_request b.head ++ (b.body ++ b.rest))) b.head_size
+    ∙ take_front (print_request b.head) (b.body ++ b.rest)

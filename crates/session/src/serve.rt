@@ -100,6 +100,7 @@ fn serve_request<R: Threads + Wait + Sync, L: Link, P, V: Versions<P>>(
     requires pin { IsPin (V.seen versions.old).history pin.old }
     requires log { length log.old.numbers < MAX_REQUESTS }
     requires sizes { head + body ≤ length room.old }
+    requires request { (close : Bool) × BeginsWith room.old head body close }
     ensures exchange { (close : Bool) → BeginsWith room.old head body close
         → Exchange (V.seen versions.old) (V.seen versions.new) pin.old pin.new room.old room.new log.old log.new
         (L.told link.old) (L.told link.new) false close ends result }

@@ -2,7 +2,7 @@
 
 ghost use Rattle.std.specs.Prelude.{◌≡◌, true, ◌<◌, ◌+◌, ℕ, List, Ok, Err, IfOk, OnErr};
 ghost use Rattle.http_face.specs.declared.request.Route.TheVariants.{Pin as PinRoute, PinSeen as PinSeenRoute};
-ghost use Rattle.session.specs.Items.{Route as RouteAsked, FaultyHead};
+ghost use Rattle.session.specs.Items.{IsOneHead, Route as RouteAsked, FaultyHead};
 ghost use Rattle.session.specs.Versions.{Seen, Continues, IsPin};
 ghost use Rattle.session.specs.declared.row.Row.TheVariants.{Read as RowRead};
 ghost use Rattle.session.specs.Turns.{IsTurned, CountsPublished, CountsTold, IsSought, Reads};
@@ -191,6 +191,21 @@ fn do_asked<R: Threads + Wait + Sync, P, V: Versions<P>>(
     }
 }
 
+/// What a request asks for, by the bytes of its head.
+fn asked_by(alloc: Global, routes: &Routes, head: &[u8]) -> Result<Route, Memory>
+    requires { IsOneHead head.now }
+    ensures { IfOk result (λ asked. (h : RequestHead) → IsRequestHead h → head.now ≡ print_request h → asked ≡ route_of h.method h.target) }
+{
+    match read_head(alloc, head)? {
+        HeadState::Whole(found) => Ok(route(
+            routes,
+            found.method.as_slice(),
+            found.target.as_slice(),
+        )),
+        HeadState::More | HeadState::Bad { .. } => unreachable!(),
+    }
+}
+
 /// Answers a request, by the bytes of its head and of its body.
 pub(crate) fn answer<R: Threads + Wait + Sync, P, V: Versions<P>>(
     rt: &R,
@@ -204,6 +219,7 @@ pub(crate) fn answer<R: Threads + Wait + Sync, P, V: Versions<P>>(
     close: bool,
 ) -> Result<Turned, Memory>
     requires pin { IsPin (V.seen versions.old).history pin.old }
+    requires head { IsOneHead head.now }
     ensures turned { IfOk result (λ t. (h : RequestHead) → IsRequestHead h → head.now ≡ print_request h
         → IsTurned (V.seen versions.old) (V.seen versions.new) pin.old.number pin.new.number (RouteAsked (route_of h.method h.target) body.now) close t) }
     ensures pin { IsPin (V.seen versions.new).history pin.new }
@@ -212,11 +228,6 @@ pub(crate) fn answer<R: Threads + Wait + Sync, P, V: Versions<P>>(
     ensures published { CountsPublished (V.seen versions.old) (V.seen versions.new) result }
     ensures told { CountsTold (V.seen versions.old) (V.seen versions.new) result }
 {
-    match read_head(alloc, head)? {
-        HeadState::Whole(found) => {
-            let asked = route(routes, found.method.as_slice(), found.target.as_slice());
-            do_asked(rt, alloc, versions, press, pin, asked, body, close)
-        }
-        HeadState::More | HeadState::Bad { .. } => Err(Memory),
-    }
+    let asked = asked_by(alloc, routes, head)?;
+    do_asked(rt, alloc, versions, press, pin, asked, body, close)
 }

@@ -18,6 +18,9 @@ loop-count-init g c = record {
   put_faults = refl;
 }
 
+pub serve_request-requires-clause-request : goal.serve_request-requires-clause-request
+serve_request-requires-clause-request g c κs within = (c.in-Request.close, c.in-Request.ensures.exact)
+
 pub returns-in-End-clause-conversation : goal.returns-in-End-clause-conversation
 returns-in-End-clause-conversation g c =
     ends_open c.args.pin.now.number c.loop-count.count (g.V.Versions.seen c.args.versions.now) (g.V.Versions.seen c.loop-count.versions)

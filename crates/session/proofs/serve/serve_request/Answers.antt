@@ -8,16 +8,21 @@ use Rattle.session.specs.Turns.{IsTurned}
 use Rattle.session.specs.Progress.{Exchange}
 use Rattle.session.proofs.Ranges.{take_front, drop_front}
 use Rattle.session.proofs.Edits.{if_ok}
+use Rattle.session.proofs.Fronts.{front_of}
 use Rattle.session.proofs.Exchanges.{exchange_of, kept_number}
 use Rattle.session.proofs.serve.serve_request.Goals as goal
+
+pub answer-turned-requires-clause-head : goal.answer-turned-requires-clause-head
+answer-turned-requires-clause-head g c κs within =
+    let close = c.requires.request.0 in
+    let b = c.requires.request.1 in
+    (b.head, b.body, b.request, c.split_request.ensures.head ∙ ap (take c.args.head) c.bytes.ensures ∙ front_of c.args.room.now c.args.head c.args.body close b)
 
 pub returns-clause-exchange : goal.returns-clause-exchange
 returns-clause-exchange g c close b =
     let S = g.V.Versions.seen in
     let held = c.args.room.now in
-    let front : take c.args.head held ≡ print_request b.head =
-    ap (λ xs. take c.args.head xs) b.bytes_are ∙ ap (λ n. take n (print_request b.head ++ (b.body ++ b.rest))) b.head_size
-    ∙ take_front (print_request b.head) (b.body ++ b.rest) in
+    let front = front_of held c.args.head c.args.body close b in
     let behind : drop c.args.head held ≡ b.body ++ b.rest =
     ap (λ xs. drop c.args.head xs) b.bytes_are ∙ ap (λ n. drop n (print_request b.head ++ (b.body ++ b.rest))) b.head_size
     ∙ drop_front (print_request b.head) (b.body ++ b.rest) in
