@@ -9,14 +9,12 @@ ghost use Rattle.tgap_model.specs.Segment.{HaveInCommon, common_point, turns_bef
 ghost use Rattle.grid_geo.specs.Directions.{order_round};
 
 mod arithmetic;
-mod boxes;
 mod clear;
 mod common;
 mod determinant;
 mod direction;
 mod height;
 
-pub use boxes::boxes_apart;
 pub use clear::clear_of;
 use common::{any_common, is_permitted};
 use determinant::orientation;

@@ -5,6 +5,7 @@ ghost use Rattle.plain_io.specs.Links.{HasNone};
 ghost use Rattle.plain_io.specs.Doors.{Connections, NoMoreBack, FewerBack, IfCame, is_closed, Arrives, CountsArrival, HandsBack};
 
 mod memory;
+mod refusal;
 mod sure;
 mod tcp;
 

@@ -8,7 +8,6 @@ mod memory;
 mod sure;
 
 pub use host::HostSink;
-pub(crate) use host::write_all;
 pub use memory::MemorySink;
 pub use sure::SureSink;
 

@@ -29,7 +29,7 @@ pub use fault::{LimitKind, MapFault};
 pub use geometry::{Fraction, Point, Seg, Shared, Window};
 pub use limits::{
     MAX_ARCS, MAX_CLASSES, MAX_COMPATIBILITY, MAX_COORDINATE, MAX_FACES, MAX_MAP_BYTES, MAX_POINTS,
-    MAX_RATIO, MAX_TEXT_BYTES, MAX_WEIGHT,
+    MAX_RATIO, MAX_TEXT_BYTES, MAX_WEIGHT, limits_as_numbers,
 };
 pub use list::List;
 pub use machine::{Event, Holds, Outcome};

@@ -1,5 +1,8 @@
 //! The limits of a base map and of a map file.
 
+ghost use Rattle.std.specs.Prelude.{◌≡◌, pos};
+ghost use Rattle.tgap_model.specs.declared.limits.TheConstants.{MAX_ARCS, MAX_CLASSES, MAX_COMPATIBILITY, MAX_COORDINATE, MAX_FACES, MAX_MAP_BYTES, MAX_POINTS, MAX_RATIO, MAX_TEXT_BYTES, MAX_WEIGHT};
+
 /// The greatest coordinate, in grid units; the least is its negative.
 pub const MAX_COORDINATE: i64 = 268_435_456;
 
@@ -29,3 +32,17 @@ pub const MAX_MAP_BYTES: u64 = 16_777_216;
 
 /// The greatest length of a slice file or a packet file, in bytes.
 pub const MAX_TEXT_BYTES: u64 = 67_108_864;
+
+/// The limits as numbers: definitions read the constants, and would follow a wrong one.
+pub fn limits_as_numbers()
+    ensures coordinate { MAX_COORDINATE ≡ pos 268435456 }
+    ensures points { MAX_POINTS ≡ 131072 }
+    ensures arcs { MAX_ARCS ≡ 65536 }
+    ensures faces { MAX_FACES ≡ 32768 }
+    ensures classes { MAX_CLASSES ≡ 256 }
+    ensures weight { MAX_WEIGHT ≡ 65535 }
+    ensures compatibility { MAX_COMPATIBILITY ≡ 1000 }
+    ensures ratio { MAX_RATIO ≡ 65535 }
+    ensures map_bytes { MAX_MAP_BYTES ≡ 16777216 }
+    ensures text_bytes { MAX_TEXT_BYTES ≡ 67108864 }
+{}

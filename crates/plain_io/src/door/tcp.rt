@@ -2,28 +2,35 @@
 
 ghost use Rattle.std.specs.Prelude.{◌≡◌, None, false, IfOk};
 
+use super::refusal::{Refusal, refusal_of};
 use super::{Arrival, Door};
 use crate::connection::ConnectionEnd;
 use crate::link::{Link, TcpLink};
 use crate::sink::Failed;
-use std::io::ErrorKind;
 use std::net::TcpListener;
+use std::thread;
+use std::time::{Clock, Duration};
+
+/// How long a door waits for memory or descriptors before it tries again, in milliseconds.
+const WANT_MILLISECONDS: u64 = 100;
 
 /// A door over a listener, which other doors may share. It is never closed.
 #[derive(Drop)]
-pub struct TcpDoor {
+pub struct TcpDoor<'a, R> {
     listener: TcpListener,
+    clock: &'a R,
     faults: u64,
 }
 
-impl TcpDoor {
-    /// A door over this listener.
-    pub fn new(listener: TcpListener) -> Self
-        ensures faults { ⟦<TcpDoor as Door>⟧.faults result ≡ 0 }
-        ensures unclosed { ⟦<TcpDoor as Door>⟧.closed result ≡ false }
+impl<'a, R: Clock + Sync> TcpDoor<'a, R> {
+    /// A door over this listener, which waits by this clock.
+    pub fn new(listener: TcpListener, clock: &'a R) -> Self
+        ensures faults { ⟦<TcpDoor<'a, R> as Door>⟧.faults result ≡ 0 }
+        ensures unclosed { ⟦<TcpDoor<'a, R> as Door>⟧.closed result ≡ false }
     {
         TcpDoor {
             listener,
+            clock,
             faults: 0,
         }
     }
@@ -35,7 +42,7 @@ impl TcpDoor {
     }
 }
 
-impl Door for TcpDoor {
+impl<'a, R: Clock + Sync> Door for TcpDoor<'a, R> {
     type Line = TcpLink;
 
     ghost told = { λ s. None };
@@ -45,7 +52,7 @@ impl Door for TcpDoor {
     ghost closed = { λ s. false };
 
     fn next(&mut self) -> Arrival<TcpLink> {
-        match accept(&self.listener) {
+        match accept(&self.listener, self.clock) {
             Ok(link) => Arrival::Came(link),
             Err(Failed) => {
                 self.faults = self.faults.saturating_add(1);
@@ -54,7 +61,9 @@ impl Door for TcpDoor {
         }
     }
 
-    fn done(&mut self, _line: TcpLink, _end: ConnectionEnd) {}
+    fn done(&mut self, line: TcpLink, _end: ConnectionEnd) {
+        line.close(self.clock);
+    }
 
     fn faults(&self) -> u64 {
         self.faults
@@ -63,8 +72,9 @@ impl Door for TcpDoor {
     ghost no_more_back = { λ door. tt };
 }
 
-/// The next connection that can be used. One that its peer gave up before is passed over.
-fn accept(listener: &TcpListener) -> Result<TcpLink, Failed>
+/// The next connection that can be used. One that went wrong before it could be used is passed over, and where the system is short of
+/// descriptors, buffers or memory, the call waits a moment and tries again. It fails where the listener itself is broken.
+fn accept<C: Clock>(listener: &TcpListener, clock: &C) -> Result<TcpLink, Failed>
     ensures take_faults { IfOk result (λ link. ⟦<TcpLink as Link>⟧.take_faults link ≡ 0) }
     ensures put_faults { IfOk result (λ link. ⟦<TcpLink as Link>⟧.put_faults link ≡ 0) }
     ensures unended { IfOk result (λ link. ⟦<TcpLink as Link>⟧.ended link ≡ false) }
@@ -76,40 +86,12 @@ fn accept(listener: &TcpListener) -> Result<TcpLink, Failed>
                     return Ok(link);
                 }
             }
-            Err(error) if is_given_up(error.kind()) => {}
-            Err(_) => return Err(Failed),
+            Err(error) => match refusal_of(&error) {
+                Refusal::OfConnection => {}
+                Refusal::OfWant => thread::sleep(clock, Duration::from_millis(WANT_MILLISECONDS)),
+                Refusal::OfListener => return Err(Failed),
+            },
         }
     }
     Err(Failed)
-}
-
-/// Whether an error says that the peer gave the connection up, or that the call was interrupted.
-fn is_given_up(kind: ErrorKind) -> bool {
-    matches!(
-        kind,
-        ErrorKind::ConnectionAborted | ErrorKind::ConnectionReset | ErrorKind::Interrupted
-    )
-}
-
-#[cfg(test)]
-mod tests {
-    use super::*;
-    use std::io::Write;
-    use std::net::TcpStream;
-    use std::test::Fail;
-
-    #[test]
-    fn a_door_over_the_network(rt: HostRuntime) -> Result<(), Fail> {
-        let mut door = TcpDoor::new(TcpListener::bind(&rt, "127.0.0.1:0")?);
-        let mut peer = TcpStream::connect(&rt, ("127.0.0.1", door.port()?))?;
-        peer.write(b"ab")?;
-        let Arrival::Came(mut link) = door.next() else {
-            return Err(Fail::from("no link came"));
-        };
-        let mut buf = [0u8; 8];
-        assert_eq!(rt; link.take(&mut buf)?, 2);
-        assert_eq!(rt; &buf[..2], b"ab".as_slice());
-        assert_eq!(rt; door.faults(), 0);
-        Ok(())
-    }
 }

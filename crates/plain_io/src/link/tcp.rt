@@ -3,13 +3,19 @@
 ghost use Rattle.std.specs.Prelude.{◌≡◌, ◌≤◌, length, IfOk, None, false};
 
 use super::Link;
-use crate::sink::{Failed, write_all};
-use std::io::{ErrorKind, Read};
-use std::net::TcpStream;
-use std::time::Duration;
+use crate::sink::Failed;
+use std::io::{ErrorKind, Read, Write};
+use std::net::{Shutdown, TcpStream};
+use std::time::{Clock, Duration, Instant};
 
 /// How many seconds a take or a put waits for a peer that sends or accepts nothing. Then it fails.
-pub const PEER_SECONDS: u64 = 30;
+pub const PEER_SECONDS: u64 = 5;
+
+/// How many seconds at most a connection is read on after its last reply, so that the reply comes to a peer that still sends.
+const LAST_SECONDS: u64 = 1;
+
+/// How many bytes are dropped at once.
+const DROPPED_AT_ONCE: usize = 16_384;
 
 /// A link over a connection. A peer that resets it, or that sends or accepts nothing for [`PEER_SECONDS`], makes the call
 /// fail.
@@ -30,15 +36,28 @@ impl TcpLink {
         ensures unended { IfOk result (λ link. ⟦<TcpLink as Link>⟧.ended link ≡ false) }
     {
         let wait = Some(Duration::from_secs(PEER_SECONDS));
+        let turn = Some(Duration::from_secs(1));
         stream.set_nodelay(true).map_err(|_| Failed)?;
         stream.set_read_timeout(wait).map_err(|_| Failed)?;
-        stream.set_write_timeout(wait).map_err(|_| Failed)?;
+        stream.set_write_timeout(turn).map_err(|_| Failed)?;
         Ok(TcpLink {
             stream,
             ended: false,
             take_faults: 0,
             put_faults: 0,
         })
+    }
+
+    /// Ends the connection. Where neither side has ended or failed before, the end of the output is sent, and for
+    /// [`LAST_SECONDS`] at most what still comes is dropped: a connection that is closed over unread bytes is reset, and
+    /// its peer may lose the last reply.
+    pub fn close<C: Clock>(mut self, clock: &C) {
+        if self.ended || self.take_faults > 0 || self.put_faults > 0 {
+            return;
+        }
+        if self.stream.shutdown(Shutdown::Write).is_ok() {
+            drop_rest(&mut self.stream, clock);
+        }
     }
 }
 
@@ -63,7 +82,7 @@ impl Link for TcpLink {
     }
 
     fn put(&mut self, bytes: &[u8]) -> Result<(), Failed> {
-        let put = write_all(&mut self.stream, bytes);
+        let put = send_all(&mut self.stream, bytes);
         if put.is_err() {
             self.put_faults = self.put_faults.saturating_add(1);
         }
@@ -85,41 +104,48 @@ fn read_some<R: Read>(reader: &mut R, buf: &mut [u8]) -> Result<usize, Failed>
     Err(Failed)
 }
 
-#[cfg(test)]
-mod tests {
-    use super::*;
-    use std::io::Write;
-    use std::net::TcpListener;
-    use std::test::Fail;
-
-    #[test]
-    fn a_link_over_the_network(rt: HostRuntime) -> Result<(), Fail> {
-        let listener = TcpListener::bind(&rt, "127.0.0.1:0")?;
-        let mut peer = TcpStream::connect(&rt, listener.local_addr()?)?;
-        let (stream, _) = listener.accept()?;
-        let mut link = TcpLink::new(stream)?;
-        let mut buf = [0u8; 8];
-
-        peer.write(b"ab")?;
-        assert_eq!(rt; link.take(&mut buf)?, 2);
-        assert_eq!(rt; &buf[..2], b"ab".as_slice());
-        link.put(b"cde")?;
-        assert_eq!(rt; peer.read(&mut buf)?, 3);
-        assert_eq!(rt; &buf[..3], b"cde".as_slice());
-
-        drop(peer);
-        assert_eq!(rt; link.take(&mut buf)?, 0);
-        assert!(rt; link.ended);
-        // The peer answers the first of these with a reset, and the program goes on.
-        let mut last = Ok(());
-        for _ in 0..1000 {
-            last = link.put(b"f");
-            if last.is_err() {
-                break;
-            }
+/// Sends all the bytes. Each turn of waiting for a peer that accepts none takes a second, and after [`PEER_SECONDS`] of them in a row
+/// the call fails.
+fn send_all<W: Write>(stream: &mut W, bytes: &[u8]) -> Result<(), Failed> {
+    let mut rest = bytes;
+    let mut turns = PEER_SECONDS;
+    for _ in 0..u64::MAX {
+        if rest.is_empty() {
+            return Ok(());
         }
-        assert_eq!(rt; last, Err(Failed));
-        assert_eq!(rt; link.put_faults, 1);
-        Ok(())
+        match stream.write(rest) {
+            Ok(0) => return Err(Failed),
+            Ok(count) => {
+                rest = &rest[count..];
+                turns = PEER_SECONDS;
+            }
+            Err(error) if error.kind() == ErrorKind::Interrupted => {}
+            Err(error) if error.kind() == ErrorKind::WouldBlock && turns > 1 => turns -= 1,
+            Err(_) => return Err(Failed),
+        }
+    }
+    Err(Failed)
+}
+
+/// Reads on and drops what comes, until the peer ends or fails, or [`LAST_SECONDS`] have passed.
+fn drop_rest<C: Clock>(stream: &mut TcpStream, clock: &C) {
+    let last = Duration::from_secs(LAST_SECONDS);
+    let mut dropped = [0; DROPPED_AT_ONCE];
+    let Ok(start) = Instant::now(clock) else {
+        return;
+    };
+    for _ in 0..u64::MAX {
+        let Ok(passed) = start.elapsed(clock) else {
+            return;
+        };
+        // A wait of no time is refused by the system.
+        let left = last.checked_sub(passed);
+        if left.is_none() || stream.set_read_timeout(left).is_err() {
+            return;
+        }
+        match read_some(stream, &mut dropped) {
+            Ok(0) | Err(Failed) => return,
+            Ok(_) => {}
+        }
     }
 }

@@ -36,7 +36,7 @@ impl<W: Write> Sink for HostSink<W> {
 }
 
 /// Writes all the bytes. A write of no bytes is a fault.
-pub fn write_all<W: Write>(writer: &mut W, bytes: &[u8]) -> Result<(), Failed> {
+fn write_all<W: Write>(writer: &mut W, bytes: &[u8]) -> Result<(), Failed> {
     let mut rest = bytes;
     for _ in 0..u64::MAX {
         if rest.is_empty() {
