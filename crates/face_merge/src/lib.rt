@@ -1,6 +1,5 @@
-//! The merge history of a base map: the least important face is merged into its most compatible neighbour, again and
-//! again. Beside it, the area of the face that each step takes. It stands on `tgap_model`, whose `History` says what a
-//! step is.
+//! The merge history of a base map: at each step the face of least importance joins the neighbour that suits it best.
+//! Beside it, the area of the face that each step takes. It stands on `tgap_model`, whose `History` says what a step is.
 #![tactic(auto)]
 
 ghost use Rattle.std.specs.Prelude.{◌≡◌, ◌≤◌, List, length, map, IfOk};

@@ -6,7 +6,7 @@ use Rattle.tgap_model.specs.History.{label_after, AreNumbered}
 use Rattle.tgap_model.specs.Merged.{MergedMap, all_classes}
 
 -- The faces of a base map and those that the steps of its history make: face 1 to face `faces` are of the base map, and
--- step j, from 1 on, makes face `faces` + j. The class of face f stands at place f - 1.
+-- step j, from 1 on, makes face `faces` + j. The list of classes begins with that of face 1 and goes on in order of number.
 pub record FaceHistory : Type 0 where
   pub faces : ℕ
   pub classes : List ℕ

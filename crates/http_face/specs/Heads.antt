@@ -77,7 +77,7 @@ ends_of h = told_of (length (print_request h)) (closes h.minor (headers_of h)) (
 
 -- ---- what the bytes of a request so far tell
 
--- a whole head of at most 8,192 bytes stands at the front
+-- the bytes begin with a whole head, whose length is within the limit of 8,192 bytes
 pub record StartsWith (bytes : List ℕ) (h : RequestHead) : Type 0 where
   pub rest : List ℕ
   pub reads : ReadsRequest bytes h rest
@@ -100,7 +100,7 @@ pub record IsUnfinished (bytes : List ℕ) : Type 0 where
   pub none : HasNoRequest bytes
   pub may : MayBecomeRequest bytes
 
--- No head can follow, there are more than 64 headers, or the first 8,192 bytes hold no whole head.
+-- No head can follow, there are more than 64 headers, or 8,192 bytes have come and no head ends among them.
 abbrev pub IsHopeless : List ℕ → Type 0
 IsHopeless bytes =
     NeverHasRequest bytes ⊎ HasManyHeaders bytes

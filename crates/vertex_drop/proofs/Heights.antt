@@ -28,7 +28,7 @@ module _ (m n : ℤ) (k l p q : Point) where
   turn_at_first = same_value values ((height_of 1 ⊖ height_of 0) ⊗ cross 2 3 0)
       ((height_of 2 ⊖ height_of 0) ⊗ cross 0 1 3 ⊖ (height_of 3 ⊖ height_of 0) ⊗ cross 0 1 2) refl
 
-  -- the same about its last point
+  -- the turn from p to q about the last point of the line
   turn_at_last : (height m n l -ℤ height m n k) *ℤ cross_of p q l
       ≡ (height m n p -ℤ height m n l) *ℤ cross_of k l q -ℤ (height m n q -ℤ height m n l) *ℤ cross_of k l p
   turn_at_last = same_value values ((height_of 1 ⊖ height_of 0) ⊗ cross 2 3 1)
