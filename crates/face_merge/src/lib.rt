@@ -41,7 +41,7 @@ pub fn history_of(
     ensures steps { IfOk result (λ steps. IsHistory base.now steps) }
     // No other list of steps is the history.
     ensures only { IfOk result (λ steps. (others : List MergeStep) → IsHistory base.now others → others ≡ steps) }
-    // The same, by the function that computes on small maps.
+    // The history, by the function that computes on small maps.
     ensures exact { IfOk result (λ steps. steps ≡ whole_history base.now) }
     // A step merges two different faces, and the new face has the next number.
     ensures numbered { IfOk result (AreNumbered (length base.now.classes)) }
@@ -63,7 +63,7 @@ pub fn history(alloc: Global, base: &Base) -> Result<List<MergeStep>, Memory>
     ensures steps { IfOk result (λ steps. IsHistory base.now steps) }
     // No other list of steps is the history.
     ensures only { IfOk result (λ steps. (others : List MergeStep) → IsHistory base.now others → others ≡ steps) }
-    // The same, by the function that computes on small maps.
+    // The history, by the function that computes on small maps.
     ensures exact { IfOk result (λ steps. steps ≡ whole_history base.now) }
     // A step merges two different faces, and the new face has the next number.
     ensures numbered { IfOk result (AreNumbered (length base.now.classes)) }

@@ -102,7 +102,7 @@ pub record IsJump (t : FaceHistory) (f u : ℕ) : Type 0 where
   pub up : (p : ℕ) → parent_of t f ≡ Some p → p ≤ u
   pub leads : (k : ℕ) → u ≤ t.faces + k → label_from t k f ≡ label_from t k u
 
--- the same of each face, by its number
+-- each face has a jump, which stands at its number
 pub record AreJumps (t : FaceHistory) (jumps : List ℕ) : Type 0 where
   pub count : length jumps ≡ last_face t + 1
   pub value : (f : ℕ) → f ≤ last_face t → IsJump t f (slice_index jumps f)

@@ -24,6 +24,6 @@ pub record IsNextHit (hits : Window → Bool) (boxes : List Window) (from next :
   pub near : (d : Window) → next < length boxes → hits (get_or boxes next d) ≡ true
   pub apart : (k : ℕ) (d : Window) → from ≤ k → k < next → hits (get_or boxes k d) ≡ false
 
--- the same, where the boxes that meet the area pass
+-- the first place from this one on whose box meets the area, or the number of the boxes where there is none
 abbrev pub IsNextNear : Window → List Window → ℕ → ℕ → Type 0
 IsNextNear area boxes from next = IsNextHit (meets area) boxes from next

@@ -157,7 +157,7 @@ fn skipped<P: Probe>(levels: &[List<Window>], probe: &P, at: usize) -> usize
     end.saturating_mul(FANOUT)
 }
 
-/// The same. Most places begin no group, and that is seen here.
+/// What `skipped` tells. Most places begin no group, and that is seen here without a call.
 fn passed<P: Probe>(levels: &[List<Window>], probe: &P, at: usize) -> usize
     ensures after { at ≤ result }
     ensures clear { (row : Sequence Area) → AreLevels levels.now row → IsClear (P.hits probe.now) row at result }

@@ -41,7 +41,7 @@ body_of_value value =
     else if nat_lt MAX_BODY_BYTES (digits_value 10 value) then Err CONTENT_TOO_LARGE
     else Ok (digits_value 10 value)
 
--- the same by the lengths that are given: without one the body is empty, and two are a fault
+-- how many bytes the body has by the lengths that are given: without one the body is empty, and two are a fault
 abbrev pub body_of_values : List (List ℕ) → Result ℕ ℕ
 body_of_values [] = Ok 0
 body_of_values (value ∷ []) = body_of_value value
@@ -128,7 +128,7 @@ state_ends (WholeHead head) = Whole head.length head.body head.close
 state_ends MoreBytes = More
 state_ends (BadHead status) = Bad status
 
--- the same as `TellsHead`, and the method and the target are those of the head
+-- what is told of the head with its method and its target: `TellsHead`, and both are those of the head
 abbrev pub TellsState : List ℕ → HeadState → Type 0
 TellsState bytes (WholeHead head) =
     (h : RequestHead) × StartsWith bytes h × (ends_of h ≡ Whole head.length head.body head.close)

@@ -65,7 +65,7 @@ turn_by_up d t g i x y z h k l a b e =
     ∙ ap (λ (o : ℤ). d *ℤ o) e
     ∙ same_value (d ∷ g ∷ i ∷ x ∷ y ∷ []) (var 0 ⊗ (var 1 ⊗ var 3 ⊖ var 2 ⊗ var 4)) (var 1 ⊗ (var 0 ⊗ var 3) ⊖ var 2 ⊗ (var 0 ⊗ var 4)) refl))
 
--- the same where the line goes down, q is beyond it and p is not
+-- that turn has the sign of d also where the line goes down, q is beyond it and p is not
 turn_by_down : (d t g i x y z : ℤ) → t ≤ℤ pos 0 → pos 0 <ℤ g → pos 0 <ℤ i → (d *ℤ x) <ℤ pos 0 → pos 0 ≤ℤ (d *ℤ y)
     → t *ℤ z ≡ g *ℤ x -ℤ i *ℤ y → pos 0 <ℤ (d *ℤ z)
 turn_by_down d t g i x y z h k l a b e = turn_by_up d (neg_ℤ t) i g y x z (neg_not_negative h) l k b a
