@@ -282,7 +282,7 @@ rules_again n m is =
       classes_at_again c 0 (next_number (next_number n)) m.rules.weights m.rules.compat (from_faces m) (λ e. cc) (omega (arith, is.rules.few_classes)) is.rules.table is.weights is.compat,
     ) refl
 
--- and so are the faces
+-- the spelling of the faces is read again
 faces_again : (n : ℕ) (m : BaseMap) → IsSpelled m → all_faces_at (length m.rules.weights) (lines_from n (from_faces m)) ≡ Ok (m.classes, lines_from (number_after (length m.classes) (next_number n)) (from_arcs m))
 unfolding all_faces_at
 faces_again n m is =

@@ -137,7 +137,7 @@ abbrev then_classes : ℕ → List ℕ → Result Classes MapFault → Result Cl
 then_classes w row (Ok y) = Ok ((w ∷ y.0.0, row ++ y.0.1), y.1)
 then_classes w row (Err f) = Err f
 
--- the same, as a definition has it
+-- a class and those after it, put together as the definition does it
 class_shape : (w : ℕ) (row : List ℕ) (read : Result Classes MapFault) → (read or>>= λ y. Ok ((w ∷ y.0.0, row ++ y.0.1), y.1)) ≡ then_classes w row read
 class_shape w row (Ok y) = refl
 class_shape w row (Err f) = refl

@@ -259,7 +259,7 @@ points_at_again (p ∷ points) rest fits =
     let inside = and_parts (within (neg_ℤ MAX_COORDINATE) MAX_COORDINATE p.x) (within (neg_ℤ MAX_COORDINATE) MAX_COORDINATE p.y) both.0 in
     rw (coordinate_at_again p.x (signed_decimal p.y ∷ (flat_map point_words points ++ rest)) inside.0, coordinate_at_again p.y (flat_map point_words points ++ rest) inside.1, points_at_again points rest both.1) refl
 
--- the same where they are the rest of the row, and no two in a row are equal
+-- points that are the rest of the row, no two in a row equal, are read so
 pub read_points_again : (points : List Point) → list_all in_limits points ≡ true → no_repeat points ≡ true → read_points (length points) (flat_map point_words points) ≡ Some points
 unfolding read_points
 read_points_again points fits apart =

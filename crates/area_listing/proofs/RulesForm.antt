@@ -175,7 +175,7 @@ named_rules_fit d named e =
       lt-ltb default n (omega (arith, first, known.some)),
     ) refl))))))))
 
--- and so do those that the bytes tell
+-- the rules that the bytes tell have their form
 rules_fit : (bytes : List ℕ) (named : NamedRules) → rules_of bytes ≡ Ok named → is_named_rules named ≡ true
 unfolding rules_of
 rules_fit bytes named e = bound _ (ok_or (tree bytes) (BadRules 0)) named e (λ d e0 r0. named_rules_fit d named r0)

@@ -119,7 +119,7 @@ rules_from_known : (d : Data) (top : Unit {0}) (property : List ℕ) (classes : 
 unfolding named_rules
 rules_from_known d top property classes e0 e1 e2 e3 = let n = length-map classes (λ c. c.1) in rw (e0, e1, e2, e3, n) refl
 
--- the same, of classes whose names and weights are apart
+-- the rules, where what stands before the default is read and the names and the weights of the classes are apart
 pub rules_from_classes : (d : Data) (top : Unit {0}) (property : List ℕ) (names : List (List ℕ)) (weights : List ℕ) → ensured (is_some (as_object d)) (BadRules 1) ≡ Ok top → ok_or (text_at (codes "property") d) (BadRules 2) ≡ Ok property
     → names_and_weights (option_and_then classes_of (get (codes "classes") d)) ≡ Ok (names, weights) → named_rules d ≡ rules_from d property names weights
 rules_from_classes d top property names weights e0 e1 e2 =

@@ -106,7 +106,7 @@ from_take least most zero vs from = tt
 from_take least most (suc n) [] from = tt
 from_take least most (suc n) (v ∷ vs) from = (from.0, from_take least most n vs from.1)
 
--- and so are the last
+-- the last numbers of a range are in it
 pub from_drop : (least most n : ℕ) (vs : List ℕ) → AreFrom least most vs → AreFrom least most (drop n vs)
 from_drop least most zero vs from = from
 from_drop least most (suc n) [] from = tt

@@ -28,8 +28,8 @@ pub use write::write_listing;
 
 /// The base map that a listing spells, by 'The area listing' of docs/formats.md.
 ///
-/// The faults are `BadLine`, with the number of the first line that is not of its form, and `Limit`, where a count of a
-/// line of its form is above its limit. It is one pass over the bytes, in memory of a small multiple of them.
+/// The faults are `BadLine`, with the number of the first line that is out of form, and `Limit`, where a line is in form
+/// but a count in it is above its limit. It is one pass over the bytes, in memory of a small multiple of them.
 pub fn read_listing(alloc: Global, bytes: &[u8]) -> Result<Base, Or<MapFault>>
     // The base map, or the first fault, by the function that computes on small listings.
     ensures exact { GivesWhole result (listing bytes.now) }

@@ -5,8 +5,7 @@ ghost use Rattle.tgap_model.specs.Base.{in_limits};
 
 use tgap_model::Point;
 
-/// An end of an arc at a node, seen as leaving the node: the point toward which it goes, and the faces at its left and
-/// right.
+/// An arc's way out of a node: the point toward which it first goes, and the faces at its left and right on that way.
 #[derive(Clone, Copy, Debug)]
 pub struct NodeSpoke {
     pub node: Point,

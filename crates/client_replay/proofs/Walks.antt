@@ -21,7 +21,7 @@ sorted_answer before xs false (k, l, h) d = by (is_sorted_by before xs) refl
     by true e = absurd (true≢false (sym (adjacent_from_sorted before xs e k d l) ∙ sym (h d)))
     by false e = refl
 
--- the same by keys
+-- what a walk over each two that follow one another answers, where they are told apart by key
 pub keys_answer : {A : Type 0} (key : A → ℕ) (xs : List A) (r : Bool) → IsAllAdjacentAnswer (λ x y b. b ≡ nat_lt (key x) (key y)) xs r → r ≡ is_sorted_by nat_lt (map key xs)
 keys_answer key [] true h = refl
 keys_answer key [] false (k, l, h) = absurd (omega (arith, l))

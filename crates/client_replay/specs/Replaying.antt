@@ -21,7 +21,7 @@ undone s (r ∷ records) = elim (broken_rule s r) [
   | Some rule ↦ (s, Some (record { step = r.step; rule = rule }))
 ]
 
--- The same of a packet, which fits no slice but that of the step that it begins at.
+-- What a packet makes of a slice, and why it stops; it fits no slice but that of the step that it begins at.
 unfoldable pub outcome : Slice → Packet → Slice × Option Unfit
 outcome s p = if s.step == p.from then undone s p.steps else (s, Some (record { step = p.from; rule = 1 }))
 

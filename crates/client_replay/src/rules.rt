@@ -124,7 +124,7 @@ fn are_between(step_record: &StepRecord) -> bool
     true
 }
 
-/// Rule 6: whether the keys of the ended edges ascend, and each has loser and winner on its sides.
+/// Rule 6: whether the ended edges stand by ascending key, each between loser and winner.
 fn fits_ended(step_record: &StepRecord) -> bool
     ensures { (s : Slice) → result ≡ fits_ended s step_record.now }
 {

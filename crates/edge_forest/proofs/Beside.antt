@@ -61,7 +61,7 @@ module _ (made : ℕ) (g : Growth) (t : PointSteps) (s : MergeStep) (more : made
         | inr right ↦ listed row.0.right labels.right_listed (side row.0.right (labels.right ∙ eqb-true _ f right))
       ]
 
--- the same of a forest while its history goes on
+-- a forest whose history goes on has these lists, and their keys are those of all edges at the two faces
 module _ (made : ℕ) (closed : Bool) (g : Growth) (t : PointSteps) (kept : IsKept made closed g t) (f : EdgeForest) (is : forest_of made closed g t ≡ f) (s : MergeStep)
     (going : f.closed ≡ false) (more : f.made < last_step f) (next : s ≡ step_number (merged f.base) (f.made + 1)) where
   not_closed : closed ≡ false

@@ -122,7 +122,7 @@ module _ (k : ℕ) (g : Growth) (w : IsStored k g) (places : List ℕ) (m : Meet
   last_is i e =
       ap (λ (n : ℕ). edge_at new n) (e ∙ sym twice_length) ∙ get_or-append_seam twice new_edge [] _
 
-  -- the same but for the high step
+  -- an edge from before keeps all but its high step
   keeps : {A : Type 0} (f : ForestEdge → A) → ((e : ForestEdge) → f (ended k e) ≡ f e) → (i : ℕ) → i < length old → f (edge_at new i) ≡ f (edge_at old i)
   keeps f same i l = elim (kept i l) [ inl u ↦ ap f u.1 ∙ same (edge_at old i) | inr u ↦ ap f u.2 ]
 
@@ -387,7 +387,7 @@ module _ (k : ℕ) (g : Growth) (w : IsStored k g) (places : List ℕ) (m : Meet
     change = inr (m, subst (λ (ps : List ℕ). IsJoinOf g g' ps m) at (record { meeting = t; rows = er; chains = ap chains_of ee ∙ new_chains }));
   }
 
-  -- the same, as it is computed
+  -- the rows and the edges, as they are computed
   pub rows_by : (id : ℕ) (rows' : List (Option Current)) → id ≡ length g.edges.items
       → rows' ≡ set (set (set g.net.rows.items m.key None) m.other_key None) m.key (Some (joined_row m.one_ends m.other_ends id m.one m.other))
       → rows' ≡ set (set (set g.net.rows.items m.key None) m.other_key None) m.key (Some (joined_row m.one_ends m.other_ends (length g.edges.items) m.one m.other))

@@ -164,7 +164,7 @@ module _ (nodes : Nodes) (rows : List (Option Current)) (ends : List (Option ℕ
             | inr u ↦ (h.0, u.1 ∙ h.1, h.2)
           ]
 
-  -- the same, with the counts as they are computed
+  -- what is known where a row is taken out, with the counts as they are computed
   pub last_counted_by : (a b : ℕ) (one : List ℕ) → a ≡ node_at nodes r.first → one ≡ set counts a (get_or counts a 0 - 1) → b ≡ node_at nodes r.last → 1 ≤ get_or one b 0
   last_counted_by a b one ea eo eb = rw (eo, eb, ea) last_counted
 
@@ -305,7 +305,7 @@ module _ (nodes : Nodes) (rows : List (Option Current)) (ends : List (Option ℕ
             | inr u ↦ (h.0, u.1 ∙ h.1, h.2)
           ]
 
-  -- the same, with the counts as they are computed
+  -- what is known where a row is put in, with the counts as they are computed
   pub first_small_by : (a : ℕ) → a ≡ node_at nodes r.first → get_or counts a 0 ≤ 2 * length rows
   first_small_by a ea = rw ea (count_small (node_at nodes r.first) new_nodes_within.0)
 

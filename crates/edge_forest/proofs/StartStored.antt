@@ -215,7 +215,7 @@ stored_at_start g base partition nodes net er ee many listed = record {
     read : (i : ℕ) (r : Current) → row_at (rows_of g) i ≡ Some r → row_at (map (arc_row g.base.arcs) (range_with_len 0 (length g.base.arcs))) i ≡ Some r
     read i r k = ap (λ (rs : List (Option Current)). row_at rs i) (sym er) ∙ k
 
--- the same, where the parts were made from the arcs of a base map of which the forest has a copy
+-- the forest is stored also where its parts were made from the arcs of a base map of which it has a copy
 pub stored_by_copy : (g : Growth) (m : BaseMap) (arcs : List BaseArc) → g.base ≡ m → arcs ≡ m.arcs → is_base m ≡ true → IsPartition (base_segments m)
     → AreNodes (end_points arcs) g.nodes → IsNet g.nodes g.net
     → rows_of g ≡ map (arc_row arcs) (range_with_len 0 (length arcs)) → g.edges.items ≡ map (arc_edge arcs) (range_with_len 0 (length arcs))

@@ -27,7 +27,7 @@ last_step f = length (history_of f.base)
 abbrev pub is_gone : EdgeForest → ℕ → Point → Bool
 is_gone f k p = is_gone_by f.removed k p
 
--- the high step of an edge that has not ended, before the history is at its end
+-- what stands for the high step of an edge that goes on, until the history is at its end
 abbrev pub never : ℕ
 never = 2 ^ 32 - 1
 

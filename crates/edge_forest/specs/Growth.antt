@@ -40,14 +40,14 @@ pub record IsLabelled (h : MergedMap) (k : ℕ) (faces : List (List ℕ)) (i : �
   pub left_listed : 0 < r.left → Contains (keys_at faces r.left) i
   pub right_listed : 0 < r.right → Contains (keys_at faces r.right) i
 
--- A row is that of an edge that has not ended.
+-- A row is that of an edge that goes on.
 pub record IsOfEdge (edges : List ForestEdge) (i : ℕ) (r : Current) : Type 0 where
   pub id : r.id < length edges
   pub key : (edge_at edges r.id).key ≡ i
   pub high : (edge_at edges r.id).high ≡ never
 
--- After k steps, and while step k is made: the edges, the nodes, and the rows of the edges that have not ended. After fewer
--- steps the edges whose range holds them are the chains.
+-- After k steps, and while step k is made: the edges, the nodes, and a row for each edge that goes on. After fewer steps the
+-- edges whose range holds them are the chains.
 pub record IsStoredOf (k : ℕ) (base_map : BaseMap) (all : Nodes) (current : List (Option Current)) (ends : List (Option ℕ)) (counts : List ℕ)
     (lists : List (List ℕ)) (made : List ForestEdge) : Type 0 where
   pub base : IsTrue (is_base base_map)

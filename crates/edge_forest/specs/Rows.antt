@@ -19,7 +19,7 @@ link_first d = 2 * d.arc + (if d.turned then 1 else 0)
 abbrev pub link_last : Link → ℕ
 link_last d = 2 * d.arc + (if d.turned then 0 else 1)
 
--- the same of a chain
+-- the arc end at which a chain starts, and that at which it ends
 abbrev pub first_end : Chain → ℕ
 first_end [] = 0
 first_end (d ∷ c) = link_first d

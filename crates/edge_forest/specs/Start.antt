@@ -34,6 +34,6 @@ pub record IsKeyListed (faces : List (List ℕ)) (i : ℕ) (a : BaseArc) : Type 
   pub left : Contains (keys_at faces a.left) i
   pub right : Contains (keys_at faces a.right) i
 
--- the same of the first n arcs
+-- each of the first n arcs has its number in the lists of both its faces
 abbrev pub AreKeysListed : List BaseArc → List (List ℕ) → ℕ → Type 0
 AreKeysListed arcs faces n = (i : ℕ) → i < n → IsKeyListed faces i (arc_number arcs i)

@@ -11,9 +11,10 @@ pub struct Part {
     pub turned: bool,
 }
 
-/// An edge: one chain of border arcs, from the step at which it came to be, `low`, to before the step at which it was
-/// joined into a longer one or ceased to be a border, `high`. The key is the least number of its arcs, and it has the
-/// direction of that arc. The labels at its left and right are those at its low step.
+/// An edge: one chain of border arcs. It is there after each step from `low` on and before `high`. The step `low` made it,
+/// or it is of the base map where that is 0. The step `high` made it a part of a longer edge or put one face at both of its
+/// sides; where no step did, `high` is above them all. The least number among its arcs is its key, and the edge runs as that
+/// arc does. The labels at its left and right are those at its low step.
 #[derive(Debug, Drop)]
 pub struct ForestEdge {
     pub key: u32,

@@ -219,7 +219,7 @@ impl Forest {
         Ok(self.removed.left_of(points, k))
     }
 
-    /// The numbers of the edges that have not ended after the steps made so far, in the order of their keys.
+    /// The numbers of the edges that are there after the steps made so far, in the order of their keys.
     pub fn present(&self, alloc: Global) -> Result<List<u32>, Memory>
         requires { self.now.closed ≡ false }
         ensures value { IfOk result (λ ids. ids ≡ alive_edges self.now.edges self.now.made) }

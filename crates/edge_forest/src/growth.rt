@@ -5,7 +5,7 @@ use crate::net::Net;
 use crate::nodes::Nodes;
 use tgap_model::{Base, List};
 
-/// The high step of an edge that has not ended.
+/// What stands for the high step of an edge that goes on.
 pub const NEVER: u32 = u32::MAX;
 
 /// A forest while the history goes on: its base map, all its edges, the nodes at the arc ends, the edges that have not

@@ -82,7 +82,7 @@ fn raise(counts: &mut Vec<u32>, node: u32)
 }
 
 impl Meeting {
-    /// The same with the other edge first.
+    /// This meeting with the other edge first.
     fn exchanged(self) -> Meeting
         ensures { result ≡ record { key = self.other_key; one = self.other; one_ends = self.other_ends; other_key = self.key; other = self.one; other_ends = self.one_ends } }
     {
@@ -147,7 +147,7 @@ impl Net {
         self.meeting_at(nodes.places[node as usize].as_slice())
     }
 
-    /// The same at some places.
+    /// Two edges that end at these places, the one with the lesser key first; none where all that end there are one.
     fn meeting_at(&self, places: &[u32]) -> Option<Meeting>
         requires net { (nodes : NodeTable.Nodes) × IsNet nodes self.now }
         requires places { All (λ x. x < length self.now.ends.items) places.now }

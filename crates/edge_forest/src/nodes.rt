@@ -83,8 +83,8 @@ fn places_by_node(alloc: Global, node_of: &[u32], count: u32) -> Result<Vec<List
     Ok(places)
 }
 
-/// The node at each of some points, by place, and the places of the points at each node. Nodes are numbered from 0 in
-/// the order of points.
+/// The node at each of some points, by place, and the places of the points at each node. Node 0 is the least point, and
+/// the others follow in the order of points.
 #[derive(Debug, Drop)]
 pub struct Nodes {
     pub node_of: Vec<u32>,

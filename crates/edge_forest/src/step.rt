@@ -72,7 +72,7 @@ pub fn keys_at_both(alloc: Global, growth: &Growth, step: &MergeStep) -> Result<
     Ok(keys)
 }
 
-/// Makes step number `low`. All memory is taken before the first change.
+/// Makes step number `low`. Nothing is changed until all memory is at hand.
 pub fn make_step(
     alloc: Global,
     growth: &mut Growth,

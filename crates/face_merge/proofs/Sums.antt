@@ -46,7 +46,7 @@ area_size f arcs each =
 pub area_small : (f : ℕ) (arcs : List LabelledArc) → All IsMeasured arcs → length arcs ≤ MAX_ARCS → unsigned_abs (area_of arcs f) ≤ max_area
 area_small f arcs each few = omega (arith, area_size f arcs each)
 
--- the same of the first arcs, with room for one more part
+-- twice the area that the first arcs give to a face, with room for one more part
 pub area_so_far : (f : ℕ) (arcs : List LabelledArc) (i : ℕ) → All IsMeasured arcs → i < length arcs → length arcs ≤ MAX_ARCS
     → unsigned_abs (area_of (take i arcs) f) + max_arc_area ≤ max_area
 area_so_far f arcs i each inside few =

@@ -8,7 +8,7 @@ use Rattle.tgap_model.specs.Merged.{MergedMap, step_number, face_area}
 abbrev pub first_lost_areas : MergedMap → ℕ → List ℤ
 first_lost_areas h k = map (λ j. face_area h (j - 1) (step_number h j).loser) (range_with_len 1 k)
 
--- the same of all steps
+-- twice the area of the loser of each step of the history, in order, as that face is just before the step
 abbrev pub lost_areas : MergedMap → List ℤ
 lost_areas h = first_lost_areas h (length h.steps)
 

@@ -11,7 +11,7 @@ use Rattle.tgap_model.specs.Bounds.{max_face}
 use Rattle.tgap_model.specs.History.{labelled, relabel_arc, classes_after, area_of, importance, score, is_shared, next_step}
 use Rattle.face_merge.specs.Measures.{IsMeasured}
 
--- The class of face f stands at place f - 1 of the classes.
+-- A map while it is merged. The list of classes begins with that of face 1 and goes on in order of number.
 pub record MergeState : Type 0 where
   pub rules : Rules
   pub classes : List ℕ

@@ -1,6 +1,5 @@
-//! The merge history of a base map: the least important face is merged into its most compatible neighbour, again and
-//! again. Beside it, the area of the face that each step takes. It stands on `tgap_model`, whose `History` says what a
-//! step is.
+//! The merge history of a base map: at each step the face of least importance joins the neighbour that suits it best.
+//! Beside it, the area of the face that each step takes. It stands on `tgap_model`, whose `History` says what a step is.
 #![tactic(auto)]
 
 ghost use Rattle.std.specs.Prelude.{◌≡◌, ◌≤◌, List, length, map, IfOk};
@@ -42,7 +41,7 @@ pub fn history_of(
     ensures steps { IfOk result (λ steps. IsHistory base.now steps) }
     // No other list of steps is the history.
     ensures only { IfOk result (λ steps. (others : List MergeStep) → IsHistory base.now others → others ≡ steps) }
-    // The same, by the function that computes on small maps.
+    // The history, by the function that computes on small maps.
     ensures exact { IfOk result (λ steps. steps ≡ whole_history base.now) }
     // A step merges two different faces, and the new face has the next number.
     ensures numbered { IfOk result (AreNumbered (length base.now.classes)) }
@@ -64,7 +63,7 @@ pub fn history(alloc: Global, base: &Base) -> Result<List<MergeStep>, Memory>
     ensures steps { IfOk result (λ steps. IsHistory base.now steps) }
     // No other list of steps is the history.
     ensures only { IfOk result (λ steps. (others : List MergeStep) → IsHistory base.now others → others ≡ steps) }
-    // The same, by the function that computes on small maps.
+    // The history, by the function that computes on small maps.
     ensures exact { IfOk result (λ steps. steps ≡ whole_history base.now) }
     // A step merges two different faces, and the new face has the next number.
     ensures numbered { IfOk result (AreNumbered (length base.now.classes)) }

@@ -16,8 +16,8 @@ use crate::queue::Queue;
 use std::alloc::Global;
 use tgap_model::{Base, List, Memory, MergeStep, Rules};
 
-/// A map while it is merged, after the steps so far. The class of face f stands at place f - 1; the number of the face
-/// in a slot is 0 where there is none.
+/// A map while it is merged, after the steps so far. The classes begin with that of face 1 and go on in order of number;
+/// the number of the face in a slot is 0 where there is none.
 #[derive(Drop)]
 pub struct Merging<'a> {
     base: &'a Base,

@@ -134,7 +134,7 @@ history_facts m steps base h =
       small = omega (arith, facts.few_faces, facts.few_arcs, steps_few m steps h);
     }
 
--- the same of lists that are its classes and its steps
+-- of lists that are the classes and the history of a base map: the steps are numbered, and all faces are few
 pub handed_over : (m : BaseMap) (steps : List MergeStep) (ks : List ℕ) (ss : List MergeStep) → IsTrue (is_base m) → IsHistory m steps → ks ≡ m.classes → ss ≡ steps
     → AreNumbered (length ks) ss × (length ks + length ss + 1 < 2 ^ 32)
 handed_over m steps ks ss base h ek es =

@@ -64,7 +64,7 @@ label_front n s steps k f h = elim (merges_or_leaves s f) [
     later : n < f → label_up n (s ∷ steps) (suc k) f ≡ label_up (n + 1) steps k f
     later lt = let e : f - n ≡ suc (f - (n + 1)) = omega arith in ap (λ (j : ℕ). label_after (drop j (s ∷ take k steps)) f) e
 
--- the same of a face that the step merges, and of one that it leaves
+-- the label of a face that the step merges, and of one that it leaves
 label_merged : (n : ℕ) (s : MergeStep) (steps : List MergeStep) (k f : ℕ) → IsNumberedStep n s → merges s f ≡ true
     → label_up n (s ∷ steps) (suc k) f ≡ label_up (n + 1) steps k s.made
 label_merged n s steps k f h m = label_front n s steps k f h ∙ ap (label_up (n + 1) steps k) (relabel_merged s f m)

@@ -6,7 +6,7 @@ use Rattle.tgap_model.specs.History.{label_after, AreNumbered}
 use Rattle.tgap_model.specs.Merged.{MergedMap, all_classes}
 
 -- The faces of a base map and those that the steps of its history make: face 1 to face `faces` are of the base map, and
--- step j, from 1 on, makes face `faces` + j. The class of face f stands at place f - 1.
+-- step j, from 1 on, makes face `faces` + j. The list of classes begins with that of face 1 and goes on in order of number.
 pub record FaceHistory : Type 0 where
   pub faces : ℕ
   pub classes : List ℕ
@@ -102,7 +102,7 @@ pub record IsJump (t : FaceHistory) (f u : ℕ) : Type 0 where
   pub up : (p : ℕ) → parent_of t f ≡ Some p → p ≤ u
   pub leads : (k : ℕ) → u ≤ t.faces + k → label_from t k f ≡ label_from t k u
 
--- the same of each face, by its number
+-- each face has a jump, which stands at its number
 pub record AreJumps (t : FaceHistory) (jumps : List ℕ) : Type 0 where
   pub count : length jumps ≡ last_face t + 1
   pub value : (f : ℕ) → f ≤ last_face t → IsJump t f (slice_index jumps f)

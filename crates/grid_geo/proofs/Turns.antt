@@ -65,7 +65,7 @@ upper_chain a b c d e f x y z h k = elim y.cases [
 opposite_turn : (a b c d : ℤ) → neg_ℤ a *ℤ neg_ℤ d -ℤ neg_ℤ b *ℤ neg_ℤ c ≡ a *ℤ d -ℤ b *ℤ c
 opposite_turn a b c d = same_value (a ∷ b ∷ c ∷ d ∷ []) (minus (var 0) ⊗ minus (var 3) ⊖ minus (var 1) ⊗ minus (var 2)) (var 0 ⊗ var 3 ⊖ var 1 ⊗ var 2) refl
 
--- the same of three directions of one half turn
+-- of three directions of either half turn, where no step turns to the left, neither do both together
 turn_chain : (n : ℕ) (a b c d e f : ℤ) → HalfCase a b n → HalfCase c d n → HalfCase e f n
     → (a *ℤ d -ℤ b *ℤ c) ≤ℤ pos 0 → (c *ℤ f -ℤ d *ℤ e) ≤ℤ pos 0 → (a *ℤ f -ℤ b *ℤ e) ≤ℤ pos 0
 turn_chain zero a b c d e f p q r h k = upper_chain a b c d e f p q r h k

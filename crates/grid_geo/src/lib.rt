@@ -46,8 +46,8 @@ pub fn area2(a: Point, b: Point, c: Point) -> i128
 
 /// A point that both segments hold and that is no end at which they may meet, or None exactly where there is none.
 ///
-/// Of segments that are not parallel it is the point of their lines; its denominator is the absolute cross product of
-/// their directions, and the fraction is not reduced. Of segments on one line it is the middle of the common part, over 2.
+/// Where the segments are not parallel, it is the point at which their lines cross: a fraction, left as it comes, over the
+/// size of the cross product of the two directions. On one line it is halfway along what both segments cover, over 2.
 /// The first segment has two different ends; the second may be a single point. A flag of `shared` permits the end of
 /// the first segment that it names.
 pub fn common_point(s: Seg, t: Seg, shared: Shared) -> Option<Fraction>
@@ -82,7 +82,7 @@ pub fn cmp_round(o: Point, p: Point, q: Point) -> Ordering
     }
 }
 
-/// Whether the direction from `o` to `p` comes before that to `q`, counter-clockwise from the direction of positive x.
+/// Whether a turn about `o`, counter-clockwise from the direction of positive x, meets that of `p` before that of `q`.
 pub fn turn_before(o: Point, p: Point, q: Point) -> bool
     requires o { IsTrue (in_limits o) }
     requires p { IsTrue (in_limits p) × (o ≢ p) }

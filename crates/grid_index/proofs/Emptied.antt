@@ -114,7 +114,7 @@ IsEmptied-leave key old new at has h = record {
 pub IsEmptied-end : (key : ℕ) (old new : List (Option Entry)) (at : ℕ) → length new ≤ at → IsEmptied key old new at → held new ≡ filter (stays (key ∷ [])) (held old)
 IsEmptied-end key old new at l h = let long = h.long in all_kept key old new long (λ i m. h.done i (omega arith))
 
--- the same by other names
+-- what was emptied stays so where an equal list and an equal place stand for its own
 pub IsEmptied-same : (key : ℕ) (old : List (Option Entry)) {new newer : List (Option Entry)} {at next : ℕ} → newer ≡ new → next ≡ at → IsEmptied key old new at → IsEmptied key old newer next
 IsEmptied-same key old e f h = subst₂ (λ (n : List (Option Entry)) (a : ℕ). IsEmptied key old n a) (sym e) (sym f) h
 

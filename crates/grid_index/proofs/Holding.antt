@@ -131,7 +131,7 @@ IsFilled-put old come i new next left after rest l empty ne popped none h = reco
     filled : IsPermutation (o ++ H) K
     filled = subst (λ (x : Option Entry). IsPermutation (o ++ H) (option_to_list x ++ K)) empty (held_set new i next l)
 
--- the same by other names
+-- what was filled stays so where equal lists stand for its own
 pub IsFilled-same : {old come : List (Option Entry)} {i : ℕ} {new newer : List (Option Entry)} {next after : Option Entry} {left rest : List (Option Entry)} → newer ≡ new → after ≡ next → rest ≡ left
     → IsFilled old come i new next left → IsFilled old come i newer after rest
 IsFilled-same {old} {come} {i} {new} {newer} {next} {after} {left} {rest} e f g h =

@@ -8,12 +8,12 @@ abbrev pub cons_if : {A : Type 0} → Bool → A → List A → List A
 cons_if true x xs = x ∷ xs
 cons_if false x xs = xs
 
--- the places of the boxes that meet the area, where the first box has place i
+-- which boxes meet the area, by their places, which are counted from i on
 abbrev pub boxes_near : Window → ℕ → List Window → List ℕ
 boxes_near area i [] = []
 boxes_near area i (b ∷ boxes) = cons_if (meets area b) i (boxes_near area (i + 1) boxes)
 
--- the places of the boxes that meet the area, in ascending order
+-- which boxes meet the area, by their places in ascending order
 abbrev pub near_boxes : Window → List Window → List ℕ
 near_boxes area boxes = boxes_near area 0 boxes
 
@@ -24,6 +24,6 @@ pub record IsNextHit (hits : Window → Bool) (boxes : List Window) (from next :
   pub near : (d : Window) → next < length boxes → hits (get_or boxes next d) ≡ true
   pub apart : (k : ℕ) (d : Window) → from ≤ k → k < next → hits (get_or boxes k d) ≡ false
 
--- the same, where the boxes that meet the area pass
+-- the first place from this one on whose box meets the area, or the number of the boxes where there is none
 abbrev pub IsNextNear : Window → List Window → ℕ → ℕ → Type 0
 IsNextNear area boxes from next = IsNextHit (meets area) boxes from next

@@ -25,14 +25,14 @@ impl Model for EdgeBoxes {
     ghost invariant = { λ b. length b.places < 2 ^ 32 - 1 };
 }
 
-/// The same boxes.
+/// A copy of the boxes.
 pub fn copied(alloc: Global, boxes: &[Window]) -> Result<List<Window>, Memory>
     ensures { IfOk result (λ list. list ≡ boxes.now) }
 {
     Ok(List::from(Vec::from_slice(alloc, boxes)?))
 }
 
-/// The same numbers, in 32 bits.
+/// A copy of the numbers, each in 32 bits.
 pub fn narrowed(alloc: Global, numbers: &[usize]) -> Result<List<u32>, Memory>
     requires { All (λ n. n < 2 ^ 32) numbers.now }
     ensures { IfOk result (λ list. list ≡ numbers.now) }

@@ -65,7 +65,7 @@ impl Places {
         Ok(Places { boxes, order, tree })
     }
 
-    /// The places of the boxes that meet the area, in ascending order.
+    /// The places, in ascending order, at which a box meets the area.
     pub fn near(&self, alloc: Global, area: &Window) -> Result<Vec<usize>, Memory>
         ensures { IfOk result (λ places. places.items ≡ near_boxes area.now self.now) }
     {

@@ -89,7 +89,7 @@ impl SegmentBoxes {
         Ok(SegmentBoxes { tree })
     }
 
-    /// The places of the boxes that meet the area, in ascending order.
+    /// The places, in ascending order, at which a box meets the area.
     fn near(&self, alloc: Global, area: &Window) -> Result<List<u32>, Memory>
         ensures { IfOk result (λ places. places ≡ near_boxes area.now self.now) }
     {

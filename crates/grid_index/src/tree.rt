@@ -157,7 +157,7 @@ fn skipped<P: Probe>(levels: &[List<Window>], probe: &P, at: usize) -> usize
     end.saturating_mul(FANOUT)
 }
 
-/// The same. Most places begin no group, and that is seen here.
+/// What `skipped` tells. Most places begin no group, and that is seen here without a call.
 fn passed<P: Probe>(levels: &[List<Window>], probe: &P, at: usize) -> usize
     ensures after { at ≤ result }
     ensures clear { (row : Sequence Area) → AreLevels levels.now row → IsClear (P.hits probe.now) row at result }
@@ -178,7 +178,7 @@ impl BoxTree {
         Ok(BoxTree { boxes, levels })
     }
 
-    /// The places of the boxes that meet the area, in ascending order.
+    /// The places, in ascending order, at which a box meets the area.
     pub fn near(&self, alloc: Global, area: &Window) -> Result<Vec<usize>, Memory>
         ensures { IfOk result (λ places. places.items ≡ near_boxes area.now self.now) }
     {

@@ -41,7 +41,7 @@ body_of_value value =
     else if nat_lt MAX_BODY_BYTES (digits_value 10 value) then Err CONTENT_TOO_LARGE
     else Ok (digits_value 10 value)
 
--- the same by the lengths that are given: without one the body is empty, and two are a fault
+-- how many bytes the body has by the lengths that are given: without one the body is empty, and two are a fault
 abbrev pub body_of_values : List (List ℕ) → Result ℕ ℕ
 body_of_values [] = Ok 0
 body_of_values (value ∷ []) = body_of_value value
@@ -77,7 +77,7 @@ ends_of h = told_of (length (print_request h)) (closes h.minor (headers_of h)) (
 
 -- ---- what the bytes of a request so far tell
 
--- a whole head of at most 8,192 bytes stands at the front
+-- the bytes begin with a whole head, whose length is within the limit of 8,192 bytes
 pub record StartsWith (bytes : List ℕ) (h : RequestHead) : Type 0 where
   pub rest : List ℕ
   pub reads : ReadsRequest bytes h rest
@@ -100,7 +100,7 @@ pub record IsUnfinished (bytes : List ℕ) : Type 0 where
   pub none : HasNoRequest bytes
   pub may : MayBecomeRequest bytes
 
--- No head can follow, there are more than 64 headers, or the first 8,192 bytes hold no whole head.
+-- No head can follow, there are more than 64 headers, or 8,192 bytes have come and no head ends among them.
 abbrev pub IsHopeless : List ℕ → Type 0
 IsHopeless bytes =
     NeverHasRequest bytes ⊎ HasManyHeaders bytes
@@ -128,7 +128,7 @@ state_ends (WholeHead head) = Whole head.length head.body head.close
 state_ends MoreBytes = More
 state_ends (BadHead status) = Bad status
 
--- the same as `TellsHead`, and the method and the target are those of the head
+-- what is told of the head with its method and its target: `TellsHead`, and both are those of the head
 abbrev pub TellsState : List ℕ → HeadState → Type 0
 TellsState bytes (WholeHead head) =
     (h : RequestHead) × StartsWith bytes h × (ends_of h ≡ Whole head.length head.body head.close)

@@ -90,8 +90,8 @@ find_in (r ∷ rows) segments =
 abbrev pub ordered_window : ℕ → Window → Option Route
 ordered_window step w = if le_z w.x0 w.x1 && le_z w.y0 w.y1 then Some (route.Window step w) else None
 
--- What the parameters of a row spell. A version and a step are canonical decimals from 0 to 4,294,967,295, and a coordinate is
--- one within the limits.
+-- What the parameters of a row spell, all in canonical decimal: versions and steps, of which none is above 4,294,967,295, and
+-- coordinates within the limits.
 abbrev pub read_parameters : Resource → Row → Option Route
 read_parameters resource.Info parameters = Some route.Info
 read_parameters resource.Pin parameters = Some route.Pin
@@ -124,6 +124,6 @@ abbrev pub route_of_path : List ℕ → List ℕ → Route
 route_of_path method path =
     elim (find_in resources (segments_of path)) [ None ↦ route.NoRoute | Some found ↦ request_of method found.0 found.1 ]
 
--- What a method and a target ask for. A target that is not UTF-8 has no path.
+-- What a method and a target ask for. Where the target is no UTF-8, it is of no route.
 abbrev pub route_of : List ℕ → List ℕ → Route
 route_of method target = if is_utf8 target then route_of_path method (path_of target) else route.NoRoute

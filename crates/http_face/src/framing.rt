@@ -33,7 +33,7 @@ fn has_encoding(bytes: &[u8], headers: &[HeaderSpan]) -> bool
         .any(|header| is_named(bytes, header, b"transfer-encoding"))
 }
 
-/// The same by the headers that give a length.
+/// How many bytes the body has, by the headers that give a length: none is a length of 0, and two are a fault.
 fn body_of_lengths(bytes: &[u8], headers: &[HeaderSpan]) -> Result<u32, u16>
     ensures { result ≡ body_of_values (values_of (codes "content-length") (headers_at bytes.now headers.now)) }
 {
@@ -52,7 +52,7 @@ fn body_of_lengths(bytes: &[u8], headers: &[HeaderSpan]) -> Result<u32, u16>
     }
 }
 
-/// The same by the one length that is given.
+/// How many bytes the body has, by the one length that is given, or the status of what is wrong with it.
 fn body_of_value(value: &[u8]) -> Result<u32, u16>
     ensures { result ≡ body_of_value value.now }
 {

@@ -39,7 +39,7 @@ pub enum HeadState {
     Bad { status: u16 },
 }
 
-/// The same without the method and the target: where the head and the body end, and whether the connection ends too.
+/// What the bytes of a request so far tell of where its head and its body end, and of whether the connection ends too.
 #[derive(Clone, Copy, Debug, PartialEq, Eq)]
 pub enum HeadEnds {
     /// The head is whole and good.

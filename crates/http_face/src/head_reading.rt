@@ -57,7 +57,7 @@ pub fn read_head(alloc: Global, bytes: &[u8]) -> Result<HeadState, Memory>
     })
 }
 
-/// The same without the method and the target. It takes no memory.
+/// What the bytes tell of the head but for its method and its target. It takes no memory.
 pub fn head_ends(bytes: &[u8]) -> HeadEnds
     ensures told { TellsHead bytes.now result }
     ensures alone { (other : HeadEnds) → TellsHead bytes.now other → (other ≡ result) ⊎ IsOpen bytes.now }

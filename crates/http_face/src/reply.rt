@@ -38,7 +38,7 @@ pub fn reply_bytes(alloc: Global, reply: &Reply) -> Result<Text, Memory>
     Ok(text)
 }
 
-/// The reply of status 503, in a fixed array.
+/// A reply of status 503, kept in an array so that it takes no memory.
 #[derive(Drop)]
 pub struct ShortReply {
     text: FixedText,

@@ -31,7 +31,7 @@ pub enum Route {
     Info,
     /// To read the newest version from now on.
     Pin,
-    /// The same, where the client has seen this version.
+    /// To read the newest version from now on, by a client that has seen this one.
     PinSeen(u64),
     /// The slice at a step.
     Slice(u32),

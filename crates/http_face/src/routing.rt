@@ -13,13 +13,14 @@ use std::alloc::Global;
 use std::str::from_utf8;
 use tgap_model::{MAX_COORDINATE, Memory, Window};
 
-/// The table of routes. It is made once, since it takes memory.
+/// The table of routes, for any number of calls of `route`. Making it takes memory; those calls take none.
 pub fn routes(alloc: Global) -> Result<Routes, Memory> {
     Routes::new(alloc)
 }
 
-/// What a method and a target ask for. The path is the target up to the first question mark and is not decoded. No
-/// such path comes first, then another method, then a number that is out of form or of its range. It takes no memory.
+/// What a method and a target ask for. What stands before the first question mark of the target is its path, which is
+/// not decoded. No such path comes first, then another method, then a number that is out of form or of its range. It
+/// takes no memory.
 pub fn route(routes: &Routes, method: &[u8], target: &[u8]) -> Route
     ensures { result ≡ route_of method.now target.now }
 {

@@ -261,7 +261,7 @@ positive_by_second {m} {n} {k} {e} {f} {g} i j h a b q = positive_from_mul k g h
 pub not_negative_by : {m n k e f g : ℤ} → pos 0 ≤ℤ m → pos 0 ≤ℤ n → pos 0 <ℤ k → pos 0 ≤ℤ e → pos 0 ≤ℤ f → m *ℤ e +ℤ n *ℤ f ≡ k *ℤ g → pos 0 ≤ℤ g
 not_negative_by {k = k} {g = g} m n h e f q = not_negative_from_mul k g h (plus_not_negative _ (mul_not_negative m e) (mul_not_negative n f) q)
 
--- the same below 0
+-- both parts are negative, the first one or the second one is and the other is not positive, or neither is positive
 pub negative_by : {m n k e f g : ℤ} → pos 0 <ℤ m → pos 0 <ℤ n → pos 0 <ℤ k → e <ℤ pos 0 → f <ℤ pos 0 → m *ℤ e +ℤ n *ℤ f ≡ k *ℤ g → g <ℤ pos 0
 negative_by {k = k} {g = g} m n h e f q = negative_from_mul k g h (plus_negative _ (mul_negative_right m e) (le_from_lt (mul_negative_right n f)) q)
 

@@ -1,4 +1,4 @@
--- A point is inside at most one face: the segments above it are the front of the stack on its line, and the parity of a face's
+-- No point is inside two faces: the segments above it are the front of the stack on its line, and the parity of a face's
 -- borders among them tells whether the label reached below them is that face.
 use Rattle.std.proofs.Common.{◌≡◌, ◌≢◌, ◌⊎◌, inl, inr, ℕ, Bool, true, false, cond, not, ◌&&◌, ◌||◌, ◌==◌, ℤ, pos, ◌<ℤ◌, ◌≤ℤ◌, ◌*ℤ◌, int_lt, arith, List, [], ◌∷◌, map, filter, refl, sym, ap, ◌∙◌, subst, suc, ◌+◌, count_by}
 use Rattle.std.specs.List.{list_all}

@@ -137,7 +137,7 @@ module _ (h : MergedMap) (k : ℕ) where
             | inr j ↦ j
           ])))
 
-  -- and so it is in the direction of its least arc
+  -- a maximal path is one in the direction of its least arc too
   pub directed_maximal : (c : Chain) → IsMaximalPath h k c → IsMaximalPath h k (directed c)
   directed_maximal c w = by (is_directed c)
     where
@@ -167,7 +167,7 @@ directed_sum f c = by (is_directed c)
     by true = refl
     by false = turned_sum f c
 
--- and so do the links
+-- a chain with links has links in the direction of its least arc
 pub directed_links : (c : Chain) → has_links c ≡ true → has_links (directed c) ≡ true
 directed_links c h = by (is_directed c)
   where

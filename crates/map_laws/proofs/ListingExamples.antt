@@ -13,7 +13,7 @@ two_squares_read : listing (codes "tgap 1\ntransform 1 1 0 0\nratio 16\nclasses 
 unfolding listing map_at rules_at count_line classes_at all_faces_at faces_at all_arcs_at arcs_at arc_at end_at read_transform read_count read_class read_face head_at read_points points_at naturals_at number_of digits
 two_squares_read = refl
 
--- the same without their last line
+-- the two squares without their last line
 two_squares_cut : listing (codes "tgap 1\ntransform 1 1 0 0\nratio 16\nclasses 1\nclass 0 1 1\nfaces 2\nface 1 0\nface 2 0\narcs 3\narc 1 0 4 10 10 0 10 0 0 10 0\narc 2 0 4 10 0 20 0 20 10 10 10\narc 1 2 2 10 0 10 10\n") ≡ Err (BadLine 13)
 unfolding listing map_at rules_at count_line classes_at all_faces_at faces_at all_arcs_at arcs_at arc_at end_at read_transform read_count read_class read_face head_at read_points points_at naturals_at number_of digits
 two_squares_cut = refl
@@ -73,7 +73,7 @@ many_classes : listing (codes "tgap 1\ntransform 1 1 0 0\nratio 16\nclasses 257\
 unfolding listing map_at rules_at count_line classes_at all_faces_at faces_at all_arcs_at arcs_at arc_at end_at read_transform read_count read_class read_face head_at read_points points_at naturals_at number_of digits
 many_classes = refl
 
--- the same where the line feed is missing
+-- more classes than the limit, in a line without its line feed
 many_classes_cut : listing (codes "tgap 1\ntransform 1 1 0 0\nratio 16\nclasses 257") ≡ Err (BadLine 4)
 unfolding listing map_at rules_at count_line classes_at all_faces_at faces_at all_arcs_at arcs_at arc_at end_at read_transform read_count read_class read_face head_at read_points points_at naturals_at number_of digits
 many_classes_cut = refl
@@ -98,12 +98,12 @@ many_points : listing (codes "tgap 1\ntransform 1 1 0 0\nratio 16\nclasses 1\ncl
 unfolding listing map_at rules_at count_line classes_at all_faces_at faces_at all_arcs_at arcs_at arc_at end_at read_transform read_count read_class read_face head_at read_points points_at naturals_at number_of digits
 many_points = refl
 
--- the same where the line feed is missing
+-- more points than the limit, in a line without its line feed
 many_points_cut : listing (codes "tgap 1\ntransform 1 1 0 0\nratio 16\nclasses 1\nclass 0 1 1\nfaces 2\nface 1 0\nface 2 0\narcs 3\narc 1 0 131073") ≡ Err (BadLine 10)
 unfolding listing map_at rules_at count_line classes_at all_faces_at faces_at all_arcs_at arcs_at arc_at end_at read_transform read_count read_class read_face head_at read_points points_at naturals_at number_of digits
 many_points_cut = refl
 
--- the same between faces that are out of range
+-- more points than the limit, in an arc beside a face that is out of range
 many_points_of_no_face : listing (codes "tgap 1\ntransform 1 1 0 0\nratio 16\nclasses 1\nclass 0 1 1\nfaces 2\nface 1 0\nface 2 0\narcs 3\narc 1 3 131073\n") ≡ Err (BadLine 10)
 unfolding listing map_at rules_at count_line classes_at all_faces_at faces_at all_arcs_at arcs_at arc_at end_at read_transform read_count read_class read_face head_at read_points points_at naturals_at number_of digits
 many_points_of_no_face = refl

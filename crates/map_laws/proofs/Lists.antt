@@ -86,7 +86,7 @@ module _ {A : Type 0} where
   pairs_weaker R S on [] h = tt
   pairs_weaker R S on (x ∷ xs) h = ((λ y m. on x y (h.0 y m)), pairs_weaker R S on xs h.1)
 
-  -- and so they are where they are in it as members
+  -- pairs in a relation that is weaker for the members of the list
   pub pairs_of : (R S : A → A → Type 0) (xs : List A) → ((x y : A) → Among x xs → Among y xs → R x y → S x y) → ArePairs R xs → ArePairs S xs
   pairs_of R S [] on h = tt
   pairs_of R S (x ∷ xs) on h = (

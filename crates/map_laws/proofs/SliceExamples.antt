@@ -217,7 +217,7 @@ abbrev pub two_triangles : BaseMap
 two_triangles = plain_map 1 (0 ∷ 0 ∷ [])
     (arc 1 0 (0 ∷ 0 ∷ 12 ∷ 0 ∷ 6 ∷ 6 ∷ []) ∷ arc 2 0 (6 ∷ 6 ∷ 0 ∷ 12 ∷ 0 ∷ 0 ∷ []) ∷ arc 2 1 (0 ∷ 0 ∷ 6 ∷ 6 ∷ []) ∷ [])
 
--- for each other vertex the third segment has both ends in the triangle
+-- any other vertex is kept by the third segment, whose ends are both corners of the triangle
 triangles_removals : removals_to (merged two_triangles) 1 ≡ removal 0 12 1 ∷ []
 unfolding removals_to sweep is_removable is_clear chains_at history_of next_step
 triangles_removals = refl

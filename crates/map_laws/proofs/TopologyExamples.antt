@@ -31,7 +31,7 @@ only_object : topology_base (codes "{\"type\":\"Topology\",\"transform\":{\"scal
 unfolding topology_base rules_of named_rules topology topology_of geometry_read polygon_read ring_read index_read arc_read position_read based face_taken ring_taken side_taken tree serde_json_on_literals is_utf8 chars is_transform digits
 only_object = refl
 
--- the collapsed arc stands in two rings
+-- two rings have the collapsed arc among theirs
 collapsed_in_rings : topology_base (codes "{\"type\":\"Topology\",\"transform\":{\"scale\":[0.0001,0.0001],\"translate\":[5.5,52.25]},\"bbox\":[5.5,52.25,5.503,52.253],\"objects\":{\"land\":{\"type\":\"GeometryCollection\",\"geometries\":[{\"type\":\"Polygon\",\"arcs\":[[0,2,3]],\"properties\":{\"kind\":\"field\"}},{\"type\":\"MultiPolygon\",\"arcs\":[[[1,-4,-3]],[[3]]],\"properties\":{\"kind\":\"wood\"}},{\"type\":null}]}},\"arcs\":[[[10,10],[-10,0],[0,-10],[10,0]],[[10,0],[10,0],[0,10],[-10,0]],[[10,0],[0,10]],[[10,10],[0,0]]]}") (codes "land") (codes "{\"property\":\"kind\",\"classes\":[[\"field\",1],[\"wood\",1]],\"default\":0,\"compat\":[[1,1],[1,1]],\"ratio\":16}") ≡ Ok two_kinds
 unfolding topology_base rules_of named_rules topology topology_of geometry_read polygon_read ring_read index_read arc_read position_read based face_taken ring_taken side_taken tree serde_json_on_literals is_utf8 chars is_transform digits
 collapsed_in_rings = refl

@@ -45,7 +45,7 @@ InnerVerticesStandOnce =
     → ((get_or segments i d).segment.b ≢ (get_or segments j d).segment.b)
     × ((get_or segments i d).segment.b ≡ (get_or segments j d).segment.a → follows (get_or segments i d) (get_or segments j d) ≡ true)
 
--- Where the faces agree down each line, a point between whole abscissas is inside at most one face other than 0.
+-- Where the faces agree down each line, no point between whole abscissas is inside two faces, 0 left aside.
 abbrev pub InsideOneFace : Type 0
 InsideOneFace =
     (segments : List LabelledSegment)
@@ -53,8 +53,8 @@ InsideOneFace =
     → (p : Fraction) → IsBetweenColumns (line_through p) → (f g : ℕ) → f ≢ 0 → g ≢ 0
     → is_inside segments f p ≡ true → is_inside segments g p ≡ true → f ≡ g
 
--- Where the faces agree down each line, a point between whole abscissas is inside the face below the nearest segment above it,
--- where there is such a segment and that face is not 0. Nearest is one that every other one of them is higher than.
+-- Where the faces agree down each line, the nearest segment above a point between whole abscissas tells where the point is: inside
+-- the face at the lower side of that segment, unless the face is 0. Nearest is one that every other one of them is higher than.
 abbrev pub InsideBelowNearest : Type 0
 InsideBelowNearest =
     (segments : List LabelledSegment)

@@ -18,13 +18,13 @@ pub fn inner_vertices_stand_once()
     ensures { InnerVerticesStandOnce }
 {}
 
-/// Where the faces agree down each vertical line, a point is inside at most one face.
+/// Where the faces agree down each vertical line, no point is inside two faces, the outside left aside.
 pub fn inside_one_face()
     ensures { InsideOneFace }
 {}
 
-/// Where the faces agree down each vertical line, a point is inside the face below the nearest segment above it, where there is
-/// one and that face is not the outside.
+/// Where the faces agree down each vertical line, the nearest segment above a point tells where the point is: inside the face at
+/// the lower side of that segment, unless the face is the outside.
 pub fn inside_below_nearest()
     ensures { InsideBelowNearest }
 {}

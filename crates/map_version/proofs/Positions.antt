@@ -43,7 +43,7 @@ segment_short a b [] h = refl
 segment_short a b (p ∷ []) h = refl
 segment_short a b (p ∷ q ∷ points) h = absurd (omega arith)
 
--- the same as a loop has it, at the second point of a segment
+-- a loop that is at the second point of a segment goes on where the segment is another
 pub segment_step : (a b : Point) (points : List Point) (i : ℕ) (d : Point) → 1 ≤ i → i < length points → are_ends a b (get_or points (i - 1) d) (get_or points i d) ≡ false
     → segment_at a b points ≡ further (i - 1) (segment_at a b (drop (i - 1) points)) → segment_at a b points ≡ further (i + 1 - 1) (segment_at a b (drop (i + 1 - 1) points))
 segment_step a b points i d some lt apart e =
@@ -87,7 +87,7 @@ inner_short old (p ∷ []) h = refl
 inner_short old (p ∷ q ∷ []) h = refl
 inner_short old (p ∷ q ∷ r ∷ points) h = absurd (omega arith)
 
--- the same as a loop has it, at the point after an inner one
+-- a loop that is at the point after an inner one goes on where the inner one is another
 pub inner_step : (old : Point) (points : List Point) (i : ℕ) (d : Point) → 2 ≤ i → i < length points → same_point old (get_or points (i - 1) d) ≡ false
     → inner_at old points ≡ further (i - 2) (inner_at old (drop (i - 2) points)) → inner_at old points ≡ further (i + 1 - 2) (inner_at old (drop (i + 1 - 2) points))
 inner_step old points i d some lt apart e =

@@ -47,7 +47,7 @@ fn apply_all(alloc: Global, mut draft: Draft, lines: &mut Lines) -> Result<Draft
 /// Lines are numbered from 1, and all from 4,294,967,295 on have that number. Its cost is one pass over the map, and for each
 /// line the logarithm of the number of points and the length of the arcs that have the points that it names.
 pub fn edited(alloc: Global, base: &Base, batch: &[u8]) -> Result<Base, Or<EditFault>>
-    // The edited map, or the first line at fault with its cause, by the function that computes on small batches.
+    // The edited map, or which line is refused first and for what cause, by the function that computes on small batches.
     ensures exact { GivesEdited result (edited base.now batch.now) }
 {
     let draft = Draft::of(alloc, base)?;

@@ -7,7 +7,7 @@ ghost use Rattle.tgap_model.specs.declared.failure.Or.TheVariants.{Fault};
 
 use tgap_model::Or;
 
-/// The line is not of its form, a number is none, a coordinate is outside the limits, or the line feed is missing.
+/// The line is out of form or without its line feed, what should be a number is none, or a coordinate is beyond the limits.
 pub const NO_EDIT: u8 = 1;
 
 /// There is no face or no class of that number.
@@ -25,7 +25,7 @@ pub const NO_SUCH_SEGMENT: u8 = 5;
 /// The point is a node.
 pub const IS_NODE: u8 = 6;
 
-/// The points before and after it are one.
+/// The point before it is also the one after it.
 pub const TURNS_BACK: u8 = 7;
 
 /// The map has as many points as it may have.

@@ -202,7 +202,8 @@ door_right link told told' before now press press' none sees s front =
           (connections_right link told told' (seen_of before) (seen_of now) (press_maps press') none s later),
     )
 
--- the same of all posts
+-- Of all posts, each with a new door and a seat that had seen all: the connections of each door are right over the list that a
+-- press has now, and it begins with the list from before.
 pub posts_right : {Q D L N P : Type 0} {held : Held.Ghosts Version} {named : Named.Ghosts N} (door : Q → D) (seat : Q → SeatOf Version N P held named)
     (link : OfLink.Ghosts L) (told : D → Option (Connections L)) (xs ys : List Q) (press press' : PressOf Version N P held named)
     → EachBecame (λ x y. ServesDoor link (told (door x)) (told (door y)) (Served (seen_of (seat x)) (seen_of (seat y)))) xs ys

@@ -90,7 +90,8 @@ served_none seen = record {
 
 -- ---- all that a door tells
 
--- Each link that came was handed back with the end of its connection, and each of these connections is right over this list of versions.
+-- All links that came were handed back, each with the end of its connection, and each of these connections is right over this list
+-- of versions.
 pub record AreRight {L : Type 0} (link : OfLink.Ghosts L) (limit : ℕ) (history : List BaseMap) (told : Connections L) : Type 0 where
   pub visits : List (Visit L)
   pub turns : List (List Turn)

@@ -81,7 +81,7 @@ module _ (s t : Seg) (shared : Shared) (apart : s.a ≢ s.b) where
   at_first v is first permitted h =
       one_point v (λ e. leaves s t.b h (sym (parallel_ends s t e) ∙ ap (cross_of s.a s.b) (sym is) ∙ first.line)) first (subst (IsOnLine t) (sym is) (first_end_on_line t)) permitted
 
-  -- the same with its ends exchanged
+  -- the second end of the second segment is shared, and the first one leaves the line
   at_second : (v : Point) → v ≡ t.b → IsOnLine s v → ((p : Fraction) → is_at p v ≡ true → is_permitted shared s t p ≡ true) → leaves_line s t.a ≡ true → common_point s t shared ≡ None
   at_second v is first permitted h =
       one_point v (λ e. leaves s t.a h (parallel_ends s t e ∙ ap (cross_of s.a s.b) (sym is) ∙ first.line)) first (subst (IsOnLine t) (sym is) (second_end_on_line t)) permitted

@@ -23,11 +23,11 @@ limited z = int_min (int_max z (neg_ℤ MAX_COORDINATE)) MAX_COORDINATE
 abbrev pub corner : Window → Bool → Bool → Point
 corner w right top = record { x = limited (if right then w.x1 else w.x0); y = limited (if top then w.y1 else w.y0) }
 
--- both corners at the top of the box, or at its foot, are left of the line from a to b
+-- one who goes from a to b has both corners at the top of the box, or at its foot, at his left
 abbrev pub is_left_at : Point → Point → Window → Bool → Bool
 is_left_at a b w top = int_eq (side a b (corner w false top)) (pos 1) && int_eq (side a b (corner w true top)) (pos 1)
 
--- all corners of the box are
+-- he has all corners of the box there
 abbrev pub are_left : Point → Point → Window → Bool
 are_left a b w = is_left_at a b w false && is_left_at a b w true
 
@@ -45,7 +45,7 @@ crosses area s w = meets area w && not (is_beside s w)
 
 -- ---- a point between others is on their side
 
--- the same for each corner of a box
+-- what P says of two coordinates, for each corner of a box
 abbrev pub AtCorners : (ℤ → ℤ → Type 0) → ℤ → ℤ → ℤ → ℤ → Type 0
 AtCorners P x0 y0 x1 y1 = P x0 y0 × P x1 y0 × P x0 y1 × P x1 y1
 

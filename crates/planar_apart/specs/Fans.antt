@@ -14,7 +14,7 @@ toward s v =
     if s.starts && same_point s.segment.a v then Some s.segment.b
     else (if s.ends && same_point s.segment.b v then Some s.segment.a else None)
 
--- the same, where the direction comes after that to another point
+-- the point toward which a segment leaves a node, where its direction comes after that to another point
 abbrev pub next_toward : LabelledSegment → Point → Point → Option Point
 next_toward s v last = elim (toward s v) [ None ↦ None | Some p ↦ if turns_before v last p then Some p else None ]
 

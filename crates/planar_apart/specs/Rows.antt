@@ -49,7 +49,7 @@ pub record IsLeastBehind (row : List NumberedSegment) (place : ℕ) (found : Opt
   pub one : (m : Meeting) → found ≡ Some m
       → (k : ℕ) × (place < k) × (k < length row) × ((d : NumberedSegment) → meeting_of (get_or row place d) (get_or row k d) ≡ Some m)
 
--- The same for all pairs of the row.
+-- It is a meeting of two segments of the row, and none of these is earlier; it is none only where there is none.
 pub record IsLeastOfRow (row : List NumberedSegment) (found : Option Meeting) : Type 0 where
   pub least : (i k : ℕ) (d : NumberedSegment) → i < k → k < length row → IsNoLater found (meeting_of (get_or row i d) (get_or row k d))
   pub one : (m : Meeting) → found ≡ Some m

@@ -18,7 +18,7 @@ const HUB_SIZE: usize = 32;
 /// The rank of a segment at no hub, to which its place in the order that was there before is added.
 const NO_HUB: u64 = 0xFFFF_FFFF_0000_0000;
 
-/// An end of an arc at a node, seen as leaving the node: the point toward which it goes, and the number of its segment.
+/// An arc's way out of a node: the point toward which it first goes, and the number of its segment.
 #[derive(Clone, Copy, Debug)]
 struct Spoke {
     node: Point,

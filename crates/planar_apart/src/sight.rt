@@ -64,7 +64,7 @@ fn corner(area: &Window, right: bool, top: bool) -> Point
     }
 }
 
-/// Whether a point is left of the line from `a` to `b`.
+/// Whether a point is at the left of one who goes from `a` to `b`.
 fn is_left(a: Point, b: Point, p: Point) -> bool
     requires line { IsTrue (in_limits a) × IsTrue (in_limits b) }
     requires point { IsTrue (in_limits p) }

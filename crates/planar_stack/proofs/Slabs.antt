@@ -1,5 +1,5 @@
--- One line stands for its slab: the stack is one list on all lines between two neighbouring abscissas. So the faces agree on each line
--- between columns exactly where they agree on the line one half beyond each abscissa that has a next one.
+-- A single line tells of its whole slab: the stack is one list on all lines between two neighbouring abscissas. So the faces
+-- agree on each line between columns exactly where they agree on the line one half beyond each abscissa that has a next one.
 use Rattle.std.proofs.Common.{◌≡◌, ◌⊎◌, inl, inr, ⊎_elim, ℕ, ◌+◌, ◌==◌, Bool, true, false, cond, ◌&&◌, ◌||◌, List, [], ◌∷◌, map, filter, All, AllPairs, Contains, get_or, ℤ, pos, ◌*ℤ◌, ◌<ℤ◌, ◌≤ℤ◌, int_lt, Option, Some, None, flat_map, refl, sym, ap, ap₂, ◌∙◌, subst, arith}
 use Rattle.std.proofs.lemmas.Int.{ints, by_lt_z}
 use Rattle.std.proofs.lemmas.Bool.{and_parts, and_left, and_right, or_from}

@@ -25,7 +25,7 @@ times i c = arc_sum (is_number i) c
 pub link_counts : (c : Chain) (d : Link) → Among d c → 1 ≤ times d.arc c
 link_counts c d m = among_counts (λ (e : Link). e.arc == d.arc) c d m (eq-eqb d.arc d.arc refl)
 
--- and so does the key
+-- the key of the chain is the number of one of its arcs, and counts for it
 pub key_counts : (c : Chain) → has_links c ≡ true → 1 ≤ times (key c) c
 key_counts c h =
     let low = key_of c h in
@@ -70,7 +70,7 @@ module _ (h : MergedMap) (k : ℕ) where
   pub same_holder : (f g : Chain) → Among f (chains_at h k) → Among g (chains_at h k) → (i : ℕ) → 1 ≤ times i f → 1 ≤ times i g → f ≡ g
   same_holder f g m n i a b = one_counts (times i) (chains_at h k) f g m n a b (arc_once i)
 
-  -- and so are chains with one key
+  -- chains with one key are one
   pub same_key : (f g : Chain) → Among f (chains_at h k) → Among g (chains_at h k) → key f ≡ key g → f ≡ g
   same_key f g m n e =
       same_holder f g m n (key f) (key_counts f (chain_links h k f m))

@@ -77,7 +77,7 @@ module _ (h : MergedMap) (k : ℕ) where
     | inr prev ↦ subst (λ (y : Link). Among y (d ∷ chain)) (way_on_back prev.2 u) prev.1
   ]
 
-  -- the same of a chain after k steps
+  -- a chain after k steps holds the way on and the way back of each of its links
   chain_way_on : (f : Chain) → Among f (chains_at h k) → (x e : Link) → Among x f → IsWayOn h k x e → Among e f
   chain_way_on f m x e n u =
       let w = chains_whole h k (chains_at h k) (chains_exist h k) f m in

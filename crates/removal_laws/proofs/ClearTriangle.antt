@@ -1,4 +1,4 @@
--- A triangle that is clear of a segment has no point in common with it but an a or c that is an end of the segment.
+-- A triangle that is clear of a segment meets it at most in a corner a or c at which the segment ends.
 use Rattle.std.proofs.Common.{◌≡◌, ◌≢◌, ◌⊎◌, inl, inr, true, false, ◌&&◌, ◌||◌, not, [], ◌∷◌, ℤ, pos, negsuc, ◌+ℤ◌, ◌*ℤ◌, neg_ℤ, ◌<ℤ◌, ◌≤ℤ◌, refl, sym, ap, ◌∙◌, subst, arith}
 use Rattle.std.specs.Int.{int_signum}
 use Rattle.std.specs.Int.Signed.{clash_ℤ}

@@ -148,7 +148,7 @@ module _ (o : Point) where
               true_unless (turns_before o r p) (λ f. out.1 (behind_first p q r np nq out.0 left first f)),
             )))
 
-  -- the same of a wedge to either side, by products with the turn from p to q
+  -- outside a wedge that opens to either side, by products with the turn from p to q
   abbrev pub IsOutside : Point → Point → Point → Type 0
   IsOutside p q r = ((cross o p q *ℤ cross o p r) <ℤ pos 0) ⊎ (pos 0 <ℤ (cross o p q *ℤ cross o q r))
 

@@ -15,7 +15,7 @@ use Rattle.removal_laws.specs.Trace.{Taken, trace_edges, swept_edges, edges_befo
 abbrev pub is_over : Fraction → Seg → Bool
 is_over p s = crosses (line_through p) s && is_above s p
 
--- a point is in a triangle: an odd number of its sides cross the ray up
+-- a point is in a triangle: the ray up from it crosses one of the three sides, or all of them
 abbrev pub is_in_triangle : Point → Point → Point → Fraction → Bool
 is_in_triangle a b c p =
     is_odd (count_by (is_over p) (record { a = a; b = b } ∷ record { a = b; b = c } ∷ record { a = a; b = c } ∷ []))
@@ -32,14 +32,14 @@ ReplacedInside =
 abbrev pub IsOutside : Fraction → List Taken → Type 0
 IsOutside p ts = All (λ t. is_in_triangle t.a t.b t.c p ≡ false) ts
 
--- and so after a sweep
+-- after a sweep, a point outside the triangles of all that it takes out is inside a face exactly where it was
 abbrev pub SweepKeepsInside : Type 0
 SweepKeepsInside =
     (ratio : ℕ) (area : ℤ) (made step : ℕ) (edges : List Edge) (f : ℕ) (p : Fraction)
     → IsOutside p (trace_edges ratio area made step [] edges)
     → is_inside (edge_segments (swept_edges ratio area made [] edges)) f p ≡ is_inside (edge_segments edges) f p
 
--- and after the sweep of step j
+-- after the sweep of step j, a point outside the triangles of what it takes out is inside a face exactly where it was before
 abbrev pub StepKeepsInside : Type 0
 StepKeepsInside =
     (h : MergedMap) (j f : ℕ) (p : Fraction) → IsOutside p (trace_at h j)

@@ -22,7 +22,7 @@ ReplacedAgrees =
     → AgreeOn l (before ++ record e { points = front ++ a ∷ b ∷ c ∷ rest } ∷ after)
     → AgreeOn l (before ++ record e { points = front ++ a ∷ c ∷ rest } ∷ after)
 
--- and so after a sweep
+-- where segments are apart, the faces down a line between whole abscissas still agree after a sweep
 abbrev pub SweepKeepsFaces : Type 0
 SweepKeepsFaces =
     (ratio : ℕ) (area : ℤ) (made : ℕ) (edges : List Edge) → AllPairs (λ e f. e.key ≢ f.key) edges → AllPairs AreApart (edge_segments edges)

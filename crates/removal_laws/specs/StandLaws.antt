@@ -56,7 +56,7 @@ SweepIsSlice =
     (h : MergedMap) (j : ℕ) → 1 ≤ j → j ≤ length h.steps → InnerPointsStandOnce (edges_of h j [] (chains_at h j))
     → edges_after_sweep h j ≡ edges_of h j (removals_to h j) (chains_at h j)
 
--- the same is so of the chains after each of the first k steps
+-- inner points stand once in the chains after each of the first k steps
 abbrev pub ChainPointsStandOnce : MergedMap → ℕ → Type 0
 ChainPointsStandOnce h k = (j : ℕ) → 1 ≤ j → j ≤ k → InnerPointsStandOnce (edges_of h j [] (chains_at h j))
 

@@ -13,13 +13,15 @@ pub record IsInTriangle (a b c : Point) (p : Fraction) : Type 0 where
   pub second : pos 0 ≤ℤ (cross a b c *ℤ cross_at b c p)
   pub third : pos 0 ≤ℤ (cross a b c *ℤ cross_at c a p)
 
--- Where a triangle with area is clear of a segment, both hold no rational point but an a or c that is an end of the segment.
+-- Where a triangle with area is clear of a segment, no rational point is in both, other than a corner a or c at which the
+-- segment ends.
 abbrev pub ClearIsApart : Type 0
 ClearIsApart =
     (a b c : Point) (s : Seg) (p : Fraction) → cross a b c ≢ pos 0 → is_clear a b c s ≡ true → pos 0 <ℤ p.d
     → IsInTriangle a b c p → is_on p s ≡ true → ((is_at p a || is_at p c) && (is_at p s.a || is_at p s.b)) ≡ true
 
--- The same of the segment from a to c, which is a side of the triangle.
+-- Where a triangle with area is clear of a segment, no rational point is on that segment and on the side from a to c, other
+-- than a corner a or c at which the segment ends.
 abbrev pub ClearOfBase : Type 0
 ClearOfBase =
     (a b c : Point) (s : Seg) (p : Fraction) → cross a b c ≢ pos 0 → is_clear a b c s ≡ true → pos 0 <ℤ p.d

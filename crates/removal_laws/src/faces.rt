@@ -8,7 +8,7 @@ pub fn replaced_agrees()
     ensures { ReplacedAgrees }
 {}
 
-/// And so after a sweep.
+/// Down a line between whole abscissas the faces still agree after a sweep.
 pub fn sweep_keeps_faces()
     ensures { SweepKeepsFaces }
 {}
@@ -18,12 +18,13 @@ pub fn replaced_inside()
     ensures { ReplacedInside }
 {}
 
-/// And so after a sweep, outside the triangles of what it takes out.
+/// Outside the triangles of all vertices that a sweep takes out, a point is inside a face exactly where it was.
 pub fn sweep_keeps_inside()
     ensures { SweepKeepsInside }
 {}
 
-/// And after the sweep of a step.
+/// Outside the triangles of all vertices that the sweep of a step takes out, a point is inside a face after it exactly where
+/// it was before.
 pub fn step_keeps_inside()
     ensures { StepKeepsInside }
 {}

@@ -2,13 +2,12 @@
 
 ghost use Rattle.removal_laws.specs.TriangleLaws.{ClearIsApart, ClearOfBase, OneLineCovers};
 
-/// A triangle that is clear of a segment has no point in common with it but an `a` or `c` that is an end of the segment.
+/// A triangle that is clear of a segment meets it at most in a corner `a` or `c` at which the segment ends.
 pub fn clear_is_apart()
     ensures { ClearIsApart }
 {}
 
-/// The segment from `a` to `c` has no point in common with a segment of which the triangle is clear, but an `a` or `c` that is an
-/// end of that segment.
+/// The segment from `a` to `c` meets a segment of which the triangle is clear at most in an `a` or `c` at which that one ends.
 pub fn clear_of_base()
     ensures { ClearOfBase }
 {}

@@ -80,7 +80,7 @@ pub open_next : (arcs : List (List Point)) (ring : List ℤ) (k : ℕ) (differ :
 open_next arcs ring k differ whole turn so_far is =
     sym (ap (λ b. cond (not b) (open_from arcs (get_or ring 0 (pos 0)) (k + 1) (drop (k + 1) ring)) (Some k)) is) ∙ sym (open_here arcs ring k differ turn) ∙ so_far
 
--- the same from what the code compared
+-- what is found at a place, from what the code compared
 pub turn_from : (arcs : List (List Point)) (ring : List ℤ) (k : ℕ) (i j next : ℤ) (end start : Point) (differ : Bool) → k < length ring → length ring < 2 ^ 32 - 1
     → end ≡ end_named arcs i → i ≡ get_or ring k (pos 0) → start ≡ start_named arcs j → j ≡ next → next ≡ index_after ring k → differ ≡ not (same_point end start)
     → IsTurn arcs ring k differ

@@ -13,7 +13,7 @@ pub record AreRawArcs (arcs : List (List Point)) : Type 0 where
   pub few : length arcs ≤ MAX_ARCS
   pub short : sum_by length arcs ≤ MAX_POINTS
 
--- the same, and these are their shoelace sums
+-- arcs that were read, and their shoelace sums
 pub record AreMeasured (arcs : List (List Point)) (sums : List ℤ) : Type 0 where
   pub raw : AreRawArcs arcs
   pub measured : sums ≡ map shoelace arcs

@@ -145,7 +145,8 @@ impl<'a> Arcs<'a> {
         points.len() == 1 && points[0] == place
     }
 
-    /// The first place of a ring whose arc does not end where the next one starts. After the last arc comes the first.
+    /// The first place of a ring with a gap between the end of its arc and the start of the next. After the last arc comes
+    /// the first.
     pub fn open_place(&self, ring: &[i64]) -> Option<u32>
         requires { IsTrue (is_raw_ring (length self.now) ring.now) }
         ensures { result ≡ open_place self.now ring.now }

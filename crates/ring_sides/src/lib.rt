@@ -36,15 +36,15 @@ fn read_transform(transform: Transform) -> Transform
 /// names an arc, and a negative one names it from its last point to its first. Each arc starts where the one before it
 /// ends. A ring whose points are all one, or that has none, is collapsed.
 ///
-/// A polygon is a face unless its exterior ring is collapsed or missing; the faces are numbered from 1 in the order of the
-/// polygons. The class of a face is the first of the rules that has its name, or else the default class. A face is inside
+/// A polygon is a face unless its exterior ring is collapsed or missing; the first such polygon is face 1, the next one is
+/// face 2, and so on. A face has the first class of the rules with its name, or else the default class. A face is inside
 /// its exterior ring and outside its holes: on the left of an exterior ring that is counter-clockwise and of a hole that is
 /// clockwise, on the right of others. So the direction of a ring is of no consequence. A collapsed hole and an arc of one
 /// point have no side to take. The arcs of the base map are those of which a ring took a side, in their order; at a side
 /// that no ring took is the outside, 0.
 ///
 /// Rings are numbered from 0 over all polygons, those that are passed over too, and followed in that order. The faults:
-/// - `RingOpen`, with the ring and the place in it: the arc there does not end where the next one starts.
+/// - `RingOpen`, with the ring and the place in it: there is a gap between the end of the arc there and the next one.
 /// - `RingFlat`, with the ring: it is closed, and its area is 0.
 /// - `SideTaken`, with the arc, its side (0 is left, 1 is right), the face that has it and the face that comes for it.
 /// - `SameSides`, with the arc and the face: one face has both sides. Among the rings there was no fault, and none of the

@@ -98,7 +98,7 @@ impl Taken {
         }
     }
 
-    /// Takes the arc of an index for a face that is on this side of its ring. An arc of one point has no sides.
+    /// Takes the arc of an index for a face that is on this side of its ring. Of an arc of one point no side is taken.
     fn take_index(&mut self, arcs: &Arcs, side: Side, face: u32, index: i64) -> Result<(), MapFault>
         requires named { IsTrue (names_arc (length arcs.now) index) }
         requires sides { HasSides (length arcs.now) self.old }

@@ -25,7 +25,7 @@ pub record IsAnswer (a : Answer) : Type 0 where
 abbrev pub plain : ℕ → List ℕ → Answer
 plain status body = record { status = status; allow = None; body = body }
 
--- the same with these words in one line
+-- the answer of this status that says these words in one line and names no method
 abbrev pub said : ℕ → List (List ℕ) → Answer
 said status words = plain status (line words)
 

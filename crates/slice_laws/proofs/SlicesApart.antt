@@ -1,5 +1,5 @@
--- Where nothing is removed, the segments of a slice have no point in common but a permitted one: they are segments of the base map,
--- and where two of those may meet, those of the slice may.
+-- Where nothing is removed, two segments of a slice meet at permitted points alone: they are segments of the base map, and where
+-- two of those may meet, those of the slice may.
 use Rattle.std.proofs.Common.{◌≡◌, ◌≢◌, ◌⊎◌, inl, inr, ℕ, suc, ◌+◌, Bool, true, false, cond, ◌==◌, List, length, AllPairs, refl, sym, ap, ◌∙◌, subst, eq-eqb, arith}
 use Rattle.std.proofs.lemmas.Bool.{and_parts, and_from, eqb-true}
 use Rattle.tgap_model.specs.declared.geometry.Point.{Point}

@@ -32,7 +32,7 @@ SlicesAreSlices =
     (m : BaseMap) → IsTrue (is_base m) → IsPartition (base_segments m)
     → (k : ℕ) → IsSlice (merged m) k (removals_to (merged m) k) (slice m k)
 
--- Two faces are at the two sides of an edge of the slice exactly where their base faces are at the two sides of an arc.
+-- An edge of the slice is between two faces exactly where an arc is between a base face of the one and one of the other.
 abbrev pub FacesAreAdjacent : Type 0
 FacesAreAdjacent =
     (m : BaseMap) → IsTrue (is_base m) → IsPartition (base_segments m) → (k f g : ℕ) → f ≢ g
@@ -47,8 +47,8 @@ pub record IsInsideBaseFace (m : BaseMap) (k f : ℕ) (p : Fraction) : Type 0 wh
   pub ancestor : label_at (merged m) k face ≡ f
   pub inside : IsTrue (is_inside (base_segments m) face p)
 
--- Where no vertex is removed, a point between whole abscissas is inside a face of the slice exactly where it is inside
--- one of the base faces that the face was made of.
+-- Where no vertex is removed, a face of the slice covers what its base faces cover: between whole abscissas a point is inside
+-- the face exactly if one of them has it inside.
 abbrev pub FacesAreUnions : Type 0
 FacesAreUnions =
     (m : BaseMap) → IsTrue (is_base m) → IsPartition (base_segments m) → m.rules.ratio ≡ 0 → (k f : ℕ) → f ≢ 0

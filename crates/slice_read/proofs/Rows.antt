@@ -46,7 +46,7 @@ row_out t k n low high inside live outside = by (is_live t k (suc n)) refl
     by true e = let range = (live k inside).0 e in absurd (omega (arith, range.1, outside range.0))
     by false e = rows_more t k n ∙ (ap (λ (b : Bool). live_rows t k n ++ cond b (row t (suc n) ∷ []) []) e ∙ append-nil (live_rows t k n))
 
--- the same where the number before the face is given
+-- a face that is live has its row, where the number before it is given
 pub rows_in : (t : FaceHistory) (k f before low high : ℕ) → suc before ≡ f → k ≤ length t.steps → IsLiveFrom t f low high → low ≤ k → k < high
     → live_rows t k f ≡ live_rows t k before ++ row t f ∷ []
 rows_in t k f before low high e inside live =

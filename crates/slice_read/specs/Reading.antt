@@ -20,14 +20,14 @@ use Rattle.face_tree.specs.Tree.{FaceHistory, is_live}
 abbrev pub live_rows : FaceHistory → ℕ → ℕ → List FaceRow
 live_rows t k last = map (λ f. record { face = f; class = class_of t.classes f }) (filter (is_live t k) (range_with_len 1 last))
 
--- Two faces are at the two sides of an edge of the slice exactly where base faces of theirs are at the two sides of an arc.
+-- An edge of the slice is between two faces exactly where an arc is between a base face of the one and one of the other.
 abbrev pub HasAdjacentFaces : BaseMap → ℕ → Slice → Type 0
 HasAdjacentFaces m k s =
     (f g : ℕ) → f ≢ g
     → IsTrue (list_any (is_edge_between f g) s.edges) ↔ IsTrue (list_any (λ a. is_between f g (labelled_at (merged m) k a)) m.arcs)
 
--- Outside the triangles of the vertices that were removed by then, a point between whole abscissas is inside a face of the slice
--- exactly where it is inside one of the base faces that the face was made of.
+-- Outside the triangles of the vertices that were removed by then, a face of the slice covers what its base faces cover: between
+-- whole abscissas a point is inside the face exactly if one of them has it inside.
 abbrev pub HasUnions : BaseMap → ℕ → Slice → Type 0
 HasUnions m k s =
     (f : ℕ) → f ≢ 0 → (p : Fraction) → IsBetweenColumns (line_through p) → IsOutside p (trace_to (merged m) k)

@@ -10,7 +10,7 @@ use Rattle.face_tree.specs.Tree.{FaceHistory}
 abbrev pub all_sides : List Edge → List ℕ
 all_sides edges = flat_map (λ e. e.left ∷ e.right ∷ []) edges
 
--- the same without the outside
+-- the faces at the sides of the edges, edge by edge, without the outside
 abbrev pub sides_of : List Edge → List ℕ
 sides_of edges = filter (λ f. not (f == 0)) (all_sides edges)
 

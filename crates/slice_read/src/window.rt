@@ -147,9 +147,9 @@ fn faces_beside(alloc: Global, tree: &FaceTree, edges: &[Edge]) -> Result<List<F
     rows_of(alloc, tree, &faces)
 }
 
-/// The window of the slice after k steps: the edges whose bounding box meets the closed window, by key, and the faces that
-/// stand beside one of them, without the outside, by number. It is made of what the boxes of all edges tell and not of the
-/// whole slice. Of a window whose ends are out of order it is what the same tests leave.
+/// The window of the slice after k steps: the edges, by key, whose bounding box overlaps or touches the window, and the faces
+/// that stand beside one of them, without the outside, by number. It is made of what the boxes of all edges tell and not of
+/// the whole slice. Where the ends of the window are out of order it is what the same tests leave.
 pub fn window_at(alloc: Global, built: &Built, k: u32, area: Window) -> Result<Slice, ReadFail>
     // It is the window of the slice by the definition.
     ensures exact { IfOk result (λ s. s ≡ window_of area (slice built.now k)) }

@@ -20,7 +20,7 @@ ReplacedAgreesRound =
     → (v : Point) → AgreeRound v (before ++ record e { points = front ++ a ∷ b ∷ c ∷ rest } ∷ after)
     → AgreeRound v (before ++ record e { points = front ++ a ∷ c ∷ rest } ∷ after)
 
--- and so after a sweep
+-- the faces round a node of sound edges still agree after a sweep
 abbrev pub SweepKeepsNodes : Type 0
 SweepKeepsNodes =
     (ratio : ℕ) (area : ℤ) (made : ℕ) (edges : List Edge) → AreSound edges

@@ -34,8 +34,8 @@ SlicesStayPartitions =
     (m : BaseMap) → IsTrue (is_base m) → IsPartition (base_segments m) → (k : ℕ) → k ≤ length (history_of m)
     → IsPartition (edge_segments (slice m k).edges)
 
--- Outside the triangles of all vertices that were removed by then, a point between whole abscissas is inside a face of the slice
--- exactly where it is inside one of the base faces that the face was made of.
+-- Outside the triangles of all vertices that were removed by then, a face of the slice covers what its base faces cover: between
+-- whole abscissas a point is inside the face exactly if one of them has it inside.
 abbrev pub FacesStayUnions : Type 0
 FacesStayUnions =
     (m : BaseMap) → IsTrue (is_base m) → IsPartition (base_segments m) → (k : ℕ) → k ≤ length (history_of m) → (f : ℕ) → f ≢ 0

@@ -7,7 +7,7 @@ pub fn replaced_agrees_round()
     ensures { ReplacedAgreesRound }
 {}
 
-/// And so after a sweep.
+/// The faces round a node still agree after a sweep.
 pub fn sweep_keeps_nodes()
     ensures { SweepKeepsNodes }
 {}

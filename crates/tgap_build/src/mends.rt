@@ -81,7 +81,8 @@ fn has_side_of(loser: u32, pieces: &[Piece]) -> bool
     false
 }
 
-/// Whether the mend says more than that an edge gets the winner: it has a put, more than one piece, or the loser's side.
+/// Whether the mend says more than that an edge gets the winner: it puts a point in, or cuts the edge, or gives a piece to
+/// the loser.
 fn is_needed(loser: u32, mend: &Mend) -> bool
     ensures { result ≡ is_needed loser mend.now }
 {

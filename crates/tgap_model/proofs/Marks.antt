@@ -120,7 +120,7 @@ pub is_arc-faces : (n : ℕ) (a : BaseArc) → is_arc n a ≡ true → (a.left �
 unfolding is_arc
 is_arc-faces n a h = grind (arith, nat_tests)
 
--- the same of the arc at a place
+-- the arc at a place has two of the n faces or the outside at its sides
 pub arc-faces : (n : ℕ) (arcs : List BaseArc) (i : ℕ) (a : BaseArc) → IsTrue (list_all (is_arc n) arcs) → i < length arcs → a ≡ get_or arcs i a
     → (a.left ≤ n) × (a.right ≤ n)
 arc-faces n arcs i a h l e = is_arc-faces n a (ap (is_arc n) e ∙ and_at (list_all (is_arc n)) (is_arc n) refl (λ _ _. refl) arcs i a l h)

@@ -8,7 +8,7 @@ use Rattle.tgap_model.specs.declared.base.Rules.{Rules}
 use Rattle.tgap_model.specs.declared.base.BaseArc.{BaseArc}
 use Rattle.tgap_model.specs.declared.limits.TheConstants.{MAX_COORDINATE, MAX_POINTS, MAX_ARCS, MAX_FACES, MAX_CLASSES, MAX_WEIGHT, MAX_COMPATIBILITY, MAX_RATIO}
 
--- A base map as contracts see it. The class of face f stands at place f - 1 of the classes.
+-- A base map as contracts see it. The list of classes begins with that of face 1 and goes on in order of number.
 pub record BaseMap : Type 0 where
   pub transform : Transform
   pub rules : Rules
@@ -58,7 +58,7 @@ is_arc n a =
 abbrev pub borders_face : ℕ → BaseArc → Bool
 borders_face f a = (a.left == f) || (a.right == f)
 
--- each face from 1 to n is the left or right face of some arc
+-- no face from 1 to n is without an arc that has it at one of its sides
 abbrev pub all_faces_bordered : ℕ → List BaseArc → Bool
 all_faces_bordered n arcs = list_all (λ f. list_any (borders_face f) arcs) (range_with_len 1 n)
 

@@ -111,8 +111,8 @@ is_maximal h k chain =
     is_closed h.base.arcs chain
     || (not (degree h k (chain_start h.base.arcs chain) == 2) && not (degree h k (chain_end h.base.arcs chain) == 2))
 
--- A chain that closes at a node of degree two starts and ends at its anchor: the node that came last to degree two, of those
--- the greatest.
+-- Where a chain closes at a node of degree two, that node is its anchor: of the nodes of the chain that came last to degree
+-- two, the greatest.
 abbrev pub is_anchored : MergedMap → ℕ → Chain → Bool
 is_anchored h k chain =
     not (is_closed h.base.arcs chain) || not (degree h k (chain_start h.base.arcs chain) == 2)

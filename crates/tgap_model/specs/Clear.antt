@@ -10,7 +10,7 @@ use Rattle.tgap_model.specs.Point.{side}
 abbrev pub is_base_corner : Point → Point → Point → Bool
 is_base_corner a c p = same_point p a || same_point p c
 
--- The point lies strictly on the side of the line from u to v away from w; a corner a or c may lie on the line.
+-- The line from u to v runs between the point and w; where the point is the corner a or c, it may also be on that line.
 abbrev pub lies_away : Point → Point → Point → Point → Point → Point → Bool
 lies_away a c u v w p =
     (not (int_eq (side u v p) (pos 0)) && int_eq (side u v p) (neg_ℤ (side u v w)))
@@ -20,7 +20,8 @@ lies_away a c u v w p =
 abbrev pub is_beyond : Point → Point → Point → Point → Point → Seg → Bool
 is_beyond a c u v w s = lies_away a c u v w s.a && lies_away a c u v w s.b
 
--- the corner lies strictly on the side z of the segment's line; an a or c that is an end of the segment may lie on the line
+-- The corner lies strictly on the side z of the segment's line. The corners a and c may also lie on that line where they are
+-- an end of the segment.
 abbrev pub is_at_side : Point → Point → Seg → ℤ → Point → Bool
 is_at_side a c s z v = int_eq (side s.a s.b v) z || (is_base_corner a c v && (same_point v s.a || same_point v s.b))
 
@@ -28,8 +29,8 @@ is_at_side a c s z v = int_eq (side s.a s.b v) z || (is_base_corner a c v && (sa
 abbrev pub is_beside : Point → Point → Point → Seg → ℤ → Bool
 is_beside a b c s z = is_at_side a c s z a && is_at_side a c s z b && is_at_side a c s z c
 
--- A triangle a, b, c with area is clear of a segment: at most one end of the segment is a or c, and the line of a side of the
--- triangle has the segment on the other side, or the line of the segment has the triangle on one side.
+-- The segment keeps out of the triangle a, b, c, which has area: not both ends of the segment are among a and c, and a line
+-- parts the two, either that of a side of the triangle or that of the segment.
 unfoldable pub is_clear : Point → Point → Point → Seg → Bool
 is_clear a b c s =
     not (is_base_corner a c s.a && is_base_corner a c s.b)

@@ -64,7 +64,7 @@ face_reached u ss zero = u
 face_reached u [] (suc i) = u
 face_reached u (s ∷ ss) (suc i) = face_reached s.lower ss i
 
--- the same below the outside
+-- the face that is reached from above at place i, where the outside is above all
 abbrev pub face_above : List Sides → ℕ → ℕ
 face_above ss i = face_reached 0 ss i
 

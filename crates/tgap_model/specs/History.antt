@@ -1,4 +1,4 @@
--- The merge history: the least important face is merged into its most compatible neighbour, again and again.
+-- The merge history: at each step the face of least importance joins the neighbour that suits it best.
 -- From: van Oosterom, Variable-scale topological data structures suitable for progressive data transfer (2005); the measure of
 -- importance and the order of ties are this project's.
 use Rattle.std.specs.Prelude.{◌≡◌, ◌≢◌, ◌<◌, ◌≤◌, ℕ, zero, suc, ◌+◌, ◌-◌, ◌*◌, Bool, ◌&&◌, ◌||◌, not, ℤ, pos, ◌+ℤ◌, ◌-ℤ◌, ◌*ℤ◌, int_lt, nat_lt, ◌==◌, List, [], ◌∷◌, ◌++◌, map, length, slice_index, fold, sum_by, flat_map, Option, Some, None, if◌then◌else◌, IsTrue, IsFalse}

@@ -13,7 +13,7 @@ borders f left right = ((left == f) && not (right == f)) || ((right == f) && not
 abbrev pub crosses_ray : Fraction → LabelledSegment → Bool
 crosses_ray p s = crosses (line_through p) s.segment && is_above s.segment p
 
--- A point is inside a face: an odd number of the face's border segments cross the ray up from it. This is asked of points
--- whose x is not whole and that lie on no segment, and of faces other than 0.
+-- A point is inside a face where the ray up from it crosses an odd number of the segments that border the face. This is meant
+-- for faces other than 0 and for points off every segment, with an x that is no whole number.
 unfoldable pub is_inside : List LabelledSegment → ℕ → Fraction → Bool
 is_inside segments f p = is_odd (count_by (λ s. crosses_ray p s && borders f s.left s.right) segments)

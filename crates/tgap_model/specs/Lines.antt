@@ -1,4 +1,4 @@
--- How a text is read: line after line, up to the first line that is not of its form.
+-- How a text is read: one line after another, until a line is out of form.
 use Rattle.std.specs.Prelude.{ℕ, ◌+◌, ◌-◌, ◌^◌, min, Bool, false, List, [], ◌∷◌, bytes_eq, Option, Some, None, option_and_then, Result, Ok, Err}
 use Rattle.std.specs.Option.{ok_or}
 use Rattle.tgap_model.specs.Texts.{rows_of}

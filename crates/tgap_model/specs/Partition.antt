@@ -88,7 +88,7 @@ meeting_from i (s ∷ ss) =
 
 -- ---- third property: round a node, each spoke's left face is the next one's right face
 
--- an end of an arc at a node, seen as leaving the node
+-- an arc's way out of a node: where it first goes, and the faces at its left and right on that way
 pub record Spoke : Type 0 where
   pub toward : Point
   pub left : ℕ
@@ -100,7 +100,7 @@ spokes_of v s =
     (if s.starts && same_point s.segment.a v then record { toward = s.segment.b; left = s.left; right = s.right } ∷ [] else [])
     ++ (if s.ends && same_point s.segment.b v then record { toward = s.segment.a; left = s.right; right = s.left } ∷ [] else [])
 
--- the spokes at a node, counter-clockwise, the direction of positive x first
+-- the spokes at a node by their direction, counter-clockwise from that of positive x on
 abbrev pub spokes_at : Point → List LabelledSegment → List Spoke
 spokes_at v segments = sort_by (λ p q. turns_before v p.toward q.toward) (flat_map (spokes_of v) segments)
 
@@ -170,14 +170,14 @@ all_but_last (x ∷ y ∷ ys) = x ∷ all_but_last (y ∷ ys)
 
 -- ---- the properties together
 
--- The first three: two segments have no point in common but a permitted one, the two faces of a segment differ, and round each
+-- The first three: where two segments meet, the point is a permitted one, a segment has two different faces, and round each
 -- node the faces agree.
 pub record AgreesAtNodes (segments : List LabelledSegment) : Type 0 where
   pub apart : AllPairs AreApart segments
   pub two_faces : All (λ s. (s.left == s.right) ≡ false) segments
   pub nodes : (v : Point) → node_fault segments v ≡ None
 
--- A list of labelled segments is a planar partition: all this, and down each line between whole abscissas the faces agree.
+-- Labelled segments form a planar partition: all this, and down each line between whole abscissas the faces agree.
 pub record IsPartition (segments : List LabelledSegment) : Type 0 where
   pub arcs : AgreesAtNodes segments
   pub stacks : (l : Line) → IsBetweenColumns l → agree_from 0 (map sides (stack l segments)) ≡ true

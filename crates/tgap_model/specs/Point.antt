@@ -3,11 +3,11 @@ use Rattle.std.specs.Prelude.{ℕ, ◌+◌, ℤ, pos, ◌+ℤ◌, ◌-ℤ◌, �
 use Rattle.std.specs.Int.{int_signum}
 use Rattle.tgap_model.specs.declared.geometry.Point.{Point}
 
--- (bx - ax)(cy - ay) - (by - ay)(cx - ax)
+-- the cross product of the vectors from a to b and from a to c
 abbrev pub cross : Point → Point → Point → ℤ
 cross a b c = (b.x -ℤ a.x) *ℤ (c.y -ℤ a.y) -ℤ (b.y -ℤ a.y) *ℤ (c.x -ℤ a.x)
 
--- 1 where c is left of the line from a to b, -1 where it is right of it, 0 where it is on it
+-- where c is, for one who goes from a to b: 1 is at the left, -1 at the right, 0 on the line
 abbrev pub side : Point → Point → Point → ℤ
 side a b c = int_signum (cross a b c)
 

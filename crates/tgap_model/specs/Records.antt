@@ -1,5 +1,5 @@
 -- Refinement records: how a slice is led back to the slice one step before it.
--- From: Meijers (2011): the coarse slice first, and refinement steps after it. The records are this project's.
+-- From: Meijers (2011), where a coarse slice is sent first and is then refined step by step. The records are this project's.
 use Rattle.std.specs.Prelude.{ℕ, zero, suc, ◌+◌, ◌-◌, Bool, true, false, ◌&&◌, ◌||◌, not, nat_le, nat_lt, ◌==◌, List, [], ◌∷◌, ◌++◌, map, flat_map, filter, find, take, drop, reverse, length, insert, slice_index_or, fold, Option, Some, None, if◌then◌else◌}
 use Rattle.std.specs.List.{list_all, list_any}
 use Rattle.lemmas.specs.Sorting.{insert_by, sort_by, is_sorted_by}
@@ -69,7 +69,7 @@ pieces_from h j at_left finer before first ([] ∷ more) = pieces_from h j at_le
 pieces_from h j at_left finer before first ((d ∷ run) ∷ more) =
     let p = piece_of h j at_left finer before first d (d ∷ run) in p ∷ pieces_from h j at_left finer before p.last more
 
--- the mend is needed: it has a put, more than one piece, or the loser's side
+-- the mend is needed: it puts a point in, or cuts the edge, or gives a piece to the loser
 abbrev pub is_needed : ℕ → Mend → Bool
 is_needed loser m =
     nat_lt 0 (length m.puts) || nat_lt 1 (length m.pieces) || list_any (λ p. p.side == loser) m.pieces
@@ -86,7 +86,8 @@ mend_of h j finer before now c =
     } in
     if has_side (step_number h j).made e && is_needed (step_number h j).loser m then m ∷ [] else []
 
--- The record of step j, which leads from the slice at j to the slice at j - 1. It is meant for j from 1 to the last step.
+-- The record by which step j is undone: it makes of the slice at j that of the step before. It is meant for j from 1 to the
+-- last step.
 abbrev pub step_record : MergedMap → ℕ → StepRecord
 step_record h j =
     let s = step_number h j in
@@ -201,7 +202,7 @@ edge_with s k = find (λ e. e.key == k) s.edges
 abbrev pub has_one_side : ℕ → Edge → Bool
 has_one_side f e = ((e.left == f) && not (e.right == f)) || ((e.right == f) && not (e.left == f))
 
--- 3. the keys of the mends ascend, and each names an edge that has the new face on exactly one side
+-- 3. the mends stand by ascending key, and each names an edge that has the new face on exactly one side
 abbrev pub fits_mends : Slice → StepRecord → Bool
 fits_mends s r =
     keys_ascend (map (λ m. m.key) r.mends)
@@ -234,8 +235,8 @@ abbrev pub starts_after_zero : List ℕ → Bool
 starts_after_zero [] = false
 starts_after_zero (k ∷ places) = nat_le 1 k
 
--- 5. each mend has a piece; their last places ascend from 1 on to the last place of the edge after its puts; each side is
--- loser or winner
+-- 5. each mend has a piece; their last places ascend, begin at 1 or above, and end where the edge does when its puts are made;
+-- no piece has another side than the loser or the winner
 abbrev pub fits_pieces : Slice → StepRecord → Bool
 fits_pieces s r =
     list_all (λ m. let places = map (λ p. p.last) m.pieces in
@@ -243,7 +244,7 @@ fits_pieces s r =
     && elim (edge_with s m.key) [ None ↦ true | Some e ↦ ends_with_place (length e.points + length m.puts - 1) places ]
     && list_all (λ p. (p.side == r.loser) || (p.side == r.winner)) m.pieces) r.mends
 
--- 6. the keys of the ended edges ascend, and each has loser and winner on its sides
+-- 6. the ended edges stand by ascending key, each between the loser and the winner
 abbrev pub fits_ended : Slice → StepRecord → Bool
 fits_ended s r = keys_ascend (map (λ e. e.key) r.ended) && list_all (is_edge_between r.loser r.winner) r.ended
 

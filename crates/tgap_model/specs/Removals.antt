@@ -76,7 +76,8 @@ live_segments edges = flat_map (λ e. path e.points) edges
 abbrev pub has_side : ℕ → Edge → Bool
 has_side f e = (e.left == f) || (e.right == f)
 
--- The edges that border the new face are swept once each, in order of key; those before were swept already. What is removed.
+-- What a sweep removes that goes once through the edges, by key, and skips those without the new face at a side; the edges
+-- before were swept already.
 abbrev pub sweep_edges : ℕ → ℤ → ℕ → List Edge → List Edge → List Point
 sweep_edges ratio area made before [] = []
 sweep_edges ratio area made before (e ∷ edges) =

@@ -45,7 +45,8 @@ shoelace_named arcs i = if is_reversed i then neg_ℤ (shoelace (points_named ar
 
 -- ---- a ring
 
--- the first place, from this one on, whose arc does not end where the next one starts; after the last arc comes the first
+-- the first place, from this one on, with a gap between the end of its arc and the start of the arc after it; after the last
+-- arc comes the first
 abbrev pub open_from : List (List Point) → ℤ → ℕ → List ℤ → Option ℕ
 open_from arcs first place [] = None
 open_from arcs first place (i ∷ []) = if same_point (end_named arcs i) (start_named arcs first) then None else Some place
@@ -87,7 +88,7 @@ side_taken false a f taken =
     ensured (slice_index taken.right a == 0) (SideTaken a 1 (slice_index taken.right a) f)
     >>= λ free. Ok (record { classes = taken.classes; left = taken.left; right = slice_set taken.right a f })
 
--- The next arc of a ring that has face f on its left, or else on its right. An arc of one point has no sides.
+-- The next arc of a ring that has face f on its left, or else on its right. Of an arc of one point no side is taken.
 abbrev pub index_taken : List (List Point) → Bool → ℕ → Taken → ℤ → Result Taken MapFault
 index_taken arcs on_left f taken i =
     if nat_lt (length (points_named arcs i)) 2 then Ok taken

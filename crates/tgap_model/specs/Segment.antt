@@ -28,7 +28,7 @@ lies_between u v n d =
 abbrev pub cross_at : Point → Point → Fraction → ℤ
 cross_at a b p = (b.x -ℤ a.x) *ℤ (p.ny -ℤ p.d *ℤ a.y) -ℤ (b.y -ℤ a.y) *ℤ (p.nx -ℤ p.d *ℤ a.x)
 
--- A rational point lies on a segment: its orientation against the ends is 0, and both coordinates lie between those of the ends.
+-- A segment holds a rational point: it is on the line through the ends, and each of its coordinates is in the range of theirs.
 abbrev pub is_on : Fraction → Seg → Bool
 is_on p s = int_eq (cross_at s.a s.b p) (pos 0) && lies_between s.a.x s.b.x p.nx p.d && lies_between s.a.y s.b.y p.ny p.d
 
@@ -104,7 +104,7 @@ pub record HaveInCommon (s t : Seg) (shared : Shared) (p : Fraction) : Type 0 wh
   pub second : is_on p t ≡ true
   pub forbidden : is_permitted shared s t p ≡ false
 
--- Two segments have no rational point in common.
+-- No rational point lies on both segments.
 abbrev pub AreDisjoint : Seg → Seg → Type 0
 AreDisjoint s t = (p : Fraction) → pos 0 <ℤ p.d → is_on p s ≡ true → is_on p t ≡ false
 
@@ -114,7 +114,7 @@ AreDisjoint s t = (p : Fraction) → pos 0 <ℤ p.d → is_on p s ≡ true → i
 abbrev pub half_turn : Point → Point → ℕ
 half_turn o p = if int_lt o.y p.y || (int_eq o.y p.y && int_lt o.x p.x) then 0 else 1
 
--- the direction from o to p comes before that from o to q
+-- round o, the direction towards p is met before the one towards q
 unfoldable pub turns_before : Point → Point → Point → Bool
 turns_before o p q = nat_lt (half_turn o p) (half_turn o q) || ((half_turn o p == half_turn o q) && int_lt (pos 0) (cross o p q))
 
@@ -142,7 +142,7 @@ line_through p = record { a = p.nx; c = p.d }
 abbrev pub passes : Line → ℤ → ℤ → Bool
 passes l u v = int_lt (l.c *ℤ u) l.a && int_lt l.a (l.c *ℤ v)
 
--- A line crosses a segment: the abscissas of its ends lie on different sides of the line.
+-- A line crosses a segment: one end is at its left and the other at its right.
 abbrev pub crosses : Line → Seg → Bool
 crosses l s = passes l s.a.x s.b.x || passes l s.b.x s.a.x
 

@@ -16,7 +16,7 @@ use Rattle.tgap_model.specs.Base.{in_limits, no_repeat}
 abbrev pub is_number : ℕ → Bool
 is_number n = nat_lt n (2 ^ 32)
 
--- an edge of at least two points within the limits, no two in a row equal
+-- an edge of two or more points within the limits, each other than the one before it
 abbrev pub is_edge_row : Edge → Bool
 is_edge_row e =
     is_number e.key && is_number e.left && is_number e.right && is_number (length e.points)

@@ -1,5 +1,5 @@
--- How the texts of slices and packets are read: line after line, up to the first line that is not of its form. `bad` gives
--- the fault of the line with a number.
+-- How the texts of slices and packets are read: one line after another, until a line is out of form. `bad` gives the fault of
+-- the line with a number.
 use Rattle.std.specs.Prelude.{◌≡◌, ℕ, zero, suc, ◌+◌, ◌-◌, ◌^◌, ◌==◌, List, [], ◌∷◌, codes, IsTrue, Option, Some, Result, Ok, Err, if◌then◌else◌}
 use Rattle.std.specs.Option.{ok_or}
 use Rattle.tgap_model.specs.declared.slice.Edge.{Edge}
@@ -75,8 +75,8 @@ read_mend_head row = do
   pieces ← count_at puts.1
   ended (key.0, puts.0, pieces.0) pieces.1
 
--- The faces and classes of step j: the loser and its class, the winner and its class, and the new face; and how many mends the
--- step has, and how many edges come back.
+-- The first line of step j: loser and winner, each before its class, then the new face, then how many mends follow and how
+-- many edges come back.
 unfoldable pub read_step_head : ℕ → Row → Option (ℕ × ℕ × ℕ × ℕ × ℕ × ℕ × ℕ)
 read_step_head j row = do
   start ← after_word (codes "step") row
@@ -180,7 +180,7 @@ last_at bad lines = read_line bad (read_words (codes "end" ∷ [])) lines or>>= 
 
 -- ---- the whole text
 
--- the slice of which the bytes are the text, or the fault of the first line that is not of its form
+-- the slice of which the bytes are the text, or the fault of the first line that is out of form
 unfoldable pub slice_of_text : {F : Type 0} → (ℕ → F) → List ℕ → Result Slice F
 slice_of_text bad bytes =
     count_line_at bad (codes "slice") (all_lines bytes) or>>= λ step.
@@ -191,7 +191,7 @@ slice_of_text bad bytes =
     last_at bad edges.1 or>>= λ end.
     Ok (record { step = step.0; faces = faces.0; edges = edges.0 })
 
--- the packet of which the bytes are the text, or the fault of the first line that is not of its form
+-- the packet of which the bytes are the text, or the fault of the first line that is out of form
 unfoldable pub packet_of_text : {F : Type 0} → (ℕ → F) → List ℕ → Result Packet F
 packet_of_text bad bytes =
     read_line bad read_packet_head (all_lines bytes) or>>= λ head.

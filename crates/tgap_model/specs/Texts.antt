@@ -14,8 +14,8 @@ abbrev pub word_value : List ℕ → ℤ
 word_value [] = pos 0
 word_value (b ∷ bs) = if b == 45 then neg_ℤ (pos (digits_value 10 bs)) else pos (digits_value 10 (b ∷ bs))
 
--- The number from least to most that a word spells in canonical decimal: the word is how that number is written, with no
--- plus sign, no leading zero and no -0.
+-- The number from least to most that a word spells in canonical decimal: the word is just what is written for that number, so
+-- that +1, 01 and -0 spell none.
 unfoldable pub number_of : ℤ → ℤ → List ℕ → Option ℤ
 number_of least most word =
     if bytes_eq word (signed_decimal (word_value word)) && within least most (word_value word) then Some (word_value word) else None

@@ -21,7 +21,7 @@ abbrev pub number_at : ℤ → ℤ → Row → Option (ℤ × Row)
 number_at least most [] = None
 number_at least most (w ∷ row) = number_of least most w >>= λ z. Some (z, row)
 
--- the same of a number without a sign
+-- a number from least to most, both not negative, and what stands after it
 abbrev pub natural_at : ℕ → ℕ → Row → Option (ℕ × Row)
 natural_at least most row = number_at (pos least) (pos most) row >>= λ z. Some (unsigned_abs z.0, z.1)
 

@@ -104,7 +104,7 @@ impl Base {
         &self.rules
     }
 
-    /// The class of each face; that of face f stands at place f - 1.
+    /// The class of each face, in order of number from face 1 on.
     pub fn classes(&self) -> &List<u32>
         ensures value { result.now ≡ self.now.classes }
         ensures base { IsTrue (is_base self.now) }

@@ -82,7 +82,7 @@ pub enum MapFault {
         which: LimitKind,
         count: u64,
     },
-    /// An arc of a ring does not end where the next one starts.
+    /// In a ring there is a gap between the end of an arc and the start of the next.
     RingOpen {
         ring: u32,
         place: u32,

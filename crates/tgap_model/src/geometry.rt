@@ -1,6 +1,7 @@
 //! Points of the plane, in grid units.
 
-/// A point with whole coordinates, in grid units; y grows upwards. Points are ordered by x, then y.
+/// A point with whole coordinates, in grid units; up is towards greater y. Of two points the one with less x comes
+/// first, or with the same x the one with less y.
 #[derive(Clone, Copy, Debug, PartialEq, Eq, PartialOrd, Ord)]
 pub struct Point {
     pub x: i64,

@@ -83,8 +83,8 @@ pub fn are_without_repeat(points: &[Point]) -> bool
     true
 }
 
-/// Whether this is an arc of a map with so many faces: two different faces at its sides, and two or more points
-/// within the limits, no two in a row one.
+/// Whether this is an arc of a map with so many faces: two different faces at its sides, and two or more points within
+/// the limits, each other than the one before it.
 #[tactic(auto, unfolding(crate::specs::Base::is_arc))]
 fn is_valid_arc(faces: usize, arc: &BaseArc) -> bool
     ensures { result ≡ is_arc faces arc.now }

@@ -27,7 +27,7 @@ const MAX_DEPTH: u32 = 128;
 /// `property` is what names the classes of its geometries. It is one pass over the geometries and their indexes.
 ///
 /// The faults come in the order of the walk, geometries and rings being numbered from 0 on as they are met:
-/// - `Shape` 8, where a geometry is no object, or a collection has no array of geometries;
+/// - `Shape` 8, where a geometry is something other than an object, or a collection has no array of geometries;
 /// - `Shape` 9, where the indexes of a geometry are no arrays of whole numbers, nested as its type asks;
 /// - `ArcIndex`, at the first index of its rings that names no arc.
 pub(crate) fn read_geometry(

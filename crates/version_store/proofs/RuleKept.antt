@@ -61,7 +61,7 @@ module _ {V : Type 0} (number : V → ℕ) (limit : ℕ) where
         r.apart i j p.0 q.0 p.1 q.1 (subst (λ (k : ℕ). 0 < k) p.2 pos) (sym p.2 ∙ same ∙ q.2);
   }
 
-  -- the same where the table stays
+  -- a place knows something else, and the table stays
   stays : (s : St) (r : Kept number limit s) (id : ℕ) (d d' : Known V) (words : List ℕ) → get_elem? s.views id ≡ some d → d'.role ≡ d.role → words ≡ length r.list ∷ []
       → Fits limit r.seats r.list s.homes d' → Kept number limit record { words = words; homes = s.homes; views = set s.views id d' }
   stays s r id d d' words at role word mine = renewed s r id d d' r.list r.seats words s.homes at role word r.slots r.room r.few r.numbered mine (λ e _ f. f)

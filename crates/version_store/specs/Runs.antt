@@ -36,7 +36,7 @@ published_maps (t ∷ ts) = publish t.event t.outcome (published_maps ts)
 
 -- ---- commits
 
--- A commit is published exactly where its actor has pinned the newest version and there is room for one more.
+-- A commit becomes a version exactly where its actor has pinned the newest one and there is room for one more.
 abbrev pub IsPublishedRight : Turn → Type 0
 IsPublishedRight t =
     (actor : ℕ) (base : BaseMap) → t.event ≡ Commit actor base
@@ -54,8 +54,7 @@ abbrev pub last_pinned : ℕ → Option ℕ → List Turn → Option ℕ
 last_pinned actor last [] = last
 last_pinned actor last (t ∷ ts) = last_pinned actor (pinned_by actor last t.event t.outcome) ts
 
--- A read of an actor that has a pin is answered from the version that it pinned last, by a pin or a published commit, or before
--- these turns.
+-- An actor with a pin reads from the version that it pinned last, by a pin or a published commit, or before these turns.
 abbrev pub ReadsRight : Versions → List Turn → Type 0
 ReadsRight v ts =
     (earlier later : List Turn) (t : Turn) (actor n : ℕ) → ts ≡ earlier ++ t ∷ later → t.event ≡ Read actor → pin_of t.before actor ≡ Some n

@@ -1,4 +1,4 @@
-//! A store that has no name yet.
+//! A store before it is opened under its name.
 
 ghost use Rattle.std.specs.Prelude.{◌≡◌, ◌<◌, ◌≤◌, ◌*◌, [], ◌∷◌};
 ghost use Rattle.std.specs.Arc.{arc_value};

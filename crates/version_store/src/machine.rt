@@ -171,7 +171,7 @@ impl Machine {
         ensures told { IfOk result (λ outcomes. outcomes ≡ map (λ t. t.outcome) (turns self.old events)) }
         // The history only grows, by the map of each commit that is published.
         ensures grows { IfOk result (λ outcomes. self.new.history ≡ self.old.history ++ published_maps (turns self.old events)) }
-        // A commit is published exactly where its actor's pin is the newest version and there is room.
+        // A commit becomes a version exactly where its actor has pinned the newest one and there is room.
         ensures published { All IsPublishedRight (turns self.old events) }
         // A read is answered from the version that its actor pinned last.
         ensures read { ReadsRight self.old (turns self.old events) }

@@ -1,4 +1,4 @@
-//! What each step tells. These types are for the proofs alone.
+//! A type for each step on the table, whose ghosts are what the step tells. No value of these types is made.
 
 ghost use Rattle.std.specs.Prelude.{[]};
 ghost use Rattle.version_store.specs.Rule.{with_seat, new_seat, note, hearing};

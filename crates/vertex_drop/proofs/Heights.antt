@@ -28,7 +28,7 @@ module _ (m n : ℤ) (k l p q : Point) where
   turn_at_first = same_value values ((height_of 1 ⊖ height_of 0) ⊗ cross 2 3 0)
       ((height_of 2 ⊖ height_of 0) ⊗ cross 0 1 3 ⊖ (height_of 3 ⊖ height_of 0) ⊗ cross 0 1 2) refl
 
-  -- the same about its last point
+  -- the turn from p to q about the last point of the line
   turn_at_last : (height m n l -ℤ height m n k) *ℤ cross_of p q l
       ≡ (height m n p -ℤ height m n l) *ℤ cross_of k l q -ℤ (height m n q -ℤ height m n l) *ℤ cross_of k l p
   turn_at_last = same_value values ((height_of 1 ⊖ height_of 0) ⊗ cross 2 3 1)
@@ -65,7 +65,7 @@ turn_by_up d t g i x y z h k l a b e =
     ∙ ap (λ (o : ℤ). d *ℤ o) e
     ∙ same_value (d ∷ g ∷ i ∷ x ∷ y ∷ []) (var 0 ⊗ (var 1 ⊗ var 3 ⊖ var 2 ⊗ var 4)) (var 1 ⊗ (var 0 ⊗ var 3) ⊖ var 2 ⊗ (var 0 ⊗ var 4)) refl))
 
--- the same where the line goes down, q is beyond it and p is not
+-- that turn has the sign of d also where the line goes down, q is beyond it and p is not
 turn_by_down : (d t g i x y z : ℤ) → t ≤ℤ pos 0 → pos 0 <ℤ g → pos 0 <ℤ i → (d *ℤ x) <ℤ pos 0 → pos 0 ≤ℤ (d *ℤ y)
     → t *ℤ z ≡ g *ℤ x -ℤ i *ℤ y → pos 0 <ℤ (d *ℤ z)
 turn_by_down d t g i x y z h k l a b e = turn_by_up d (neg_ℤ t) i g y x z (neg_not_negative h) l k b a

@@ -17,7 +17,7 @@ pub line_found : {A F : Type 0} (bad : ℕ → F) (read : Row → Option A) (lin
 line_found {A} {F} bad read lines rest n taken x number e h =
     ap (λ (o : Option (A × Lines)). ok_or o (bad lines.number)) (found taken x rest (read_row read lines) (Fault (bad n)) e h)
 
--- the fault of a line that is not of its form
+-- the fault of a line that is out of form
 pub line_refused : {A F : Type 0} (bad : ℕ → F) (read : Row → Option A) (lines rest : Lines) (n : ℕ) (taken : Option A) (f : Or F)
     → n ≡ lines.number → Err f ≡ ok_or taken (Fault (bad n)) → Reads taken rest (read_row read lines) → Refuses f (read_line bad read lines)
 line_refused {A} {F} bad read lines rest n taken f number e h =

@@ -394,7 +394,7 @@ record_plain r h =
     ) refl in
     and_from _ _ head (list_all-append is_plain_row (flat_map mend_rows r.mends) (map edge_words r.ended) ∙ and_from _ _ (mends_plain r.mends facts.mends) (ended_plain r.ended facts.ended))
 
--- the same by the number that it is to have
+-- the spelling of a record is read again, by the number that it is to have
 again_at : {F : Type 0} (bad : ℕ → F) (j n : ℕ) (r : StepRecord) (rest : List Row) → rest ≢ [] → fits_record j r ≡ true
     → (after : ℕ) × (record_at bad j (lines_from n (record_rows r ++ rest)) ≡ Ok (r, lines_from after rest))
 again_at bad j n r rest some h =

@@ -16,7 +16,7 @@ use tgap_model::{Edge, List, Mend, Or, Packet, Piece, Put, StepRecord};
 
 /// The packet that a text spells, by 'Slices, windows and packets' of docs/formats.md.
 ///
-/// The fault tells the first line that is not of its form; lines are numbered from 1, and all from 4,294,967,295 on have
+/// The fault tells the first line that is out of form; lines are numbered from 1, and all from 4,294,967,295 on have
 /// that number. A count is not believed before what it counts is there: memory is taken line by line. It is one pass
 /// over the bytes, in memory of a small multiple of them.
 pub fn read_packet(alloc: Global, bytes: &[u8]) -> Result<Packet, Or<BadText>>

@@ -26,7 +26,7 @@ pub record Talk : Type 0 where
   pub put_faults : ℕ
   pub end : ConnectionEnd
 
--- the same by the link
+-- what a link tells of the connection of a visit
 abbrev pub talk_of : {L : Type 0} → OfLink.Ghosts L → Visit L → Talk
 talk_of link visit = record {
   taken_before = link.taken visit.came;

@@ -24,7 +24,7 @@ pub trait Work<B> {
         ensures end { (result ≡ DoorFailed) ↔ failed self.old self.new };
 }
 
-/// Lets all work, each in a thread of its own where one can be made.
+/// Lets all workers work side by side; where no thread more can be made, some of them work one after the other.
 pub fn work_all<P: Work<B> + Send, B: Sync, R: Threads + Wait + Sync>(
     rt: &R,
     shared: &B,

@@ -50,7 +50,7 @@ pub fn start<V: Holds + Drop>(
 impl<V: Holds + Drop> FreshOf<V, Growing> {
     /// Opens the store under its name: the press, and a seat for each place. On want of memory the store is dropped.
     ///
-    /// It is called in a function that is generic over `N`, which is called at `std::marker::Brand`, with this store's ghosts.
+    /// `N` is a parameter of the caller, and who calls that one gives `std::marker::Brand` for it, with the ghosts of this store.
     pub fn open<N: StoreName, R: Wait>(
         self,
         _rt: &R,

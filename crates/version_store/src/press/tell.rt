@@ -53,7 +53,7 @@ impl<V: Holds + Drop, N: StoreName> PressOf<V, N, Growing> {
     pub fn newest(&mut self, _alloc: Global, seat: &mut Seat<V, N>) -> Result<u64, Memory>
         // The seat has seen the press's list, whose last number is the answer.
         ensures seen { IfOk result (λ newest. (seat_versions seat.new ≡ press_versions self.new) × (newest + 1 ≡ length (press_versions self.new))) }
-        // The count of tellings that ended at this number rises by one, and no other; it stays at 2^64 - 1.
+        // The count for this number is one more, and no other changes; where it is 2^64 - 1 it stays.
         ensures counted { IfOk result (λ newest. tellings seat.new ≡ raised (tellings seat.old) newest) }
         // That count is one of those that a seat has, and is below 2^64.
         ensures sized { IfOk result (λ newest. (newest < length (tellings seat.old)) × (slice_index (tellings seat.old) newest < 2 ^ 64)) }
