@@ -22,7 +22,7 @@ pub struct TcpDoor<'a, R> {
     faults: u64,
 }
 
-impl<'a, R: Clock + Sync> TcpDoor<'a, R> {
+impl<'a, R: Clock> TcpDoor<'a, R> {
     /// A door over this listener, which waits by this clock.
     pub fn new(listener: TcpListener, clock: &'a R) -> Self
         ensures faults { ⟦<TcpDoor<'a, R> as Door>⟧.faults result ≡ 0 }
@@ -42,7 +42,7 @@ impl<'a, R: Clock + Sync> TcpDoor<'a, R> {
     }
 }
 
-impl<'a, R: Clock + Sync> Door for TcpDoor<'a, R> {
+impl<'a, R: Clock> Door for TcpDoor<'a, R> {
     type Line = TcpLink;
 
     ghost told = { λ s. None };

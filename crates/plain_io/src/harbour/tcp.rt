@@ -15,9 +15,11 @@ pub struct TcpHarbour<'a, R> {
     faults: u64,
 }
 
-impl<'a, R: Net<Listener = TcpListener, Stream = TcpStream> + Clock + Sync> TcpHarbour<'a, R> {
+impl<'a, R: Net<Listener = TcpListener, Stream = TcpStream> + Clock> TcpHarbour<'a, R> {
     /// The ports that this runtime reaches.
     pub fn new(rt: &'a R) -> Self
+    where
+        R: Sync,
         ensures { ⟦<TcpHarbour<'a, R> as Harbour>⟧.faults result ≡ 0 }
     {
         TcpHarbour { rt, faults: 0 }
@@ -55,7 +57,7 @@ impl<'a, R: Net<Listener = TcpListener, Stream = TcpStream> + Clock + Sync> Harb
 }
 
 /// So many doors, which share one listener at that port of this machine.
-fn open<'a, R: Net<Listener = TcpListener, Stream = TcpStream> + Clock + Sync>(
+fn open<'a, R: Net<Listener = TcpListener, Stream = TcpStream> + Clock>(
     rt: &'a R,
     alloc: Global,
     port: u16,
