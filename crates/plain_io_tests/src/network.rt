@@ -1,9 +1,12 @@
 //! Links, doors and harbours of the network, over loopback.
 
-use plain_io::{Arrival, Door, Failed, Harbour, Link, TcpDoor, TcpHarbour, TcpLink};
+use plain_io::{
+    Arrival, ConnectionEnd, Door, EndKind, Failed, Harbour, Link, TcpDoor, TcpHarbour, TcpLink,
+};
 use std::io::{Read, Write};
-use std::net::{TcpListener, TcpStream};
+use std::net::{Shutdown, TcpListener, TcpStream};
 use std::test::Fail;
+use tgap_model::List;
 
 #[test]
 fn a_link_over_the_network(rt: HostRuntime) -> Result<(), Fail> {
@@ -36,7 +39,7 @@ fn a_link_over_the_network(rt: HostRuntime) -> Result<(), Fail> {
 
 #[test]
 fn a_door_over_the_network(rt: HostRuntime) -> Result<(), Fail> {
-    let mut door = TcpDoor::new(TcpListener::bind(&rt, "127.0.0.1:0")?);
+    let mut door = TcpDoor::new(TcpListener::bind(&rt, "127.0.0.1:0")?, &rt);
     let mut peer = TcpStream::connect(&rt, ("127.0.0.1", door.port()?))?;
     peer.write(b"ab")?;
     let Arrival::Came(mut link) = door.next() else {
@@ -46,6 +49,32 @@ fn a_door_over_the_network(rt: HostRuntime) -> Result<(), Fail> {
     assert_eq!(rt; link.take(&mut buf)?, 2);
     assert_eq!(rt; &buf[..2], b"ab".as_slice());
     assert_eq!(rt; door.faults(), 0);
+    Ok(())
+}
+
+#[test]
+fn the_last_reply_comes_though_bytes_are_unread(rt: HostRuntime) -> Result<(), Fail> {
+    let mut door = TcpDoor::new(TcpListener::bind(&rt, "127.0.0.1:0")?, &rt);
+    let mut peer = TcpStream::connect(&rt, ("127.0.0.1", door.port()?))?;
+    peer.write(b"abc")?;
+    peer.shutdown(Shutdown::Write)?;
+    let Arrival::Came(mut link) = door.next() else {
+        return Err(Fail::from("no link came"));
+    };
+    link.put(b"no")?;
+    let end = ConnectionEnd {
+        how: EndKind::BadHead,
+        first: 0,
+        last: 0,
+        numbers: List::new(rt.alloc()),
+        rows: List::new(rt.alloc()),
+    };
+    door.done(link, end);
+    let mut buf = [0u8; 8];
+    assert_eq!(rt; peer.read(&mut buf)?, 2);
+    assert_eq!(rt; &buf[..2], b"no".as_slice());
+    // And then the end, and no reset.
+    assert_eq!(rt; peer.read(&mut buf)?, 0);
     Ok(())
 }
 
