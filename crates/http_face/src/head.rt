@@ -1,5 +1,8 @@
 //! What is told of the head of a request, and its limits.
 
+ghost use Rattle.std.specs.Prelude.{◌≡◌};
+ghost use Rattle.http_face.specs.declared.head.TheConstants.{MAX_BODY_BYTES, MAX_HEADERS, MAX_HEAD_BYTES};
+
 use tgap_model::Text;
 
 /// The greatest length of a head, in bytes.
@@ -10,6 +13,13 @@ pub const MAX_HEADERS: usize = 64;
 
 /// The greatest length of a body, in bytes.
 pub const MAX_BODY_BYTES: u32 = 1_048_576;
+
+/// The limits as numbers: definitions read the constants, and would follow a wrong one.
+pub fn limits_as_numbers()
+    ensures head { MAX_HEAD_BYTES ≡ 8192 }
+    ensures headers { MAX_HEADERS ≡ 64 }
+    ensures body { MAX_BODY_BYTES ≡ 1048576 }
+{}
 
 /// The status of a head at fault.
 pub const BAD_REQUEST: u16 = 400;

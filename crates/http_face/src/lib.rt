@@ -16,7 +16,7 @@ mod tests;
 
 pub use head::{
     BAD_REQUEST, CONTENT_TOO_LARGE, Head, HeadEnds, HeadState, MAX_BODY_BYTES, MAX_HEAD_BYTES,
-    MAX_HEADERS,
+    MAX_HEADERS, limits_as_numbers,
 };
 pub use head_reading::{head_ends, read_head};
 pub use reply::{Reply, ShortReply, reply_bytes, short_reply};

@@ -16,4 +16,4 @@ mod versions;
 
 pub use connection::serve_connection;
 pub use row::Row;
-pub use serve::MAX_REQUESTS;
+pub use serve::{MAX_REQUESTS, limit_as_number};

@@ -4,6 +4,7 @@ ghost use Rattle.std.specs.Prelude.{◌≡◌, ◌<◌, ◌≤◌, ◌+◌, ◌-
 ghost use Rattle.plain_io.specs.Faults.{Rose};
 ghost use Rattle.plain_io.specs.Puts.{Puts, CountsPut};
 ghost use Rattle.plain_io.specs.declared.connection.EndKind.TheVariants as kind;
+ghost use Rattle.session.specs.declared.serve.TheConstants.{MAX_REQUESTS};
 ghost use Rattle.session.specs.Coming.{BeginsWith, BeginsAtFault};
 ghost use Rattle.session.specs.Conversation.{Conversation, is_empty};
 ghost use Rattle.session.specs.Outcomes.{place_of};
@@ -28,6 +29,11 @@ use version_store::Pin;
 
 /// How many requests of one connection are answered.
 pub const MAX_REQUESTS: usize = 10_000;
+
+/// The limit as a number: definitions read the constant, and would follow a wrong one.
+pub fn limit_as_number()
+    ensures { MAX_REQUESTS ≡ 10000 }
+{}
 
 /// The place of an outcome in the table.
 pub(crate) fn place_of(row: Row) -> u8
