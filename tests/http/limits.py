@@ -127,14 +127,15 @@ def longest_body(tests):
 def bodies_that_are_too_long(tests):
     """The reply arrives whole, each time, though the client goes on to send."""
     with Server(tests.executable, MAP, 2, 1) as server:
-        one_more, huge = (request("POST", "/edit", b"x" * length) for length in (BODY + 1, 50_000_000))
+        one_more, huge = (b"x" * length for length in (BODY + 1, 50_000_000))
         announced = request("POST", "/edit", b"", f"Content-Length: {BODY + 1}")
         tests.same("a body of one byte too much, none of it sent", exchange(server, announced), TOO_LONG)
-        for name, sent, way in [
-            ("one byte too much", one_more, sent_first), ("one byte too much, to a client that reads meanwhile", one_more, lambda *words: sent_beside(*words)[0]),
-            ("50 MB", huge, sent_first), ("50 MB, to a client that reads meanwhile", huge, lambda *words: sent_beside(*words)[0]),
-        ]:
-            tests.same(f"a body of {name}, {TIMES} times", [way(server, sent) for _ in range(TIMES)], [TOO_LONG] * TIMES)
+        tests.same(f"half of such a body, {TIMES} times", [sent_beside(server, announced + one_more[: BODY // 2]) for _ in range(TIMES)], [(TOO_LONG, True)] * TIMES)
+        tests.same(f"a whole such body, {TIMES} times", [asked_once(server, "POST", "/edit", one_more) for _ in range(TIMES)], [(413, 0, b"too long\n")] * TIMES)
+        sent = request("POST", "/edit", huge)
+        tests.same(f"a body of 50 MB, {TIMES} times", [sent_first(server, sent) for _ in range(TIMES)], [TOO_LONG] * TIMES)
+        tests.same(f"50 MB from a client that reads meanwhile, {TIMES} times", [sent_beside(server, sent)[0] for _ in range(TIMES)], [TOO_LONG] * TIMES)
+        tests.same("it goes on", asked_once(server, "GET", "/info"), (200, 0, INFO))
 
 
 def bad_heads_before_more(tests):
