@@ -11,8 +11,7 @@ from lib import SECONDS, TOP, Server, arc_text, asked_once, grid, listing, recei
 
 MAP = TOP / "examples/two_squares.tgap"
 INFO = b"version 0 steps 1 faces 2 arcs 3 points 10\n"
-# The server waits for five seconds, and a put that the client took in part waits once more. A loaded machine adds some; the server of which this is no more true would wait
-# for half a minute, or for ever.
+# The server waits for five seconds, and begins anew with each byte that still fits into the buffers of the system. A loaded machine adds some.
 LEAST, MOST = 4.5, 25
 WORKERS = 4
 CELLS = 60
