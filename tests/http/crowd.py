@@ -1,0 +1,85 @@
+"""Many readers and editors at once: one chain of published versions, no pin falls, and nothing that was acknowledged is lost."""
+import http.client
+import re
+import threading
+
+from lib import SECONDS, TOP, Server, ask
+
+FOUR = TOP / "examples/four_squares.tgap"
+READERS, EDITORS, ROUNDS, VERSIONS = 32, 32, 4, 64
+
+
+def corner(text):
+    """How far to the right the map reaches."""
+    return max(int(x) for line in text.decode().splitlines() if line.startswith("edge ") for x in line.split()[5::2])
+
+
+class Crowd:
+    def __init__(self, server):
+        self.server = server
+        self.published, self.wrong, self.texts, self.lock = [], [], {}, threading.Lock()
+
+    def guarded(self, work):
+        try:
+            for _ in range(ROUNDS):
+                work()
+        except (OSError, http.client.HTTPException, AssertionError, ValueError) as error:
+            with self.lock:
+                self.wrong.append(repr(error)[:200])
+
+    def read(self):
+        """One connection that reads, pins, and reads: each version has one text, and no pin falls."""
+        client, pinned = self.server.client(), -1
+        for path in ["/slice/0", "/info", "/slice/3", "/slice/0"]:
+            status, version, text, _ = ask(client, "GET", path)
+            assert status == 200 and version >= pinned, (status, version, pinned)
+            with self.lock:
+                assert self.texts.setdefault((version, path), text) == text, (version, path)
+            if path == "/slice/0":
+                assert corner(text) == 20 + version, (corner(text), version)
+            pinned = ask(client, "POST", f"/pin/{version}")[1]
+            assert pinned >= version, (pinned, version)
+        client.close()
+
+    def edit(self):
+        """One connection that moves the corner by one, from whatever version is the newest, until it is published or no more may be."""
+        client = self.server.client()
+        pinned = ask(client, "GET", "/info")[1]
+        for _ in range(VERSIONS):
+            batch = f"move {20 + pinned} 0 {21 + pinned} 0\n".encode()
+            status, version, text, _ = ask(client, "POST", "/edit", batch)
+            assert version >= pinned, (version, pinned)
+            if status == 200:
+                assert text == f"published {version}\n".encode() and version == pinned + 1, text
+                with self.lock:
+                    self.published.append(version)
+                break
+            if status == 507:
+                break
+            assert status == 409 and re.fullmatch(rb"stale [0-9]+\n", text), (status, text)
+            seen = int(text.split()[1])
+            assert seen > pinned, (seen, pinned)
+            pinned = ask(client, "POST", f"/pin/{seen}")[1]
+            assert pinned >= seen, (pinned, seen)
+        client.close()
+
+
+def a_crowd(tests):
+    with Server(tests.executable, FOUR, 16, VERSIONS) as server:
+        crowd = Crowd(server)
+        threads = [threading.Thread(target=crowd.guarded, args=(work,), daemon=True) for work in [crowd.read] * READERS + [crowd.edit] * EDITORS]
+        for thread in threads:
+            thread.start()
+        for thread in threads:
+            thread.join(SECONDS)
+        tests.same("what went wrong in a crowd", crowd.wrong, [])
+        tests.same("one chain of versions", sorted(crowd.published), list(range(1, len(crowd.published) + 1)))
+        tests.same("as many as there may be", len(crowd.published), VERSIONS - 1)
+        client = server.client()
+        tests.same("the newest is the last that was published", ask(client, "POST", "/pin")[1], len(crowd.published))
+        # Each edit moved the corner at the right by one; none of them may be missing.
+        tests.same("nothing is lost", corner(ask(client, "GET", "/slice/0")[2]), 20 + len(crowd.published))
+        client.close()
+
+
+TESTS = [a_crowd]
