@@ -6,5 +6,4 @@ pub mod LineEnds
 pub mod Steps
 pub mod Fields
 pub mod Loops
-pub mod Arrivals
 mod JsonTrees

@@ -10,8 +10,6 @@ mod harbour;
 pub mod json;
 mod link;
 mod sink;
-#[cfg(test)]
-mod tests;
 mod text;
 
 pub use calls::Calls;

@@ -90,26 +90,3 @@ fn is_given_up(kind: ErrorKind) -> bool {
         ErrorKind::ConnectionAborted | ErrorKind::ConnectionReset | ErrorKind::Interrupted
     )
 }
-
-#[cfg(test)]
-mod tests {
-    use super::*;
-    use std::io::Write;
-    use std::net::TcpStream;
-    use std::test::Fail;
-
-    #[test]
-    fn a_door_over_the_network(rt: HostRuntime) -> Result<(), Fail> {
-        let mut door = TcpDoor::new(TcpListener::bind(&rt, "127.0.0.1:0")?);
-        let mut peer = TcpStream::connect(&rt, ("127.0.0.1", door.port()?))?;
-        peer.write(b"ab")?;
-        let Arrival::Came(mut link) = door.next() else {
-            return Err(Fail::from("no link came"));
-        };
-        let mut buf = [0u8; 8];
-        assert_eq!(rt; link.take(&mut buf)?, 2);
-        assert_eq!(rt; &buf[..2], b"ab".as_slice());
-        assert_eq!(rt; door.faults(), 0);
-        Ok(())
-    }
-}

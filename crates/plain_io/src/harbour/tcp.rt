@@ -68,33 +68,3 @@ fn open<R: Net<Listener = TcpListener, Stream = TcpStream>>(
     }
     Ok(doors)
 }
-
-#[cfg(test)]
-mod tests {
-    use super::*;
-    use crate::door::Arrival;
-    use crate::link::Link;
-    use std::test::Fail;
-
-    #[test]
-    fn a_harbour_of_the_network(rt: HostRuntime) -> Result<(), Fail> {
-        let mut harbour = TcpHarbour::new(&rt);
-        let mut doors = harbour.doors(rt.alloc(), 0, 2)?;
-        assert_eq!(rt; doors.len(), 2);
-        let port = doors[0].port()?;
-        for door in doors.iter_mut() {
-            let _peer = TcpStream::connect(&rt, ("127.0.0.1", port))?;
-            let Arrival::Came(mut link) = door.next() else {
-                return Err(Fail::from("no link came"));
-            };
-            link.put(b"ab")?;
-        }
-        for _ in 0..2 {
-            if let Some(door) = doors.pop() {
-                harbour.back(door);
-            }
-        }
-        assert_eq!(rt; harbour.faults, 0);
-        Ok(())
-    }
-}

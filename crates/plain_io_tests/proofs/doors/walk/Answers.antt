@@ -1,5 +1,5 @@
-use Rattle.plain_io.proofs.Arrivals.{fewer_back}
-use Rattle.plain_io.proofs.tests.walk.Goals as goal
+use Rattle.plain_io_tests.proofs.Arrivals.{fewer_back}
+use Rattle.plain_io_tests.proofs.doors.walk.Goals as goal
 
 -- the link that came is not back yet
 pub done-requires : goal.done-requires

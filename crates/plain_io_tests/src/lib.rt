@@ -1,0 +1,10 @@
+//! Tests of `plain_io` over its public calls: links, doors and harbours in memory, each used once from end to end, and
+//! those of the network over loopback.
+#![tactic(auto)]
+
+#[cfg(test)]
+mod doors;
+#[cfg(test)]
+mod links;
+#[cfg(test)]
+mod network;
