@@ -14,8 +14,6 @@ mod measures;
 mod measuring;
 mod merging;
 mod queue;
-#[cfg(test)]
-mod tests;
 
 pub use areas::lost_areas;
 pub use measures::Measure;

@@ -1,10 +1,8 @@
 //! The history of a larger map, beside one that is made from sums taken afresh at each step.
-mod generated;
-mod plain;
 
-use crate::history;
-use generated::generated;
-use plain::plain_history;
+use crate::generated::generated;
+use crate::plain::plain_history;
+use face_merge::history;
 use std::test::Fail;
 
 #[test]

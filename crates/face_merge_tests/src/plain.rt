@@ -1,7 +1,13 @@
 //! The merge history by its rules alone: all areas and lengths are summed afresh at each step.
-use crate::measures::{Measure, measures_of};
 use std::alloc::Global;
-use tgap_model::{Base, List, Memory, MergeStep};
+use tgap_model::{Base, BaseArc, List, Memory, MergeStep, Point};
+
+/// What an arc adds to twice the area of the face at its left, and its length.
+#[derive(Clone, Copy)]
+struct Measure {
+    twice: i128,
+    length: i128,
+}
 
 /// An arc with its present labels, and its measure.
 #[derive(Clone, Copy)]
@@ -194,20 +200,42 @@ fn relabelled(step: &MergeStep, arc: &Sided) -> Sided {
     }
 }
 
+/// The product of two coordinates.
+fn product(a: i64, b: i64) -> i128 {
+    i128::from(a).wrapping_mul(i128::from(b))
+}
+
+/// What the segment from `a` to `b` adds to a measure.
+fn lengthened(measure: Measure, a: Point, b: Point) -> Measure {
+    let twice = product(a.x, b.y).wrapping_sub(product(b.x, a.y));
+    let length = i128::from(a.x.abs_diff(b.x)).wrapping_add(i128::from(a.y.abs_diff(b.y)));
+    Measure {
+        twice: measure.twice.wrapping_add(twice),
+        length: measure.length.wrapping_add(length),
+    }
+}
+
+/// The measure of an arc, from its points.
+fn measure_of(arc: &BaseArc) -> Measure {
+    let points = arc.points.as_slice();
+    let mut measure = Measure {
+        twice: 0,
+        length: 0,
+    };
+    for i in 1..points.len() {
+        measure = lengthened(measure, points[i - 1], points[i]);
+    }
+    measure
+}
+
 /// The arcs of a map, with its labels.
 fn labelled(alloc: Global, base: &Base) -> Result<Vec<Sided>, Memory> {
-    let measures = measures_of(alloc, base.arcs().as_slice())?;
     let mut arcs = Vec::new(alloc);
-    for (arc, measure) in base
-        .arcs()
-        .as_slice()
-        .iter()
-        .zip(measures.as_slice().iter())
-    {
+    for arc in base.arcs().as_slice() {
         arcs.push(Sided {
             left: arc.left,
             right: arc.right,
-            measure: *measure,
+            measure: measure_of(arc),
         })?;
     }
     Ok(arcs)
