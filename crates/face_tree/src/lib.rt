@@ -7,6 +7,3 @@ mod labels;
 mod tree;
 
 pub use tree::FaceTree;
-
-#[cfg(test)]
-mod tests;

@@ -2,8 +2,8 @@
 
 ghost use Rattle.std.specs.Prelude.{◌≡◌, length, IfOk, IfSome};
 
-use crate::FaceTree;
 use face_merge::history;
+use face_tree::FaceTree;
 use std::alloc::Global;
 use std::test::Fail;
 use tgap_model::{Base, BaseArc, List, Memory, Point, Rules, Transform};
