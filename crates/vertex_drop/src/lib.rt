@@ -9,8 +9,6 @@ mod kept;
 mod near;
 mod removable;
 mod steps;
-#[cfg(test)]
-mod tests;
 mod triangle;
 
 pub use corners::may_remove;

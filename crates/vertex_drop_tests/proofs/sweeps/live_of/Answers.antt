@@ -4,7 +4,7 @@ use Rattle.std.proofs.lemmas.List.Kept.{AllPairs-cons}
 use Rattle.tgap_model.specs.declared.slice.Edge.{Edge}
 use Rattle.lemmas.proofs.Members.{AllPairs-nil}
 use Rattle.grid_index.specs.Live.{AreLive, IsLiveEdge}
-use Rattle.vertex_drop.proofs.tests.live_of.Goals as goal
+use Rattle.vertex_drop_tests.proofs.sweeps.live_of.Goals as goal
 
 -- two live edges in order of key
 two_live : (e f : Edge) → e.key < f.key → IsLiveEdge e → IsLiveEdge f → AreLive (e ∷ f ∷ [])

@@ -4,11 +4,11 @@ ghost use Rattle.std.specs.Prelude.{◌≡◌, ◌<◌, IfOk, All};
 ghost use Rattle.grid_index.specs.Live.{IsLiveEdge};
 ghost use Rattle.vertex_drop.specs.Held.{IsNearPoint};
 
-use crate::sweep;
 use grid_index::Live;
 use std::alloc::Global;
 use std::test::Fail;
 use tgap_model::{Edge, List, Memory, Point, Removal};
+use vertex_drop::sweep;
 
 const SPIKE: [(u8, u8); 3] = [(0, 0), (5, 10), (10, 0)];
 
