@@ -13,8 +13,6 @@ mod plays;
 mod press;
 mod seat;
 mod shelf;
-#[cfg(test)]
-mod tests;
 
 pub use fresh::{Fresh, FreshOf, start};
 pub use known::{Growing, Known};

@@ -4,14 +4,14 @@ ghost use Rattle.std.specs.Prelude.{◌≡◌, ◌+◌, IfOk};
 ghost use Rattle.std.specs.Arc.{arc_value};
 ghost use Rattle.version_store.specs.Store.{fresh_store, fresh_limit};
 
-use super::triangle;
-use crate::{Fresh, Press, PublishFail, Seat, StoreName, start};
+use crate::maps::triangle;
 use std::alloc::Global;
 use std::marker::Brand;
 use std::sync::{Arc, Mutex, Wait};
 use std::test::Fail;
 use std::thread::{Threads, join};
 use tgap_model::{Base, Holds, Memory};
+use version_store::{Fresh, Press, PublishFail, Seat, StoreName, start};
 
 /// A map with its number.
 #[derive(Drop)]

@@ -1,5 +1,5 @@
 use Rattle.version_store.specs.Store.{fresh_store, fresh_limit}
-use Rattle.version_store.proofs.tests.store.one_publishes_and_one_pins.Given as goal
+use Rattle.version_store_tests.proofs.store.one_publishes_and_one_pins.Given as goal
 
 -- the store has the name under which it is opened
 abbrev pub ghosts-side_by_side : goal.ghosts-side_by_side

@@ -1,5 +1,5 @@
 use Rattle.version_store.specs.Store.{fresh_store, fresh_limit}
-use Rattle.version_store.proofs.tests.store.three_seats_on_one_thread.Given as goal
+use Rattle.version_store_tests.proofs.store.three_seats_on_one_thread.Given as goal
 
 -- the store has the name under which it is opened
 abbrev pub ghosts-row : goal.ghosts-row
