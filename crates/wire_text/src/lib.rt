@@ -13,8 +13,6 @@ mod row_reading;
 mod rows;
 mod slice;
 mod slice_reading;
-#[cfg(test)]
-mod tests;
 mod window;
 
 pub use answer::{ok_text, step_too_high_text};
