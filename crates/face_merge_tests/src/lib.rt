@@ -1,0 +1,10 @@
+//! A test of `face_merge` over its public calls: the history of a larger map is that which is made from sums taken afresh
+//! at each step.
+#![tactic(auto)]
+
+#[cfg(test)]
+mod generated;
+#[cfg(test)]
+mod plain;
+#[cfg(test)]
+mod sums;

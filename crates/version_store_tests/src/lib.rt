@@ -1,0 +1,10 @@
+//! Tests of `version_store` over its public calls: the events of two actors on a machine, one after the other and all at
+//! once, and a store of versions whose press and seats are used on one thread and on two.
+#![tactic(auto)]
+
+#[cfg(test)]
+mod machine;
+#[cfg(test)]
+mod maps;
+#[cfg(test)]
+mod store;

@@ -1,0 +1,5 @@
+//! Tests of `vertex_drop` over its public calls: which vertices a step removes of an edge, and which it keeps.
+#![tactic(auto)]
+
+#[cfg(test)]
+mod sweeps;
