@@ -1,11 +1,1 @@
-pub mod Sides
-pub mod Statuses
-pub mod Loads
-pub mod Says
-pub mod SliceForm
-pub mod PacketForm
-pub mod Replays
-pub mod Packets
-pub mod Servings
-pub mod Refusals
 pub mod Served

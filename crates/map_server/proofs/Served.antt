@@ -2,10 +2,10 @@
 use Rattle.std.proofs.Common.{◌≡◌, ◌≢◌, ℕ, inl, inr, List, Option, Some, None, sym, ap, ◌∙◌, arith}
 use Rattle.plain_io.specs.declared.files.Which.{Which}
 use Rattle.plain_io.specs.Loads.{Told}
-use Rattle.map_server.specs.Outcomes.{status_of}
-use Rattle.map_server.specs.Command.{Source}
-use Rattle.map_server.specs.Serving.{ServeCommand, PutsRefusal, serve_words}
-use Rattle.map_server.proofs.Statuses.{usage_apart}
+use Rattle.commands.specs.Outcomes.{status_of}
+use Rattle.commands.specs.Command.{Source}
+use Rattle.serving.specs.Serving.{ServeCommand, PutsRefusal, serve_words}
+use Rattle.commands.proofs.Statuses.{usage_apart}
 
 module _ (words : List (List ℕ)) (s : ServeCommand) where
   pub unserved : None ≡ serve_words words → serve_words words ≡ Some s → ⊥

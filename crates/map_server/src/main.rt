@@ -1,23 +1,12 @@
-//! The program: the words of a command line, the files that they name, and the text that answers them. The top call is
-//! `run`; `main` hands it the real files and the standard output. It stands on all other crates.
+//! The program: the words of a command line, the files that they name, and the text that answers them. The top call is `run`;
+//! `main` hands it the real files, the standard output and the network. It stands on `commands` and `serving`.
 #![tactic(auto)]
 
-mod border_rows;
-mod borders;
-mod check;
-mod command;
-mod load;
-mod outcome;
-mod packet;
-mod replay;
 mod run;
-mod serve;
-mod serve_store;
-mod slice;
 #[cfg(test)]
 mod tests;
 
-use outcome::Outcome;
+use commands::Outcome;
 use plain_io::{HostFiles, HostSink, TcpHarbour};
 pub use run::run;
 use std::alloc::Global;

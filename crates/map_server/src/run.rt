@@ -5,25 +5,22 @@ ghost use Rattle.tgap_model.specs.Base.{BaseMap};
 ghost use Rattle.plain_io.specs.Faults.{Rises, Rose};
 ghost use Rattle.plain_io.specs.Puts.{Appends};
 ghost use Rattle.plain_io.specs.declared.files.Which.{Which as Kind};
-ghost use Rattle.map_server.specs.declared.outcome.Outcome.{Outcome as AnOutcome};
-ghost use Rattle.map_server.specs.declared.outcome.Outcome.TheVariants as outcome;
-ghost use Rattle.map_server.specs.Outcomes.{text_of, load_fault_text, not_coarser};
-ghost use Rattle.map_server.specs.Delivery.{Delivers, PutsWhole};
-ghost use Rattle.map_server.specs.Command as spec;
-ghost use Rattle.map_server.specs.MapFile.{Contents, FileName, files_of_map};
-ghost use Rattle.map_server.specs.Commands.{command, files_of, outcome_of};
-ghost use Rattle.map_server.specs.Answers.{Answers, Failed, KeepCounts, LeavesKind, MayHold, MissesOne, PutsAnswer, files_for, outcome_from};
-ghost use Rattle.map_server.specs.Serving.{ServeCommand, CameBack, HasNoDoors, IsLoaded, IsSoundMap, PutsRefusal, ServesAll, serve_words, serving_text};
+ghost use Rattle.commands.specs.declared.outcome.Outcome.{Outcome as AnOutcome};
+ghost use Rattle.commands.specs.declared.outcome.Outcome.TheVariants as outcome;
+ghost use Rattle.commands.specs.Outcomes.{text_of, load_fault_text, not_coarser};
+ghost use Rattle.commands.specs.Delivery.{Delivers, PutsWhole};
+ghost use Rattle.commands.specs.Command as spec;
+ghost use Rattle.commands.specs.MapFile.{Contents, FileName, files_of_map};
+ghost use Rattle.commands.specs.Commands.{command, files_of, outcome_of};
+ghost use Rattle.commands.specs.Answers.{Answers, Failed, LeavesKind, MayHold, MissesOne, PutsAnswer, files_for};
+ghost use Rattle.serving.specs.Serving.{ServeCommand, CameBack, HasNoDoors, IsLoaded, IsSoundMap, PutsRefusal, ServesAll, serve_words, serving_text};
 
-use crate::command::{Command, parse_command};
-use crate::outcome::Outcome;
-use crate::serve::{parse_serve, run_serve};
-use crate::{borders, check, packet, replay, slice};
+use commands::execute;
 use plain_io::{Door, Files, Harbour, Sink};
+use serving::{parse_serve, run_serve};
 use std::alloc::Global;
 use std::sync::Wait;
 use std::thread::Threads;
-use tgap_model::Text;
 
 /// Does what the words of a command line ask for, without the name of the program among them: loads the files that they
 /// name, puts one text to the sink, at once, and gives the exit status.
@@ -122,45 +119,6 @@ where
 {
     match parse_serve(words) {
         Some(serving) => run_serve(rt, alloc, serving, files, out, harbour),
-        None => outcome(rt, alloc, words, files).put(alloc, out),
-    }
-}
-
-/// What comes of the words.
-fn outcome<R: Threads + Sync, F: Files>(
-    rt: &R,
-    alloc: Global,
-    words: &[String],
-    files: &mut F,
-) -> Outcome
-    ensures answers { Answers (map string_bytes words.now) (F.told files.old) (Failed (F.faults files.old) (F.faults files.new)) result }
-    ensures counts { KeepCounts (files_for (command (map string_bytes words.now))) (F.faults files.old) (F.faults files.new)
-        (λ kind. result ≡ outcome.LoadFault kind) }
-{
-    match answer(rt, alloc, words, files) {
-        Ok(text) => Outcome::Done(text),
-        Err(outcome) => outcome,
-    }
-}
-
-/// The text that the words ask for, or what comes in its place.
-fn answer<R: Threads + Sync, F: Files>(
-    rt: &R,
-    alloc: Global,
-    words: &[String],
-    files: &mut F,
-) -> Result<Text, Outcome>
-    ensures answers { Answers (map string_bytes words.now) (F.told files.old) (Failed (F.faults files.old) (F.faults files.new))
-        (outcome_from result) }
-    ensures counts { KeepCounts (files_for (command (map string_bytes words.now))) (F.faults files.old) (F.faults files.new)
-        (λ kind. outcome_from result ≡ outcome.LoadFault kind) }
-{
-    match parse_command(words) {
-        None => Err(Outcome::Usage),
-        Some(Command::Borders { map, step }) => borders::answer(alloc, map, step, files),
-        Some(Command::Check { map }) => check::answer(rt, alloc, map, files),
-        Some(Command::Slice { map, step }) => slice::answer(rt, alloc, map, step, files),
-        Some(Command::Packet { map, from, to }) => packet::answer(rt, alloc, map, from, to, files),
-        Some(Command::Replay { slice, packet }) => replay::answer(alloc, slice, packet, files),
+        None => execute(rt, alloc, words, files).put(alloc, out),
     }
 }

@@ -1,12 +1,12 @@
 use Rattle.std.proofs.Common.{refl, sym}
-use Rattle.map_server.proofs.Statuses.{put_is, answered_says, zero_says, two_says, none_says, three_says, missing_says, counts_say, kinds_say, four_says, five_says, six_says, eight_apart, nine_says, sink_stays, exact_says}
-use Rattle.map_server.proofs.Servings.{doors_back, fault_put, served_or_none}
+use Rattle.commands.proofs.Statuses.{put_is, answered_says, zero_says, two_says, none_says, three_says, missing_says, counts_say, kinds_say, four_says, five_says, six_says, eight_apart, nine_says, sink_stays, exact_says}
+use Rattle.serving.proofs.Servings.{doors_back, fault_put, served_or_none}
 use Rattle.map_server.proofs.Served.{unserved, is_served, same_command, two_apart}
 use Rattle.map_server.proofs.run.run.Goals as goal
 
 pub returns-in-None : goal.returns-in-None
 returns-in-None g c =
-    let p = put_is _ _ _ _ _ _ _ _ _ _ _ c.outcome.ensures.answers c.outcome.ensures.counts c.put.ensures in
+    let p = put_is _ _ _ _ _ _ _ _ _ _ _ c.execute.ensures.answers c.execute.ensures.counts c.put.ensures in
     let none = c.in-None.ensures.asked in
     record {
       answered = λ n. answered_says p;

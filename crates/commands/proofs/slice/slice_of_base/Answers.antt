@@ -1,0 +1,12 @@
+use Rattle.commands.proofs.Says.{slice_failed, slice_passed}
+use Rattle.commands.proofs.slice.slice_of_base.Goals as goal
+
+pub returns-in_err-checked : goal.returns-in_err-checked
+returns-in_err-checked g c =
+    let h = c.in_err-checked.ensures in
+    slice_failed c.args.base c.args.step c.in_err-checked.field-0.0 c.from_residual.result c.from_residual.ensures.1 (h.fault, h.shown, h.refused)
+
+pub returns : goal.returns
+returns g c =
+    let same = c.in_ok-checked.ensures.sound in
+    slice_passed c.args.base c.args.step _ (rw same.0 at c.in_ok-checked.ensures.partition) same.1 (rw same.0 at c.slice_of.ensures)

@@ -1,0 +1,12 @@
+pub mod Outcomes
+pub mod Delivery
+pub mod Command
+pub mod Asked
+pub mod MapFile
+pub mod Borders
+pub mod Check
+pub mod Slice
+pub mod Replay
+pub mod Packet
+pub mod Commands
+pub mod Answers

@@ -1,0 +1,7 @@
+-- What the code is asked to serve as that of the definitions.
+use Rattle.commands.specs.Asked.{source_of}
+use Rattle.serving.specs.declared.serve.Serving.{Serving}
+use Rattle.serving.specs.Serving.{ServeCommand}
+
+abbrev pub serving_of : Serving → ServeCommand
+serving_of s = record { source = source_of s.map; port = s.port; workers = s.workers; versions = s.versions }

@@ -1,0 +1,113 @@
+-- The command that serves a map, and what comes of it.
+use Rattle.std.specs.Prelude.{◌≡◌, ◌≢◌, ◌⊎◌, ◌↔◌, ℕ, ◌+◌, ◌<◌, ◌++◌, pos, unsigned_abs, Bool, true, List, [], ◌∷◌, length, All, codes, decimal, bytes_eq, Option, Some, None, option_map, option_and_then, if◌then◌else◌}
+use Rattle.tgap_model.specs.Base.{BaseMap}
+use Rattle.tgap_model.specs.Partition.{IsPartition, base_segments}
+use Rattle.tgap_model.specs.Texts.{line, number_of}
+use Rattle.plain_io.specs.declared.files.Which.{Which}
+use Rattle.plain_io.specs.declared.link.Link as OfLink
+use Rattle.plain_io.specs.Doors.{Connections}
+use Rattle.plain_io.specs.Faults.{Rises, Rose}
+use Rattle.plain_io.specs.Harbours.{Doors}
+use Rattle.plain_io.specs.Loads.{Told}
+use Rattle.plain_io.specs.Puts.{Appends}
+use Rattle.workers.specs.Closing.{TakesAllBack}
+use Rattle.map_workers.specs.Seats.{ServedRight}
+use Rattle.commands.specs.declared.outcome.Outcome.{Outcome}
+use Rattle.commands.specs.declared.outcome.Outcome.TheVariants.{PortFault}
+use Rattle.commands.specs.Outcomes.{status_of, text_of}
+use Rattle.commands.specs.Delivery.{PutsWhole}
+use Rattle.commands.specs.Command.{Source, source_named, Check}
+use Rattle.commands.specs.MapFile.{Contents, files_of_map, IsMapFile}
+use Rattle.commands.specs.Answers.{AnswersCommand, MayHold}
+
+-- what is asked for: the map of a source is served at a port by so many workers, and so many versions of it may be kept
+pub record ServeCommand : Type 0 where
+  pub source : Source
+  pub port : ℕ
+  pub workers : ℕ
+  pub versions : ℕ
+
+-- the number from 1 to `most` that a word spells in canonical decimal
+abbrev pub number_to : ℕ → List ℕ → Option ℕ
+number_to most word = elim (number_of (pos 1) (pos most) word) [ None ↦ None | Some z ↦ Some (unsigned_abs z) ]
+
+-- the words after its name: the file of a map, a port, how many workers and how many versions, and what else its source names
+abbrev pub serve_command : List (List ℕ) → Option ServeCommand
+serve_command (map ∷ port ∷ workers ∷ versions ∷ words) =
+    option_and_then (λ source. option_and_then (λ p. option_and_then (λ w.
+    option_map (λ v. record { source = source; port = p; workers = w; versions = v }) (number_to 64 versions))
+    (number_to 16 workers)) (number_to 65535 port)) (source_named map words)
+serve_command words = None
+
+-- the command that the words are, or none
+unfoldable pub serve_words : List (List ℕ) → Option ServeCommand
+serve_words [] = None
+serve_words (name ∷ words) = if bytes_eq name (codes "serve") then serve_command words else None
+
+-- the line that tells the port
+abbrev pub serving_text : ℕ → List ℕ
+serving_text port = line (codes "serving" ∷ decimal port ∷ [])
+
+-- The files may have contents that are this map, which is a planar partition.
+abbrev pub IsLoaded : Source → (Which → List ℕ → Told) → BaseMap → Type 0
+IsLoaded source told m =
+    (files : Contents) × MayHold told (files_of_map source) files × IsMapFile source files m × IsPartition (base_segments m)
+
+-- there is such a map
+abbrev pub IsSoundMap : Source → (Which → List ℕ → Told) → Type 0
+IsSoundMap source told = (m : BaseMap) × IsLoaded source told m
+
+-- it comes before there is a port: of a load that failed, a map that is refused, or want of memory
+abbrev pub IsStop : Outcome → Type 0
+IsStop outcome = (status_of outcome ≡ 3) ⊎ ((status_of outcome ≡ 4) ⊎ (status_of outcome ≡ 7))
+
+-- The outcome is one that the check of this map has where it does not pass, or memory is wanting. It is put whole.
+abbrev pub PutsRefusal : Source → (Which → List ℕ → Told) → (Which → Type 0) → Option (List ℕ) → Option (List ℕ) → ℕ → Type 0
+PutsRefusal source told rose old new status =
+    (outcome : Outcome) × AnswersCommand (Check source) told rose outcome × PutsWhole outcome old new status
+
+-- so many doors more were given
+abbrev pub Gave : {D : Type 0} → ℕ → Option (Doors D) → Option (Doors D) → Type 0
+Gave n old new = new ≡ option_map (λ all. record { given = all.given + n; back = all.back }) old
+
+-- these doors were given, and came back
+abbrev pub CameBack : {D : Type 0} → Option (Doors D) → Option (Doors D) → List D → Type 0
+CameBack old new doors = new ≡ option_map (λ all. record { given = all.given + length doors; back = all.back ++ doors }) old
+
+-- these are so many doors, and they came back
+abbrev pub TakesEach : {D : Type 0} → ℕ → Option (Doors D) → Option (Doors D) → List D → Type 0
+TakesEach n old new doors = (length doors ≡ n) × TakesAllBack old new doors
+
+-- What came of serving connections at doors, where `start` are the maps of the versions that were there before, `Back` says which doors were
+-- given and came back, `told` tells of a door which links came and were handed back, and `limit` is the number of versions that there may
+-- be. As many doors as workers came back, and each is closed or has failed. The status is 0 exactly where each is closed and none has
+-- failed. There is one list of versions for all of them: those from the start, and then those that were published. Over this list each
+-- connection of each door is right, and each link that came was handed back.
+pub record ServesAll {D L : Type 0} (closed : D → Bool) (faults : D → ℕ) (told : D → Option (Connections L)) (link : OfLink.Ghosts L)
+    (Back : List D → Type 0) (workers limit : ℕ) (start : List BaseMap) (status : ℕ) : Type 0 where
+  pub doors : List D
+  pub back : Back doors
+  pub number : length doors ≡ workers
+  pub stopped : All (λ door. (closed door ≡ true) ⊎ (0 < faults door)) doors
+  pub end : (status ≡ 0) ↔ All (λ door. (closed door ≡ true) × (faults door ≡ 0)) doors
+  pub published : List BaseMap
+  pub right : All (λ door. ServedRight link limit (start ++ published) (told door)) doors
+
+-- No doors could be given: none came back, and the port's fault alone is told.
+abbrev pub HasNoDoors : {D : Type 0} → (List D → Type 0) → Option (List ℕ) → Option (List ℕ) → Type 0
+HasNoDoors Back told told' = Back [] × Appends told told' (text_of PortFault)
+
+-- What came of serving, where `first` is the line that tells the port, `Back` says which doors were given and came back, `Served` tells of
+-- the connections at them, and the other statuses say what `Other` does. Status 0: that line was put, and connections were served. Status 8:
+-- the count of the harbour rose, and no doors could be given, or one of them failed after the line. In any case all doors that were given
+-- came back.
+pub record Serves {D : Type 0} (first : List ℕ) (Back : List D → Type 0) (Served : Type 0) (count count' : ℕ) (told told' : Option (List ℕ))
+    (sunk sunk' status : ℕ) (Other : Type 0) : Type 0 where
+  pub line : status ≡ 0 → Appends told told' first × Served
+  pub fault_line : status ≡ 8 → HasNoDoors Back told told' ⊎ (Appends told told' (first ++ text_of PortFault) × Served)
+  pub port_fault : status ≡ 8 → Rose count count'
+  pub sound : status ≢ 6 → status ≢ 8 → count' ≡ count
+  pub doors : (doors : List D) × Back doors
+  pub other : status ≢ 0 → status ≢ 6 → status ≢ 8 → Other
+  pub sink_fault : status ≡ 6 → Rises sunk sunk'
+  pub sink_kept : status ≢ 6 → sunk' ≡ sunk

@@ -1,0 +1,9 @@
+//! Tests of the command that serves a map, over harbours in memory.
+#![tactic(auto)]
+
+#[cfg(test)]
+mod doors;
+#[cfg(test)]
+mod links;
+#[cfg(test)]
+mod served;
