@@ -1,18 +1,10 @@
 """Worked maps, each as the bytes of its listing, and large ones that are made by a rule."""
+from lib import listing
 
 SQUARE = "0 0 10 0 10 10 0 10 0 0"
 LARGE_SQUARE = "0 0 30 0 30 30 0 30 0 0"
 INNER_SQUARE = "10 10 20 10 20 20 10 20 10 10"
 MOST = 268435456
-
-
-def listing(faces, arcs, ratio=16, classes=("1 1",), class_of=None):
-    """The listing of a base map: the classes without their numbers, the arcs without their word, and the classes that are not 0 by face."""
-    lines = ["tgap 1", "transform 1 1 0 0", f"ratio {ratio}", f"classes {len(classes)}"]
-    lines += [f"class {number} {row}" for number, row in enumerate(classes)]
-    lines += [f"faces {faces}", *(f"face {face} {(class_of or {}).get(face, 0)}" for face in range(1, faces + 1))]
-    lines += [f"arcs {len(arcs)}", *(f"arc {arc}" for arc in arcs), "end"]
-    return ("\n".join(lines) + "\n").encode()
 
 
 def with_line(text, number, line):
@@ -72,11 +64,11 @@ def two_squares_with(number, line):
     return with_line(MAPS["two_squares"], number, line)
 
 
-def large_map():
-    """A listing near all limits, of about 4 MB: arc A runs down between two of the longest points, with face A / 2 + 1 at its left and nothing at
-    its right. No two faces are neighbours."""
+def crossing_lines(count):
+    """A listing of this many arcs: arc A runs down between two of the longest points, with face A / 2 + 1 at its left and nothing at its right. Every two of them meet, and no
+    two faces are neighbours. With 65,536 arcs it is near all limits, and about 4 MB long."""
     high, low = f"-{MOST} {MOST - 1}", f"-{MOST - 1} -{MOST}"
-    return listing(32768, [f"{arc // 2 + 1} 0 2 {high} {low}" for arc in range(65536)])
+    return listing(count // 2, [f"{arc // 2 + 1} 0 2 {high} {low}" for arc in range(count)])
 
 
 def large_borders():
