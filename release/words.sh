@@ -1,0 +1,151 @@
+# What the launcher says in words: the help, and a sentence for each status of the program but 0.
+
+help_text() {
+    cat <<'END'
+One map of areas, kept once and served at every scale.
+
+usage: ./tgap COMMAND WORD...
+
+  check MAP [OBJECT RULES]
+      tells whether MAP is sound, and its first fault where it is not
+      ./tgap check examples/two_squares.tgap
+      ./tgap check examples/columbus.json areas examples/columbus.rules.json
+
+  slice MAP STEP [OBJECT RULES]
+      gives the map after STEP mergers: its faces, and the lines between them
+      ./tgap slice examples/two_squares.tgap 1
+
+  packet MAP FROM TO [OBJECT RULES]
+      gives what leads from the slice after FROM mergers to the finer one after TO
+      ./tgap packet examples/two_squares.tgap 1 0
+
+  replay SLICE PACKET
+      gives the slice that a packet makes of the slice at which it begins
+      ./tgap slice examples/two_squares.tgap 1 > coarse
+      ./tgap packet examples/two_squares.tgap 1 0 > packet
+      ./tgap replay coarse packet
+
+  borders MAP STEP
+      tells which borders of a listing are left after STEP mergers
+      ./tgap borders examples/two_squares.tgap 1
+
+  serve MAP PORT WORKERS VERSIONS [OBJECT RULES]
+      answers HTTP at 127.0.0.1:PORT until it is stopped, WORKERS connections at a time, and keeps up to VERSIONS versions of the map
+      ./tgap serve examples/two_squares.tgap 8080 4 16
+
+MAP is the file of a listing. With OBJECT and RULES it is the file of a topology (TopoJSON), OBJECT the name of one of its objects, or - for the only
+one, and RULES the file of its rules.
+
+  --help, -h, help    this text
+  --version           the version, the sum of the sources, and the toolchain that proved them
+
+The answer comes on the standard output. The status is 0 where it was done, and otherwise a sentence on the standard error tells what was wrong.
+
+docs/guide.md     from your own data to a map that is accepted
+docs/formats.md   the texts, the refusals, and the statuses
+END
+}
+
+# Whether a word is a number as the program reads it, between two others.
+is_number() {
+    case $1 in "" | *[!0-9]* | 0?* | ???????????*) return 1 ;; esac
+    [ "$1" -ge "$2" ] && [ "$1" -le "$3" ]
+}
+
+# The words that a command takes; nothing where there is no such command.
+words_of() {
+    case $1 in
+        borders) echo "MAP STEP" ;;
+        check) echo "MAP [OBJECT RULES]" ;;
+        slice) echo "MAP STEP [OBJECT RULES]" ;;
+        packet) echo "MAP FROM TO [OBJECT RULES]" ;;
+        replay) echo "SLICE PACKET" ;;
+        serve) echo "MAP PORT WORKERS VERSIONS [OBJECT RULES]" ;;
+    esac
+}
+
+# What is wrong with the words, which the program did not take: the command, the first that is no number of its kind, or how many they are.
+wrong_words() {
+    command=$1 given=$(($# - 1))
+    wanted=$(words_of "$command")
+    [ -n "$wanted" ] || { echo "'$command' is no command"; return; }
+    shift
+    for name in $wanted; do
+        [ $# -gt 0 ] || break
+        case $name in
+            STEP | FROM | TO) least=0 most=4294967295 ;;
+            PORT) least=1 most=65535 ;;
+            WORKERS) least=1 most=16 ;;
+            VERSIONS) least=1 most=64 ;;
+            *) least="" ;;
+        esac
+        if [ -n "$least" ] && ! is_number "$1" $least $most; then
+            echo "$name is a whole number from $least to $most, written the shortest way, and '$1' is none"
+            return
+        fi
+        shift
+    done
+    case $command,$given in
+        check,[13] | borders,2 | replay,2 | slice,[24] | packet,[35] | serve,[46]) echo "a word is no text in UTF-8" ;;
+        *) echo "the words of $command are $wanted, and it got $given" ;;
+    esac
+}
+
+# The first of the files that cannot be read, and why; all of them where that cannot be seen.
+wrong_file() {
+    for file in "$@"; do
+        [ -e "$file" ] || { echo "there is no file '$file'"; return; }
+        [ ! -d "$file" ] || { echo "'$file' is a folder and no file"; return; }
+        [ -r "$file" ] || { echo "the file '$file' may not be read"; return; }
+    done
+    echo "'$1'${2:+ or '$2'} could not be read"
+}
+
+# What is wrong with the steps, given the command, its first file and its numbers.
+wrong_steps() {
+    if [ "$1" = packet ] && [ "$3" -lt "$4" ]; then
+        echo "a packet leads to a finer slice, so FROM, $3, may not be below TO, $4"
+    else
+        echo "the map in '$2' has fewer than $3 steps, and the answer tells its last one"
+    fi
+}
+
+# Says what a status of the program means, for the words of its command line, and where the documents tell more.
+explain() {
+    status=$1
+    shift
+    # The second file that the words name.
+    case ${1-},$# in
+        replay,3) second=$3 ;;
+        check,4) second=$4 ;;
+        slice,5) second=$5 ;;
+        packet,6) second=$6 ;;
+        serve,7) second=$7 ;;
+        *) second="" ;;
+    esac
+    more="docs/formats.md, \"The command line\""
+    case $status,${1-} in
+        2,) help_text >&2; return ;;
+        2,*) fault=$(wrong_words "$@") more="./tgap --help, and $more" ;;
+        3,*) fault=$(wrong_file "$2" ${second:+"$second"}) ;;
+        4,replay) fault="the slice in '$2' or the packet in '$3' is longer than 67,108,864 bytes" ;;
+        4,*)
+            fault="the map in '$2'${second:+ or its rules in '$second'} are not as they must be, and the answer tells the first fault"
+            [ -n "$second" ] || fault="the map in '$2' is not as it must be, and the answer tells its first fault"
+            more="docs/formats.md, \"Faults of a map\", and docs/guide.md, \"When it is refused\""
+            ;;
+        5,*) fault=$(wrong_steps "$@") ;;
+        6,*) fault="the answer could not be written whole to the standard output: the disk may be full, or what reads it has ended" ;;
+        7,*) fault="there was not enough memory for '${2-}'" more="docs/performance.md" ;;
+        8,*) fault="port $3 could not be had, since another program has it or it is kept for the administrator, or a connection could not be taken" more="docs/deployment.md" ;;
+        9,*)
+            fault="the slice in '$2' or the packet in '$3' is not as it must be, or they do not fit each other: the answer tells the line or the step"
+            more="docs/formats.md, \"Slices, windows and packets\""
+            ;;
+        126,* | 127,*) fault="'$program' could not be started: it wants Linux on x86-64, with the GNU C library 2.34 or newer" more="README.md" ;;
+        # What stopped the reader of the answer, or was sent by the user, is no fault.
+        129,* | 130,* | 141,* | 143,*) return ;;
+        *) fault="the program ended with status $status, and was stopped by a signal where that is above 128" more="docs/guide.md" ;;
+    esac
+    say "$fault (status $status; more in $more)"
+}

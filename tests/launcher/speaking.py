@@ -1,0 +1,140 @@
+"""What the launcher says: the help, the version, and a sentence for each status; the standard output and the status are the program's own."""
+import re
+import socket
+import subprocess
+
+from checkout import TOOLCHAIN, sum_of
+from lib import SECONDS, free_port
+
+TWO, COLUMBUS, RULES = "examples/two_squares.tgap", "examples/columbus.json", "examples/columbus.rules.json"
+COMMANDS = ["borders", "check", "slice", "packet", "replay", "serve"]
+
+# The words of a command line, its status, and what the sentence has to name.
+SENTENCES = [
+    (["frobnicate"], 2, ["'frobnicate' is no command", "--help", "docs/formats.md"]),
+    (["grid", "4"], 2, ["'grid' is no command"]),
+    (["borders"], 2, ["borders", "MAP STEP", "got 0"]),
+    (["check", TWO, "land"], 2, ["check", "MAP [OBJECT RULES]", "got 2"]),
+    (["borders", TWO, "01"], 2, ["STEP", "'01'", "0 to 4294967295"]),
+    (["slice", TWO, "4294967296"], 2, ["STEP", "'4294967296'"]),
+    (["packet", TWO, "1", "-1"], 2, ["TO", "'-1'"]),
+    (["packet", TWO, "", "1"], 2, ["FROM", "''"]),
+    (["serve", TWO, "0", "1", "1"], 2, ["PORT", "'0'", "1 to 65535"]),
+    (["serve", TWO, "8080", "17", "1"], 2, ["WORKERS", "'17'", "1 to 16"]),
+    (["serve", TWO, "8080", "1", "65"], 2, ["VERSIONS", "'65'", "1 to 64"]),
+    (["check", b"\xff"], 2, ["UTF-8"]),
+    (["borders", "no such map", "1"], 3, ["no file 'no such map'", "docs/formats.md"]),
+    (["check", "examples"], 3, ["'examples' is a folder"]),
+    (["check", COLUMBUS, "areas", "no such rules"], 3, ["no file 'no such rules'"]),
+    (["replay", "no such slice", TWO], 3, ["no file 'no such slice'"]),
+    (["check", "examples/crossing.tgap"], 4, ["'examples/crossing.tgap'", "docs/formats.md", "docs/guide.md"]),
+    (["check", COLUMBUS, "areas", COLUMBUS], 4, [f"'{COLUMBUS}' or its rules in '{COLUMBUS}'"]),
+    (["slice", TWO, "2"], 5, [f"'{TWO}'", "2 steps"]),
+    (["packet", TWO, "0", "1"], 5, ["FROM, 0", "TO, 1"]),
+    (["packet", TWO, "3", "1"], 5, [f"'{TWO}'", "3 steps"]),
+    (["replay", TWO, RULES], 9, [f"'{TWO}'", f"'{RULES}'", "docs/formats.md"]),
+]
+
+
+def both(tests, words, **how):
+    """The launcher's status and texts, and the program's status and answer."""
+    ran = subprocess.run([tests.executable, *words], cwd=tests.checkout.top, stdin=subprocess.DEVNULL, capture_output=True, timeout=SECONDS, check=False)
+    return tests.checkout.run(*words, **how), (ran.returncode, ran.stdout)
+
+
+def is_sentence(said, status, fragments):
+    """What is wrong with a sentence: it is one line of the launcher's that names the status and these."""
+    faults = [f"{fragment!r} is not said" for fragment in [*fragments, f"(status {status};"] if fragment not in said]
+    if not re.fullmatch(r"tgap: [^\n]+\n", said):
+        faults.append("it is not one line")
+    return [f"{fault}: {said!r}" for fault in faults]
+
+
+def help_is_given(tests):
+    texts = [tests.checkout.run(*words) for words in (["--help"], ["-h"], ["help"])]
+    tests.same("the help by three words", [text[0::2] for text in texts], [(0, "")] * 3)
+    tests.same("one help", len({text[1] for text in texts}), 1)
+    help_text = texts[0][1].decode()
+    for command in COMMANDS:
+        tests.same(f"an example of {command}", f"\n      ./tgap {command} examples/" in help_text or f"\n      ./tgap {command} coarse" in help_text, True)
+    tests.same("lines of the help that are too wide", [line for line in help_text.splitlines() if len(line) > 150], [])
+
+
+def examples_of_the_help_work(tests):
+    """Each example is a command line that ends with 0, in the order of the help; `serve`, which does not end, is tested with the signals."""
+    lines = [line.strip() for line in tests.checkout.run("--help")[1].decode().splitlines() if line.startswith("      ./tgap")]
+    environment = {"PATH": str(tests.checkout.bare)}
+    try:
+        for line in lines:
+            if " serve " not in line:
+                ran = subprocess.run(["/bin/sh", "-c", line], cwd=tests.checkout.top, env=environment, capture_output=True, timeout=SECONDS, check=False)
+                tests.same(line, (ran.returncode, ran.stderr), (0, b""))
+    finally:
+        for name in ("coarse", "packet"):
+            (tests.checkout.top / name).unlink(missing_ok=True)
+
+
+def no_words_give_the_help_too(tests):
+    (status, out, said), of_program = both(tests, [])
+    tests.same("no words: what the program answers", (status, out), of_program)
+    tests.same("no words: the help on the standard error", said.encode(), tests.checkout.run("--help")[1])
+
+
+def version_is_told(tests):
+    checkout = tests.checkout
+    version = (checkout.top / "VERSION").read_text(encoding="ascii")
+    wanted = f"tgap {version}sources {sum_of(checkout.source_lines().encode())}\ntoolchain {TOOLCHAIN}\n"
+    tests.same("the version", checkout.run("--version"), (0, wanted.encode(), ""))
+    with checkout.altered("crates/lemmas/src/lib.rt", b"// other\n"):
+        status, out, said = checkout.run("--version")
+        changed = f"sources {sum_of(checkout.source_lines().encode())}\n"
+        tests.same("the version of other sources", (status, changed in out.decode(), "not that of these sources" in said), (0, True, True))
+
+
+def statuses_have_sentences(tests):
+    for words, status, fragments in SENTENCES:
+        (got, out, said), of_program = both(tests, words)
+        tests.same(f"{words}: what the program answers", (got, out), of_program)
+        tests.tell(f"{words}: its sentence", is_sentence(said, status, fragments))
+
+
+def unwritten_answer_has_a_sentence(tests):
+    with open("/dev/full", "wb") as full:
+        status, _, said = tests.checkout.run("check", TWO, stdout=full)
+    tests.tell("an answer that could not be written", is_sentence(said, 6, ["standard output", "docs/formats.md"]) + ([] if status == 6 else [f"got {status}"]))
+
+
+def taken_port_has_a_sentence(tests):
+    port = free_port()
+    with socket.socket() as one:
+        one.bind(("127.0.0.1", port))
+        one.listen()
+        (status, out, said), of_program = both(tests, ["serve", TWO, str(port), "1", "1"])
+    tests.same("a port that is taken: what the program answers", (status, out), of_program)
+    tests.tell("a port that is taken: its sentence", is_sentence(said, 8, [f"port {port}", "docs/deployment.md"]))
+
+
+def rare_statuses_have_sentences(tests):
+    """Statuses that a test cannot bring about come from a stand-in for the program."""
+    checkout = tests.checkout
+    program = checkout.released.read_bytes()
+    try:
+        for status, fragments in [(7, [f"memory for '{TWO}'", "docs/performance.md"]), (77, ["ended with status 77"])]:
+            checkout.release(f"#!/bin/sh\necho answer\nexit {status}\n".encode())
+            got, out, said = checkout.run("check", TWO)
+            tests.same(f"status {status}: the answer", (got, out), (status, b"answer\n"))
+            tests.tell(f"status {status}: its sentence", is_sentence(said, status, fragments))
+    finally:
+        checkout.release(program)
+
+
+TESTS = [
+    help_is_given,
+    examples_of_the_help_work,
+    no_words_give_the_help_too,
+    version_is_told,
+    statuses_have_sentences,
+    unwritten_answer_has_a_sentence,
+    taken_port_has_a_sentence,
+    rare_statuses_have_sentences,
+]
