@@ -177,7 +177,8 @@ class Front(Running):
         return ssl.create_default_context(cafile=str(self.room / "etc/certificate.pem")).wrap_socket(one, server_hostname=NAME)
 
     def client(self, source="127.0.0.1"):
-        client = http.client.HTTPSConnection(NAME, timeout=SECONDS)
+        # Over a socket that has TLS already, so that no certificates of the system are read.
+        client = http.client.HTTPConnection(NAME, timeout=SECONDS)
         client.sock = self.socket(source)
         return client
 
