@@ -1,0 +1,129 @@
+"""The pieces of nginx's configuration in docs/deployment.md, each put where it says, with requests that only it answers."""
+import re
+
+from front import COLUMBUS, NAME, PASSWORD, TOP, Front, Program, exchanged
+
+SQUARES = [TOP / "examples/two_squares.tgap"]
+OTHER = "holland.example"
+PAGE = "https://page.example"
+EVIL = {"Origin": "http://evil.example"}
+OWN_BATCH = b"class 1 0\n"
+CHOICE = """    map $host $map {
+        map.example columbus;
+    }
+    upstream columbus {
+        server unix:/run/tgap/columbus.sock;
+    }
+"""
+CACHE = "            add_header Cache-Control no-store always;\n"
+
+
+def all_of(tests, executable):
+    pieces = pieces_of((TOP / "docs/deployment.md").read_text())
+    tests.same("pieces in docs/deployment.md", len(pieces), 7)
+    with Program(executable, COLUMBUS) as columbus, Program(executable, SQUARES) as squares:
+        readers_elsewhere(tests, pieces, columbus)
+        editors_elsewhere(tests, pieces, columbus)
+        by_host(tests, pieces, columbus, squares)
+        by_path(tests, pieces, columbus, squares)
+        another_machine(tests, pieces, columbus, squares)
+
+
+def pieces_of(text):
+    """Each piece by its first line, a comment."""
+    blocks = re.findall(r"^```nginx\n# (.*)\n([\s\S]*?)^```$", text, re.MULTILINE)
+    return dict(blocks)
+
+
+def piece(pieces, begin):
+    """The piece whose comment begins like this."""
+    (found,) = [text for comment, text in pieces.items() if comment.startswith(begin)]
+    return found
+
+
+def location(text, line):
+    """The whole block that begins with this line."""
+    begin = text.index(f"        {line} {{\n")
+    return text[begin : text.index("\n        }\n", begin) + len("\n        }\n")]
+
+
+def readers_elsewhere(tests, pieces, program):
+    added = piece(pieces, "reading: in location /map/")
+    with Front(program.port, lambda text: exchanged(text, [(CACHE, CACHE + added)])) as front:
+        reply = front.ask("GET", "/map/info", None, EVIL)
+        tests.same("a page of another origin reads", (reply.status, reply.headers["Access-Control-Allow-Origin"], reply.headers["Access-Control-Expose-Headers"]), (200, "*", "Tgap-Version"))
+        tests.same("and edits nothing", front.edit(OWN_BATCH, EVIL).status, 403)
+    with Front(program.port) as front:
+        tests.same("without these lines no page reads", front.ask("GET", "/map/info", None, EVIL).headers["Access-Control-Allow-Origin"], None)
+
+
+def editors_elsewhere(tests, pieces, program):
+    origin, headers = piece(pieces, "editing: in map"), piece(pieces, "editing: in location = /map/edit")
+    own = f"        https://{NAME} 0;\n"
+    first, last = "                return 403;\n            }\n", "            limit_conn editors 1;\n"
+    with Front(program.port, lambda text: exchanged(text, [(own, own + origin), (first, first + headers), (last, last + headers)])) as front:
+        asked = front.ask("OPTIONS", "/map/edit", None, {"Origin": PAGE, "Access-Control-Request-Method": "POST", "Access-Control-Request-Headers": "authorization"})
+        told = [asked.headers[f"Access-Control-Allow-{name}"] for name in ["Origin", "Credentials", "Headers"]]
+        tests.same("the browser asks for a page that may edit", (asked.status, told), (204, [PAGE, "true", "Authorization"]))
+        reply = front.edit(OWN_BATCH, {"Origin": PAGE})
+        tests.same("its edit", (reply.status, reply.headers["Access-Control-Allow-Origin"], reply.headers["Access-Control-Expose-Headers"]), (200, PAGE, "Tgap-Version"))
+        tests.same("its edit without a password", front.ask("POST", "/map/edit", OWN_BATCH, {"Origin": PAGE}).status, 401)
+        for method in ["OPTIONS", "POST"]:
+            refused = front.ask(method, "/map/edit", None, {**PASSWORD, **EVIL})
+            tests.same(f"{method} of any other page", (refused.status, refused.headers["Access-Control-Allow-Origin"]), (403, None))
+
+
+def two_programs(columbus, squares):
+    """The sockets of the document, as the ports of these programs; the first of them is exchanged by every front server of the tests."""
+    return [("unix:/run/tgap/holland.sock", f"127.0.0.1:{squares.port}")]
+
+
+def faces_of(reply):
+    return reply.status, int(re.search(rb"faces (\d+)", reply.text)[1]) if reply.status == 200 else None
+
+
+def by_host(tests, pieces, columbus, squares):
+    names = [(f"server_name {NAME};", f"server_name {NAME} {OTHER};"), (f"        https://{NAME} 0;\n", f"        https://{NAME} 0;\n        https://{OTHER} 0;\n")]
+    change = [(CHOICE, piece(pieces, "by host")), *names, *two_programs(columbus, squares)]
+    with Front(columbus.port, lambda text: exchanged(text, change)) as front:
+        tests.same("the map of the first host", faces_of(front.ask("GET", "/map/info")), (200, 49))
+        tests.same("the map of the second", faces_of(front.ask("GET", "/map/info", None, {"Host": OTHER})), (200, 2))
+        tests.same("no map of a third", front.ask("GET", "/map/info", None, {"Host": "other.example"}).status, 403)
+        before = squares.ask("GET", "/info").text
+        tests.same("an edit of the second", front.edit(OWN_BATCH, {"Host": OTHER, "Origin": f"https://{OTHER}"}).status, 200)
+        tests.holds("is one of that map", squares.ask("GET", "/info").text != before)
+
+
+def by_path(tests, pieces, columbus, squares):
+    def change(text):
+        edits = location(text, "location = /map/edit")
+        reading = location(text, "location /map/")
+        pairs = [(CHOICE, piece(pieces, "by path: in place of map")), (edits, ""), (reading, piece(pieces, "by path: in place of location")), *two_programs(columbus, squares)]
+        return exchanged(text, pairs)
+
+    with Front(columbus.port, change) as front:
+        tests.same("the map of the first path", faces_of(front.ask("GET", "/columbus/map/info")), (200, 49))
+        tests.same("the map of the second path", faces_of(front.ask("GET", "/holland/map/info?a=b")), (200, 2))
+        tests.same("a window by path", front.ask("GET", "/holland/map/window/0/0/0/1/1").status, 200)
+        for path in ["/other/map/info", "/other/map/edit", "/map/info", "/holland/info"]:
+            tests.same(f"no map at {path}", front.ask("GET", path).status, 404)
+        before = squares.ask("GET", "/info").text
+        for path in ["/holland/map/edit", "/holland/map//edit", "/holland/map/%65dit", "/columbus/../holland/map/edit"]:
+            tests.same(f"no edit without a password by {path}", front.ask("POST", path, OWN_BATCH).status, 401)
+            tests.same(f"no foreign edit by {path}", front.edit(OWN_BATCH, EVIL, path).status, 403)
+        tests.same("nothing was published by path", squares.ask("GET", "/info").text, before)
+        tests.same("an edit by path", front.edit(OWN_BATCH, path="/holland/map/edit").status, 200)
+        tests.holds("is one of the map of that path", squares.ask("GET", "/info").text != before)
+
+
+def another_machine(tests, pieces, columbus, squares):
+    """One front server before another, which has the second map."""
+    with Front(squares.port) as far:
+        passed_on = exchanged(piece(pieces, "on another machine"), [
+            (f"https://{OTHER}/map/", f"https://127.0.0.1:{far.port}/map/"), (OTHER, NAME), ("/etc/ssl/certs/ca-certificates.crt", far.room / "etc/certificate.pem"),
+        ])
+        place = "        location = /map/edit {\n"
+        with Front(columbus.port, lambda text: exchanged(text, [(place, passed_on + place)])) as front:
+            tests.same("the map of this machine", faces_of(front.ask("GET", "/map/info")), (200, 49))
+            tests.same("the map of another machine", faces_of(front.ask("GET", "/holland/map/info")), (200, 2))
+            tests.same("no edit goes there", front.edit(OWN_BATCH, path="/holland/map/edit").status, 401)

@@ -1,0 +1,248 @@
+"""The program with a front server before it, as the tests of deploy/ want them: nginx with deploy/nginx.conf, in which ports and folders are exchanged, and
+examples/web/run as it stands."""
+import base64
+import http.client
+import os
+import pathlib
+import re
+import resource
+import shutil
+import signal
+import socket
+import ssl
+import subprocess
+import sys
+import tempfile
+import time
+
+TOP = pathlib.Path(__file__).resolve().parents[2]
+NAME = "map.example"
+PASSWORD = {"Authorization": "Basic " + base64.b64encode(b"anna:secret").decode()}
+# Enough for a loaded machine; what hangs takes longer.
+SECONDS = 60
+PATH = os.environ.get("PATH", "") + ":/usr/local/sbin:/usr/sbin:/sbin"
+PROXY = "/lib/systemd/systemd-socket-proxyd"
+COLUMBUS = [TOP / "examples/columbus.json", "areas", TOP / "examples/columbus.rules.json"]
+
+
+def tool(name):
+    """Where a tool is, or None."""
+    return shutil.which(name, path=PATH)
+
+
+def free_port():
+    with socket.socket() as one:
+        one.bind(("127.0.0.1", 0))
+        return one.getsockname()[1]
+
+
+def until(holds, seconds=SECONDS):
+    """Whether something comes to hold in time."""
+    end = time.monotonic() + seconds
+    while not (held := holds()) and time.monotonic() < end:
+        time.sleep(0.02)
+    return held
+
+
+def listens(port):
+    with socket.socket() as one:
+        return one.connect_ex(("127.0.0.1", port)) == 0
+
+
+class Running:
+    """A process with a group of its own, which is stopped at the end."""
+
+    def __init__(self, words, **rest):
+        self.process = subprocess.Popen([str(word) for word in words], stdin=subprocess.DEVNULL, start_new_session=True, **rest)
+
+    def __enter__(self):
+        return self
+
+    def __exit__(self, *_):
+        self.stop()
+
+    def stop(self, by=signal.SIGTERM):
+        if self.process.poll() is None:
+            os.killpg(self.process.pid, by)
+        self.process.wait(SECONDS)
+
+
+class Program(Running):
+    """The program, serving a map: `words` are the map, its object and its rules."""
+
+    def __init__(self, executable, words, workers=4, versions=16, port=None, before=()):
+        self.port = port or free_port()
+        command = [*before, executable, "serve", words[0], self.port, workers, versions, *words[1:]]
+        super().__init__(command, stdout=subprocess.PIPE)
+        if self.process.stdout.readline() != f"serving {self.port}\n".encode():
+            self.stop()
+            raise RuntimeError(f"the program does not serve {words[0]}")
+
+    def stop(self, by=signal.SIGTERM):
+        super().stop(by)
+        self.process.stdout.close()
+
+    def limit_address_space(self, more):
+        """Lets it have this many bytes more than it has."""
+        has = int(re.search(r"VmSize:\s+(\d+) kB", pathlib.Path(f"/proc/{self.process.pid}/status").read_text())[1]) << 10
+        resource.prlimit(self.process.pid, resource.RLIMIT_AS, (has + more, has + more))
+
+    def ask(self, method, path, body=None):
+        """Past the front server."""
+        return answer_of(http.client.HTTPConnection("127.0.0.1", self.port, timeout=SECONDS), method, path, body)
+
+
+class Answer:
+    def __init__(self, status, headers, text):
+        self.status, self.headers, self.text = status, headers, text
+
+    @property
+    def told(self):
+        return self.status, self.text
+
+
+def answer_of(client, method, path, body=None, headers=None, close=True):
+    try:
+        client.request(method, path, body, headers or {})
+        reply = client.getresponse()
+        return Answer(reply.status, reply.headers, reply.read())
+    finally:
+        if close:
+            client.close()
+
+
+def version_of(text):
+    """The version that a reply to /info tells."""
+    return int(re.match(rb"version (\d+) ", text)[1])
+
+
+def exchanged(text, pairs):
+    """The text with each first word of a pair, which must be in it, replaced by the second."""
+    for old, new in pairs:
+        if old not in text:
+            raise RuntimeError(f"deploy/nginx.conf has no '{old}'")
+        text = text.replace(old, str(new))
+    return text
+
+
+def temporary_folders(room):
+    return "".join(f"{name}_temp_path {room}/{name};\n" for name in ["client_body", "proxy", "fastcgi", "uwsgi", "scgi"])
+
+
+class Front(Running):
+    """nginx with deploy/nginx.conf before the program that listens at `upstream`, a port or the path of a socket."""
+
+    def __init__(self, upstream, change=lambda text: text):
+        self.room = pathlib.Path(tempfile.mkdtemp(prefix="tgap-front-"))
+        # Where root starts nginx, its workers are another user.
+        self.room.chmod(0o755)
+        self.plain, self.port = free_port(), free_port()
+        for folder in ["etc", "log", "page", "acme"]:
+            (self.room / folder).mkdir()
+        (self.room / "page/index.html").write_text("the page\n")
+        make_certificate(self.room / "etc")
+        make_password(self.room / "etc/editors")
+        text = change((TOP / "deploy/nginx.conf").read_text())
+        place = f"unix:{upstream}" if isinstance(upstream, pathlib.Path) else f"127.0.0.1:{upstream}"
+        text = exchanged(text, [
+            ("pid /run/nginx.pid", f"daemon off;\npid {self.room}/pid"), ("http {", "http {\n" + temporary_folders(self.room)),
+            ("/var/log/nginx/", f"{self.room}/log/"), ("/var/log/tgap/", f"{self.room}/log/"), ("/etc/tgap/", f"{self.room}/etc/"),
+            ("/srv/tgap/page", f"{self.room}/page"), ("/var/www/acme", f"{self.room}/acme"),
+            ("listen 80", f"listen 127.0.0.1:{self.plain}"), ("listen 443", f"listen 127.0.0.1:{self.port}"), ("unix:/run/tgap/columbus.sock", place),
+        ])
+        self.conf = self.room / "nginx.conf"
+        self.conf.write_text(text)
+        self.words = [tool("nginx"), "-e", self.room / "log/error.log", "-p", self.room, "-c", self.conf]
+        super().__init__(self.words, stderr=subprocess.DEVNULL)
+        if not until(lambda: listens(self.port) or self.process.poll() is not None) or self.process.poll() is not None:
+            raise RuntimeError("nginx does not start: " + (self.room / "log/error.log").read_text())
+
+    def stop(self, by=signal.SIGTERM):
+        super().stop(by)
+        shutil.rmtree(self.room, ignore_errors=True)
+
+    def tested(self):
+        """What `nginx -t` says, status and text."""
+        told = subprocess.run([str(word) for word in [*self.words, "-t"]], capture_output=True, text=True, check=False)
+        return told.returncode, told.stderr
+
+    def socket(self, source="127.0.0.1", room=None):
+        """A connection with TLS, over which nothing has been sent, from an address of this machine, with this much room for what comes."""
+        one = socket.socket()
+        if room:
+            one.setsockopt(socket.SOL_SOCKET, socket.SO_RCVBUF, room)
+        one.settimeout(SECONDS)
+        one.bind((source, 0))
+        one.connect(("127.0.0.1", self.port))
+        return ssl.create_default_context(cafile=str(self.room / "etc/certificate.pem")).wrap_socket(one, server_hostname=NAME)
+
+    def client(self, source="127.0.0.1"):
+        # Over a socket that has TLS already, so that no certificates of the system are read.
+        client = http.client.HTTPConnection(NAME, timeout=SECONDS)
+        client.sock = self.socket(source)
+        return client
+
+    def ask(self, method, path, body=None, headers=None, source="127.0.0.1"):
+        return answer_of(self.client(source), method, path, body, headers)
+
+    def edit(self, batch, headers=None, path="/map/edit"):
+        return self.ask("POST", path, batch, {**PASSWORD, **(headers or {})})
+
+    def version(self):
+        return version_of(self.ask("GET", "/map/info").text)
+
+
+def make_certificate(folder):
+    words = [tool("openssl"), "req", "-x509", "-newkey", "ec", "-pkeyopt", "ec_paramgen_curve:prime256v1", "-nodes", "-days", "2", "-subj", f"/CN={NAME}",
+             "-addext", f"subjectAltName=DNS:{NAME}", "-keyout", folder / "key.pem", "-out", folder / "certificate.pem"]
+    subprocess.run([str(word) for word in words], check=True, stderr=subprocess.DEVNULL)
+
+
+def make_password(file):
+    kept = subprocess.run([tool("openssl"), "passwd", "-6", "secret"], capture_output=True, text=True, check=True).stdout
+    file.write_text(f"anna:{kept}")
+
+
+class Example(Running):
+    """examples/web/run over the program, as a user starts it."""
+
+    def __init__(self, executable, path=PATH):
+        environment = {**os.environ, "TGAP_SERVER": str(executable), "PATH": path}
+        super().__init__([TOP / "examples/web/run"], stdout=subprocess.PIPE, env=environment)
+        said = self.process.stdout.readline().decode()
+        if not (found := re.fullmatch(r"http://127\.0\.0\.1:(\d+)/\n", said)):
+            raise RuntimeError(f"examples/web/run says {said!r}")
+        self.port = int(found[1])
+
+    def stop(self, by=signal.SIGTERM):
+        # It stops what it started.
+        if self.process.poll() is None:
+            self.process.send_signal(by)
+        self.process.wait(SECONDS)
+        self.process.stdout.close()
+
+    def ask(self, method, path, body=None, headers=None):
+        return answer_of(http.client.HTTPConnection("127.0.0.1", self.port, timeout=SECONDS), method, path, body, headers)
+
+
+class Tests:
+    def __init__(self):
+        self.passed, self.failed, self.skipped = 0, 0, 0
+
+    def same(self, name, got, wanted):
+        if got == wanted:
+            self.passed += 1
+        else:
+            self.failed += 1
+            print(f"{name}: FAILED\n  wanted {wanted!r:.300}\n  got    {got!r:.600}", flush=True)
+
+    def holds(self, name, is_so, told=""):
+        self.same(f"{name} {told}", bool(is_so), True)
+
+    def skip(self, name, why):
+        self.skipped += 1
+        print(f"tests/deploy: {name} skipped, for want of {why}", flush=True)
+
+    def end(self):
+        print(f"{self.passed} passed, {self.failed} failed, {self.skipped} skipped")
+        sys.exit(self.failed != 0)
