@@ -11,8 +11,6 @@ mod reply;
 mod request;
 mod routing;
 mod table;
-#[cfg(test)]
-mod tests;
 
 pub use head::{
     BAD_REQUEST, CONTENT_TOO_LARGE, Head, HeadEnds, HeadState, MAX_BODY_BYTES, MAX_HEAD_BYTES,
