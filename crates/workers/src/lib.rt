@@ -6,8 +6,6 @@ mod attend;
 mod closing;
 mod end;
 mod post;
-#[cfg(test)]
-mod tests;
 mod work;
 
 pub use attend::{Attend, serve_door};

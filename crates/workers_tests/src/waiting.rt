@@ -2,13 +2,13 @@
 
 ghost use Rattle.plain_io.specs.Links.{IsNew};
 
-use crate::{Attend, PostOf, ServeEnd, serve_posts};
 use plain_io::{ConnectionEnd, EndKind, Flag, HeldLink, Link, SureDoor};
 use std::alloc::Global;
 use std::sync::Wait;
 use std::test::Fail;
 use std::thread::Threads;
 use tgap_model::{List, Memory};
+use workers::{Attend, PostOf, ServeEnd, serve_posts};
 
 /// Puts back what it takes, until there is no more.
 #[derive(Drop)]
