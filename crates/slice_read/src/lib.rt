@@ -56,6 +56,3 @@ pub fn slice_at(alloc: Global, built: &Built, k: u32) -> Result<Slice, ReadFail>
         edges: edges_of(alloc, tree, forest, ids.as_slice(), k)?,
     })
 }
-
-#[cfg(test)]
-mod tests;
