@@ -71,6 +71,3 @@ pub fn packet(alloc: Global, built: &Built, from: u32, to: u32) -> Result<Packet
         steps: records_down(alloc, built, from, to)?,
     })
 }
-
-#[cfg(test)]
-mod tests;
