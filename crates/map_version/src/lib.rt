@@ -11,8 +11,6 @@ mod fault;
 mod line;
 mod path;
 mod places;
-#[cfg(test)]
-mod tests;
 mod version;
 
 pub use batch::edited;

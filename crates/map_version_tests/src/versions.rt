@@ -1,0 +1,65 @@
+//! The version that is built of a batch, and a batch whose map is refused.
+
+use crate::squares::{points_of, squares};
+use base_check::check;
+use map_version::{RebuildFail, Version, rebuild};
+use std::alloc::Global;
+use std::test::Fail;
+use std::thread::Threads;
+use tgap_build::{Built, build};
+use tgap_model::{Fraction, Holds, MapFault, Memory, Or, Point};
+
+/// What is built of the two squares.
+fn built_squares<R: Threads + Sync>(rt: &R, alloc: Global) -> Result<Option<Built>, Memory> {
+    let Some(base) = squares(alloc, &[(10, 0), (10, 10)])? else {
+        return Ok(None);
+    };
+    match check(rt, alloc, base) {
+        Ok(checked) => Ok(Some(build(rt, alloc, checked)?)),
+        Err(Or::Fault(_)) => Ok(None),
+        Err(Or::Memory) => Err(Memory),
+    }
+}
+
+/// The version that follows on this one by a batch.
+fn next<R: Threads + Sync>(
+    rt: &R,
+    alloc: Global,
+    version: &Version,
+    batch: &[u8],
+) -> Result<Version, RebuildFail> {
+    rebuild(rt, alloc, version, batch)
+}
+
+#[test]
+fn the_next_version_is_built(rt: HostRuntime) -> Result<(), Fail> {
+    let alloc = rt.alloc();
+    let built = built_squares(&rt, alloc)?.ok_or("no map was built")?;
+    let first = Version { number: 0, built };
+    let second = next(&rt, alloc, &first, b"move 20 10 24 10\n")?;
+    assert_eq!(rt; second.number(), 1);
+    assert_eq!(rt;
+        points_of(second.built.base(), 1).get(2).copied(),
+        Some(Point { x: 24, y: 10 })
+    );
+    Ok(())
+}
+
+#[test]
+fn an_edited_map_with_a_fault_is_refused(rt: HostRuntime) -> Result<(), Fail> {
+    let alloc = rt.alloc();
+    let built = built_squares(&rt, alloc)?.ok_or("no map was built")?;
+    let first = Version { number: 0, built };
+    let fault = match next(&rt, alloc, &first, b"move 20 0 0 5\n") {
+        Ok(_) => None,
+        Err(fail) => Some(fail),
+    };
+    let at = Fraction {
+        nx: 0,
+        ny: 500,
+        d: 100,
+    };
+    let expected = RebuildFail::Map(MapFault::Meets { i: 1, j: 3, at });
+    assert_eq!(rt; fault, Some(expected));
+    Ok(())
+}
