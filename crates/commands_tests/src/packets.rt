@@ -47,11 +47,8 @@ fn packets_there_and_back(rt: HostRuntime) -> Result<(), Fail> {
             List::new(alloc),
         )?;
         let (found, put) = answered(&rt, alloc, words, &mut files)?;
-        assert_eq!(rt;
-            (found, put.as_slice()),
-            (status, text.as_bytes()),
-            "{words}"
-        );
+        assert_eq!(rt; found, status, "{words}");
+        assert_eq!(rt; put.as_slice(), text.as_bytes(), "{words}");
     }
     Ok(())
 }

@@ -125,11 +125,8 @@ fn slices_of_worked_maps(rt: HostRuntime) -> Result<(), Fail> {
         (TWO_SQUARES_RATIO_0, "Slice map 0", 2, USAGE),
     ] {
         let (found, put) = answered_of_map(&rt, alloc, words, map.as_bytes())?;
-        assert_eq!(rt;
-            (found, put.as_slice()),
-            (status, text.as_bytes()),
-            "{words}"
-        );
+        assert_eq!(rt; found, status, "{words}");
+        assert_eq!(rt; put.as_slice(), text.as_bytes(), "{words}");
     }
     Ok(())
 }

@@ -63,7 +63,8 @@ fn bad_listings(rt: HostRuntime) -> Result<(), Fail> {
         let bytes = with_line(alloc, number, line)?;
         let (status, put) = answered_of_map(&rt, alloc, "borders map 0", bytes.as_slice())?;
         let text = format!(in alloc; "refused {fault}\n")?;
-        assert_eq!(rt; (status, put.as_slice()), (4, text.as_bytes()), "{fault}");
+        assert_eq!(rt; status, 4, "{fault}");
+        assert_eq!(rt; put.as_slice(), text.as_bytes(), "{fault}");
     }
     Ok(())
 }
@@ -84,7 +85,8 @@ fn cut_long_and_lonely_files(rt: HostRuntime) -> Result<(), Fail> {
         (long.as_slice(), "refused 20 input-long 16777216\n"),
     ] {
         let (status, put) = answered_of_map(&rt, alloc, "borders map 0", bytes)?;
-        assert_eq!(rt; (status, put.as_slice()), (4, text.as_bytes()));
+        assert_eq!(rt; status, 4);
+        assert_eq!(rt; put.as_slice(), text.as_bytes());
     }
     Ok(())
 }
@@ -97,7 +99,8 @@ fn each_cut_of_a_listing_has_its_line(rt: HostRuntime) -> Result<(), Fail> {
         let line = front.split(|b| *b == b'\n').count();
         let (status, put) = answered_of_map(&rt, alloc, "check map", front)?;
         let text = format!(in alloc; "refused 18 bad-line {line}\n")?;
-        assert_eq!(rt; (status, put.as_slice()), (4, text.as_bytes()));
+        assert_eq!(rt; status, 4);
+        assert_eq!(rt; put.as_slice(), text.as_bytes());
     }
     Ok(())
 }

@@ -119,11 +119,8 @@ fn checked_maps(rt: HostRuntime) -> Result<(), Fail> {
         let bytes = listing_of(alloc, faces, arcs)?;
         let (found, put) = answered_of_map(&rt, alloc, "check map", bytes.as_slice())?;
         let line = format!(in alloc; "{text}\n")?;
-        assert_eq!(rt;
-            (found, put.as_slice()),
-            (status, line.as_bytes()),
-            "{text}"
-        );
+        assert_eq!(rt; found, status, "{text}");
+        assert_eq!(rt; put.as_slice(), line.as_bytes(), "{text}");
     }
     Ok(())
 }
@@ -147,7 +144,8 @@ fn the_greatest_number_of_points(rt: HostRuntime) -> Result<(), Fail> {
     ] {
         let bytes = long_arc(alloc, points)?;
         let (found, put) = answered_of_map(&rt, alloc, "check map", bytes.as_slice())?;
-        assert_eq!(rt; (found, put.as_slice()), (status, text.as_bytes()));
+        assert_eq!(rt; found, status);
+        assert_eq!(rt; put.as_slice(), text.as_bytes());
     }
     Ok(())
 }

@@ -37,15 +37,13 @@ fn commands_and_faults(rt: HostRuntime) -> Result<(), Fail> {
         ("serve map 8080 0 4", 2, USAGE),
     ] {
         let (found, put) = ran(&rt, alloc, words, List::new(alloc), &mut harbour)?;
-        assert_eq!(rt;
-            (found, put.as_slice()),
-            (status, text.as_bytes()),
-            "{words}"
-        );
+        assert_eq!(rt; found, status, "{words}");
+        assert_eq!(rt; put.as_slice(), text.as_bytes(), "{words}");
     }
     assert_eq!(rt; harbour.came_back().len(), 2);
     let (status, put) = ran(&rt, alloc, "check map", first_call(alloc)?, &mut harbour)?;
-    assert_eq!(rt; (status, put.as_slice()), (6, b"".as_slice()));
+    assert_eq!(rt; status, 6);
+    assert_eq!(rt; put.as_slice(), b"".as_slice());
     let mut failing: MemoryHarbour<MemoryLink> = MemoryHarbour::new(
         alloc,
         List::new(alloc),
@@ -58,6 +56,7 @@ fn commands_and_faults(rt: HostRuntime) -> Result<(), Fail> {
         List::new(alloc),
         &mut failing,
     )?;
-    assert_eq!(rt; (status, put.as_slice()), (8, b"port fault\n".as_slice()));
+    assert_eq!(rt; status, 8);
+    assert_eq!(rt; put.as_slice(), b"port fault\n".as_slice());
     Ok(())
 }

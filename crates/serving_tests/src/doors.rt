@@ -13,7 +13,8 @@ fn two_doors_and_none(rt: HostRuntime) -> Result<(), Fail> {
     // Two doors, of which no link comes.
     let mut harbour: SureHarbour<SureLink> = SureHarbour::new(alloc, List::new(alloc));
     let (status, put) = served(&rt, alloc, "serve map 8080 2 4", &mut harbour)?;
-    assert_eq!(rt; (status, put.as_slice()), (0, b"serving 8080\n".as_slice()));
+    assert_eq!(rt; status, 0);
+    assert_eq!(rt; put.as_slice(), b"serving 8080\n".as_slice());
     assert_eq!(rt; harbour.came_back().len(), 2);
     // The first call for doors fails.
     let mut harbour: MemoryHarbour<MemoryLink> = MemoryHarbour::new(
@@ -22,7 +23,8 @@ fn two_doors_and_none(rt: HostRuntime) -> Result<(), Fail> {
         first_call(alloc)?,
     );
     let (status, put) = served(&rt, alloc, "serve map 8080 2 4", &mut harbour)?;
-    assert_eq!(rt; (status, put.as_slice()), (8, b"port fault\n".as_slice()));
+    assert_eq!(rt; status, 8);
+    assert_eq!(rt; put.as_slice(), b"port fault\n".as_slice());
     // No worker is none.
     let words = words_of(alloc, "serve map 8080 0 4")?;
     assert!(rt; parse_serve(words.as_slice()).is_none());

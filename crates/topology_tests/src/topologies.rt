@@ -101,11 +101,8 @@ fn worked_topologies(rt: HostRuntime) -> Result<(), Fail> {
             packet: Text::new(alloc),
         });
         let (found, put) = answered(&rt, alloc, words, &mut files)?;
-        assert_eq!(rt;
-            (found, put.as_slice()),
-            (status, text.as_bytes()),
-            "{words}"
-        );
+        assert_eq!(rt; found, status, "{words}");
+        assert_eq!(rt; put.as_slice(), text.as_bytes(), "{words}");
     }
     Ok(())
 }
@@ -161,13 +158,12 @@ fn files_are_loaded_in_order(rt: HostRuntime) -> Result<(), Fail> {
     ] {
         let mut files = two_files(alloc, map, List::new(alloc))?;
         let (found, put) = answered(&rt, alloc, words, &mut files)?;
-        assert_eq!(rt; (found, put.as_slice()), (status, text.as_bytes()));
+        assert_eq!(rt; found, status);
+        assert_eq!(rt; put.as_slice(), text.as_bytes());
     }
     let mut failing = two_files(alloc, TOPOLOGY.as_bytes(), first_call(alloc)?)?;
     let (status, put) = answered(&rt, alloc, "check map land rules", &mut failing)?;
-    assert_eq!(rt;
-        (status, put.as_slice()),
-        (3, b"load fault map\n".as_slice())
-    );
+    assert_eq!(rt; status, 3);
+    assert_eq!(rt; put.as_slice(), b"load fault map\n".as_slice());
     Ok(())
 }
