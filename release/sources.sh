@@ -16,7 +16,8 @@ sum_of_sources() { source_sums | sha256sum | cut -d ' ' -f 1; }
 # What is not as SOURCES has it, a line for each file; nothing where SOURCES is true of the checkout and of the released executable.
 differences() {
     [ -f "$sums" ] || { echo "$sums is missing"; return; }
-    LC_ALL=C sha256sum -c --quiet "$sums" 2>/dev/null | sed -e 's/: FAILED open or read$/ is missing/' -e 's/: FAILED$/ is another/'
+    wrong=$(LC_ALL=C sha256sum -c --quiet "$sums" 2>/dev/null)
+    [ -z "$wrong" ] || echo "$wrong" | sed -e 's/: FAILED open or read$/ is missing/' -e 's/: FAILED$/ is another/'
     # Each file that SOURCES lists is there, or is told above; so where the numbers are the same, none was added.
     [ "$(grep -c '^[^#]' "$sums")" -eq $(($(source_files | wc -l) + 2)) ] || added_source
 }

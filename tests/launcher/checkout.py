@@ -151,4 +151,4 @@ def checkouts(executable):
     with tempfile.TemporaryDirectory(prefix="launcher-") as room:
         os.chmod(room, 0o755)
         room = pathlib.Path(room)
-        yield Checkout(room / "few", executable, ["lemmas", "map_server"]), Checkout(room / "all", executable)
+        yield Checkout(room / "few", executable, ["lemmas", "tgap_model", "map_server"]), Checkout(room / "all", executable)

@@ -55,7 +55,7 @@ def signals_stop_the_server(tests):
 
 
 def signals_to_the_program_end_the_launcher(tests):
-    for sent in (signal.SIGTERM, signal.SIGINT, signal.SIGHUP):
+    for sent in (signal.SIGTERM, signal.SIGHUP, signal.SIGKILL):
         with serving(tests) as (started, _):
             (program,) = children(started.pid)
             os.kill(program, sent)
@@ -67,6 +67,8 @@ def standard_input_is_passed_on(tests):
     with (tests.checkout.top / TWO).open("rb") as listing:
         answer = tests.checkout.run("check", "/dev/stdin", stdin=listing)
     tests.same("a map on the standard input", answer, (0, b"ok faces 2 arcs 3 points 10\n", ""))
+    answer = tests.checkout.run("check", TWO, preexec_fn=lambda: os.close(0))
+    tests.same("with no standard input", answer, (0, b"ok faces 2 arcs 3 points 10\n", ""))
 
 
 TESTS = [signals_stop_the_server, signals_to_the_program_end_the_launcher, standard_input_is_passed_on]
