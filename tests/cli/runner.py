@@ -7,7 +7,7 @@ import subprocess
 from lib import SECONDS, TOP
 
 # The tools of the shell that tests/run uses; python3 is none of them.
-TOOLS = ["sh", "cat", "dirname", "grep", "head", "id", "mktemp", "rm", "sed", "tail", "tee", "timeout", "tr"]
+TOOLS = ["sh", "cat", "dirname", "grep", "head", "id", "mktemp", "mv", "rm", "sed", "tail", "tee", "timeout", "tr"]
 LINE = "{} passed, {} failed, {} skipped"
 # Each case: what the suites print, with their statuses, and the closing line of all with the status.
 CASES = [
