@@ -158,8 +158,8 @@ class Server:
             self.process.wait()
         self.process.stdout.close()
 
-    def client(self):
-        return http.client.HTTPConnection("127.0.0.1", self.port, timeout=SECONDS)
+    def client(self, seconds=SECONDS):
+        return http.client.HTTPConnection("127.0.0.1", self.port, timeout=seconds)
 
     def socket(self):
         one = socket.create_connection(("127.0.0.1", self.port), SECONDS)

@@ -18,6 +18,8 @@ PASSED_OVER = ["ECONNABORTED", "EPROTO", "ENETDOWN", "EHOSTUNREACH", "EPERM", "E
 WAITED_OUT = ["EMFILE", "ENFILE", "ENOBUFS", "ENOMEM"]
 BROKEN = ["EBADF", "EINVAL"]
 PORT_FAULT = 8
+# So long a worker that is there may let a client wait.
+WAIT = 30
 WORKERS = 3
 
 
@@ -37,7 +39,7 @@ def may_trace():
 def answers_of_all(server):
     """The answers on as many kept connections as there are workers: each holds a worker, so all of them come only where no worker has ended."""
     with contextlib.ExitStack() as stack:
-        clients = [stack.enter_context(contextlib.closing(server.client())) for _ in range(WORKERS)]
+        clients = [stack.enter_context(contextlib.closing(server.client(WAIT))) for _ in range(WORKERS)]
         return [ask(client, "GET", "/info")[:3] for client in clients]
 
 
@@ -104,8 +106,7 @@ def no_descriptors(tests):
 
 def is_answered(server):
     """Whether a new client is answered within a second."""
-    client = server.client()
-    client.timeout = 1
+    client = server.client(1)
     with contextlib.closing(client):
         try:
             return ask(client, "GET", "/info", None, {"Connection": "close"})[0] == 200

@@ -57,6 +57,7 @@ def requests_of_a_connection(tests):
 
 def one_by_one(server, sent):
     """How many replies there are to one request after the other, and the last of them."""
+    last = b""
     with server.socket() as one:
         for count in range(REQUESTS + 1):
             with contextlib.suppress(BrokenPipeError, ConnectionResetError):
