@@ -30,16 +30,20 @@ usage: ./tgap COMMAND WORD...
       ./tgap borders examples/two_squares.tgap 1
 
   serve MAP PORT WORKERS VERSIONS [OBJECT RULES]
-      answers HTTP at 127.0.0.1:PORT until it is stopped, WORKERS connections at a time, and keeps up to VERSIONS versions of the map
+      answers HTTP at 127.0.0.1:PORT until it is stopped: WORKERS connections at a
+      time, and at most VERSIONS versions of the map
       ./tgap serve examples/two_squares.tgap 8080 4 16
 
-MAP is the file of a listing. With OBJECT and RULES it is the file of a topology (TopoJSON), OBJECT the name of one of its objects, or - for the only
-one, and RULES the file of its rules.
+MAP is the file of a listing. With OBJECT and RULES it is the file of a topology
+(TopoJSON), OBJECT the name of one of its objects, or - for the only one, and RULES
+the file of its rules.
 
   --help, -h, help    this text
-  --version           the version, the sum of the sources, and the toolchain that proved them
+  --version           the version, the sum of the sources, and the toolchain that
+                      proved them
 
-The answer comes on the standard output. The status is 0 where it was done, and otherwise a sentence on the standard error tells what was wrong.
+The answer comes on the standard output. The status is 0 where it was done; else a
+sentence on the standard error tells what was wrong.
 
 docs/guide.md     from your own data to a map that is accepted
 docs/formats.md   the texts, the refusals, and the statuses

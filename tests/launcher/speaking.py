@@ -57,7 +57,7 @@ def help_is_given(tests):
     help_text = texts[0][1].decode()
     for command in COMMANDS:
         tests.same(f"an example of {command}", f"\n      ./tgap {command} examples/" in help_text or f"\n      ./tgap {command} coarse" in help_text, True)
-    tests.same("lines of the help that are too wide", [line for line in help_text.splitlines() if len(line) > 150], [])
+    tests.same("lines of the help that are too wide", [line for line in help_text.splitlines() if len(line) > 84], [])
 
 
 def examples_of_the_help_work(tests):
