@@ -1,32 +1,23 @@
 """Maps of several shapes and sizes. Each is a planar partition whose faces hang together. A shape gives, for its size, the numbers of faces, arcs and
-points and the arcs: left face, right face, number of points and points."""
+points and the arcs: left face, right face and points."""
 import json
+import pathlib
+import sys
+
+sys.path.insert(0, str(pathlib.Path(__file__).resolve().parents[1] / "tests"))
+from lib import arc_text, bent_grid, grid, listing_lines  # noqa: E402
 
 
-def grid(side):
-    """Square cells, side by side: the cell at (column, row) is face row * side + column + 1, and each arc is one side of a cell."""
-
-    def face(column, row):
-        return row * side + column + 1 if 0 <= column < side and 0 <= row < side else 0
-
-    def arcs():
-        for a in range(side + 1):
-            for b in range(side):
-                yield face(a - 1, b), face(a, b), 2, [(a, b), (a, b + 1)]
-                yield face(b, a), face(b, a - 1), 2, [(b, a), (b + 1, a)]
-
-    return side * side, 2 * side * (side + 1), 4 * side * (side + 1), arcs()
+def cells(side):
+    """Square cells, side by side."""
+    faces, count, arcs = grid(side)
+    return faces, count, 2 * count, arcs
 
 
-def bent_grid(side):
-    """The same cells, four times as wide, where each side has a bend that a larger neighbour of it does not need."""
-    faces, count, _, arcs = grid(side)
-
-    def bent(points):
-        (x, y), (u, v) = points
-        return [(4 * x, 4 * y), (4 * x + 1, 4 * y + 2) if x == u else (4 * x + 2, 4 * y + 1), (4 * u, 4 * v)]
-
-    return faces, count, 3 * count, ((left, right, 3, bent(points)) for left, right, _, points in arcs)
+def bent_cells(side):
+    """Cells whose sides have a bend that a larger neighbour does not need."""
+    faces, count, arcs = bent_grid(side)
+    return faces, count, 3 * count, arcs
 
 
 def saw(teeth):
@@ -40,7 +31,7 @@ def saw(teeth):
             yield x, 10 + x % 2
         yield 0, 0
 
-    return 1, 1, end + 4, [(1, 0, end + 4, points())]
+    return 1, 1, end + 4, [(1, 0, list(points()))]
 
 
 def comb(teeth):
@@ -59,7 +50,7 @@ def comb(teeth):
         yield 0, 2 * teeth - 1
         yield 0, 0
 
-    return 1, 1, 4 * teeth + 1, [(1, 0, 4 * teeth + 1, points())]
+    return 1, 1, 4 * teeth + 1, [(1, 0, list(points()))]
 
 
 def star(reach):
@@ -76,16 +67,16 @@ def star(reach):
 
     def arcs():
         for place in range(count):
-            yield place + 1, (place - 1) % count + 1, 2, [(0, 0), rim(place)]
-            yield place + 1, 0, 2, [rim(place), rim(place + 1)]
+            yield place + 1, (place - 1) % count + 1, [(0, 0), rim(place)]
+            yield place + 1, 0, [rim(place), rim(place + 1)]
 
     return count, 2 * count, 4 * count, arcs()
 
 
 # Each shape with its ratio, and with sizes that about double the points, up to what a map may have: 131,072 points, 65,536 arcs and 32,768 faces.
 SHAPES = {
-    "grid of cells": (grid, 0, [22, 32, 45, 64, 90, 128, 180]),
-    "bent cells": (bent_grid, 16, [18, 26, 40, 64, 91, 128, 147]),
+    "grid of cells": (cells, 0, [22, 32, 45, 64, 90, 128, 180]),
+    "bent cells": (bent_cells, 16, [18, 26, 40, 64, 91, 128, 147]),
     "one long arc": (saw, 0, [1024, 2048, 4096, 8192, 16384, 32768, 65534]),
     "comb": (comb, 0, [512, 1024, 2048, 4096, 8192, 16384, 32767]),
     "star": (star, 0, [64, 128, 256, 512, 1024, 2048, 4096]),
@@ -95,7 +86,7 @@ SHAPES = {
 def rings_of(faces, arcs):
     """The ring of each face: the indexes of its arcs, one after the other, against the clock. No face of these shapes has a hole."""
     starts = [{} for _ in range(faces + 1)]
-    for number, (left, right, _, points) in enumerate(arcs):
+    for number, (left, right, points) in enumerate(arcs):
         starts[left][points[0]] = number, points[-1]
         starts[right][points[-1]] = ~number, points[0]
     for face in range(1, faces + 1):
@@ -115,11 +106,11 @@ def steps_of(points):
 def write_topology(path, shape, size, ratio=0):
     """Writes the same map as a topology, path.json, with its object 'cells', and its rules, path.rules.json."""
     faces, _, _, arcs = shape(size)
-    arcs = [(left, right, count, list(points)) for left, right, count, points in arcs]
+    arcs = list(arcs)
     geometries = [{"type": "Polygon", "arcs": [ring], "properties": {"kind": "cell"}} for ring in rings_of(faces, arcs)]
     with open(f"{path}.json", "w", encoding="ascii") as file:
         json.dump({"type": "Topology", "transform": {"scale": [1, 1], "translate": [0, 0]}, "objects": {"cells": {"type": "GeometryCollection", "geometries": geometries}},
-                   "arcs": [steps_of(points) for _, _, _, points in arcs]}, file, separators=(",", ":"))
+                   "arcs": [steps_of(points) for _, _, points in arcs]}, file, separators=(",", ":"))
     with open(f"{path}.rules.json", "w", encoding="ascii") as file:
         json.dump({"property": "kind", "classes": [["cell", 1]], "default": 0, "compat": [[1]], "ratio": ratio}, file)
 
@@ -134,13 +125,6 @@ def write_longest(path):
 
 def write(path, shape, size, ratio=0):
     """Writes the listing of a map to a file. With a ratio above 0 vertices of it are removed."""
-    faces, arc_count, _, arcs = shape(size)
+    faces, count, _, arcs = shape(size)
     with open(path, "w", encoding="ascii") as file:
-        file.write(f"tgap 1\ntransform 1 1 0 0\nratio {ratio}\nclasses 1\nclass 0 1 1\nfaces {faces}\n")
-        file.writelines(f"face {face} 0\n" for face in range(1, faces + 1))
-        file.write(f"arcs {arc_count}\n")
-        for left, right, count, points in arcs:
-            file.write(f"arc {left} {right} {count}")
-            file.writelines(f" {x} {y}" for x, y in points)
-            file.write("\n")
-        file.write("end\n")
+        file.writelines(listing_lines(faces, count, (arc_text(*arc) for arc in arcs), ratio=ratio))
