@@ -8,14 +8,14 @@ LEAFLET = pathlib.Path("/usr/share/javascript/leaflet/leaflet.js")
 OWN_BATCH = b"class 1 0\n"
 
 
-def all_of(tests, executable):
-    with Example(executable) as served:
+def example(tests):
+    with Example(tests.executable) as served:
         files(tests, served)
         foreign_edits(tests, served)
         heads_and_bodies(tests, served)
         crowd(tests, served)
     # nginx is found where PATH has no folder of an administrator's.
-    with Example(executable, ":".join(part for part in PATH.split(":") if not part.endswith("sbin"))) as served:
+    with Example(tests.executable, ":".join(part for part in PATH.split(":") if not part.endswith("sbin"))) as served:
         tests.same("the example of a user whose PATH has no sbin", served.ask("GET", "/map/info").status, 200)
 
 
@@ -31,7 +31,7 @@ def files(tests, served):
     if LEAFLET.exists():
         tests.same("the example serves Leaflet", served.ask("GET", "/leaflet/leaflet.js").told, (200, LEAFLET.read_bytes()))
     else:
-        tests.skip("Leaflet", "libjs-leaflet")
+        tests.skip("the example serves Leaflet", "libjs-leaflet is missing")
 
 
 def foreign_edits(tests, served):
@@ -56,7 +56,7 @@ def heads_and_bodies(tests, served):
 
 
 def crowd(tests, served):
-    """Two dozen readers, more than the program has workers, each on a connection that it keeps."""
+    """More readers than the program has workers."""
     told = []
     threads = [threading.Thread(target=lambda: told.extend(served.ask("GET", f"/map/slice/{step}").status for step in range(0, 48, 8))) for _ in range(6)]
     for thread in threads:

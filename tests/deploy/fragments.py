@@ -18,10 +18,10 @@ CHOICE = """    map $host $map {
 CACHE = "            add_header Cache-Control no-store always;\n"
 
 
-def all_of(tests, executable):
+def fragments(tests):
     pieces = pieces_of((TOP / "docs/deployment.md").read_text())
     tests.same("pieces in docs/deployment.md", len(pieces), 7)
-    with Program(executable, COLUMBUS) as columbus, Program(executable, SQUARES) as squares:
+    with Program(tests.executable, COLUMBUS) as columbus, Program(tests.executable, SQUARES) as squares:
         readers_elsewhere(tests, pieces, columbus)
         editors_elsewhere(tests, pieces, columbus)
         by_host(tests, pieces, columbus, squares)
@@ -73,9 +73,9 @@ def editors_elsewhere(tests, pieces, program):
             tests.same(f"{method} of any other page", (refused.status, refused.headers["Access-Control-Allow-Origin"]), (403, None))
 
 
-def two_programs(columbus, squares):
-    """The sockets of the document, as the ports of these programs; the first of them is exchanged by every front server of the tests."""
-    return [("unix:/run/tgap/holland.sock", f"127.0.0.1:{squares.port}")]
+def second_place(squares):
+    """The second socket of the document, as the port of a program; the first is exchanged by every front server of the tests."""
+    return "unix:/run/tgap/holland.sock", f"127.0.0.1:{squares.port}"
 
 
 def faces_of(reply):
@@ -84,7 +84,7 @@ def faces_of(reply):
 
 def by_host(tests, pieces, columbus, squares):
     names = [(f"server_name {NAME};", f"server_name {NAME} {OTHER};"), (f"        https://{NAME} 0;\n", f"        https://{NAME} 0;\n        https://{OTHER} 0;\n")]
-    change = [(CHOICE, piece(pieces, "by host")), *names, *two_programs(columbus, squares)]
+    change = [(CHOICE, piece(pieces, "by host")), *names, second_place(squares)]
     with Front(columbus.port, lambda text: exchanged(text, change)) as front:
         tests.same("the map of the first host", faces_of(front.ask("GET", "/map/info")), (200, 49))
         tests.same("the map of the second", faces_of(front.ask("GET", "/map/info", None, {"Host": OTHER})), (200, 2))
@@ -98,7 +98,7 @@ def by_path(tests, pieces, columbus, squares):
     def change(text):
         edits = location(text, "location = /map/edit")
         reading = location(text, "location /map/")
-        pairs = [(CHOICE, piece(pieces, "by path: in place of map")), (edits, ""), (reading, piece(pieces, "by path: in place of location")), *two_programs(columbus, squares)]
+        pairs = [(CHOICE, piece(pieces, "by path: in place of map")), (edits, ""), (reading, piece(pieces, "by path: in place of location")), second_place(squares)]
         return exchanged(text, pairs)
 
     with Front(columbus.port, change) as front:

@@ -1,5 +1,5 @@
-"""The program with a front server before it, as the tests of deploy/ want them: nginx with deploy/nginx.conf, in which ports and folders are exchanged, and
-examples/web/run as it stands."""
+"""The program with a front server before it, as the tests of deploy/ want them: nginx with deploy/nginx.conf, in which
+ports and folders are exchanged, and examples/web/run as it stands."""
 import base64
 import http.client
 import os
@@ -15,11 +15,12 @@ import sys
 import tempfile
 import time
 
-TOP = pathlib.Path(__file__).resolve().parents[2]
+sys.path.insert(0, str(pathlib.Path(__file__).resolve().parents[1]))
+import lib  # noqa: E402
+from lib import SECONDS, TOP, free_port  # noqa: E402
+
 NAME = "map.example"
 PASSWORD = {"Authorization": "Basic " + base64.b64encode(b"anna:secret").decode()}
-# Enough for a loaded machine; what hangs takes longer.
-SECONDS = 60
 PATH = os.environ.get("PATH", "") + ":/usr/local/sbin:/usr/sbin:/sbin"
 PROXY = "/lib/systemd/systemd-socket-proxyd"
 COLUMBUS = [TOP / "examples/columbus.json", "areas", TOP / "examples/columbus.rules.json"]
@@ -28,12 +29,6 @@ COLUMBUS = [TOP / "examples/columbus.json", "areas", TOP / "examples/columbus.ru
 def tool(name):
     """Where a tool is, or None."""
     return shutil.which(name, path=PATH)
-
-
-def free_port():
-    with socket.socket() as one:
-        one.bind(("127.0.0.1", 0))
-        return one.getsockname()[1]
 
 
 def until(holds, seconds=SECONDS):
@@ -67,20 +62,11 @@ class Running:
         self.process.wait(SECONDS)
 
 
-class Program(Running):
+class Program(lib.Server):
     """The program, serving a map: `words` are the map, its object and its rules."""
 
-    def __init__(self, executable, words, workers=4, versions=16, port=None, before=()):
-        self.port = port or free_port()
-        command = [*before, executable, "serve", words[0], self.port, workers, versions, *words[1:]]
-        super().__init__(command, stdout=subprocess.PIPE)
-        if self.process.stdout.readline() != f"serving {self.port}\n".encode():
-            self.stop()
-            raise RuntimeError(f"the program does not serve {words[0]}")
-
-    def stop(self, by=signal.SIGTERM):
-        super().stop(by)
-        self.process.stdout.close()
+    def __init__(self, executable, words, workers=4, versions=16, under=()):
+        super().__init__(executable, words[0], workers, versions, words[1:], under)
 
     def limit_address_space(self, more):
         """Lets it have this many bytes more than it has."""
@@ -120,7 +106,7 @@ def exchanged(text, pairs):
     """The text with each first word of a pair, which must be in it, replaced by the second."""
     for old, new in pairs:
         if old not in text:
-            raise RuntimeError(f"deploy/nginx.conf has no '{old}'")
+            raise OSError(f"deploy/nginx.conf has no '{old}'")
         text = text.replace(old, str(new))
     return text
 
@@ -155,7 +141,7 @@ class Front(Running):
         self.words = [tool("nginx"), "-e", self.room / "log/error.log", "-p", self.room, "-c", self.conf]
         super().__init__(self.words, stderr=subprocess.DEVNULL)
         if not until(lambda: listens(self.port) or self.process.poll() is not None) or self.process.poll() is not None:
-            raise RuntimeError("nginx does not start: " + (self.room / "log/error.log").read_text())
+            raise OSError("nginx does not start: " + (self.room / "log/error.log").read_text())
 
     def stop(self, by=signal.SIGTERM):
         super().stop(by)
@@ -185,8 +171,8 @@ class Front(Running):
     def ask(self, method, path, body=None, headers=None, source="127.0.0.1"):
         return answer_of(self.client(source), method, path, body, headers)
 
-    def edit(self, batch, headers=None, path="/map/edit"):
-        return self.ask("POST", path, batch, {**PASSWORD, **(headers or {})})
+    def edit(self, batch, headers=None, path="/map/edit", source="127.0.0.1"):
+        return self.ask("POST", path, batch, {**PASSWORD, **(headers or {})}, source)
 
     def version(self):
         return version_of(self.ask("GET", "/map/info").text)
@@ -211,7 +197,7 @@ class Example(Running):
         super().__init__([TOP / "examples/web/run"], stdout=subprocess.PIPE, env=environment)
         said = self.process.stdout.readline().decode()
         if not (found := re.fullmatch(r"http://127\.0\.0\.1:(\d+)/\n", said)):
-            raise RuntimeError(f"examples/web/run says {said!r}")
+            raise OSError(f"examples/web/run says {said!r}")
         self.port = int(found[1])
 
     def stop(self, by=signal.SIGTERM):
@@ -225,24 +211,6 @@ class Example(Running):
         return answer_of(http.client.HTTPConnection("127.0.0.1", self.port, timeout=SECONDS), method, path, body, headers)
 
 
-class Tests:
-    def __init__(self):
-        self.passed, self.failed, self.skipped = 0, 0, 0
-
-    def same(self, name, got, wanted):
-        if got == wanted:
-            self.passed += 1
-        else:
-            self.failed += 1
-            print(f"{name}: FAILED\n  wanted {wanted!r:.300}\n  got    {got!r:.600}", flush=True)
-
+class Tests(lib.Tests):
     def holds(self, name, is_so, told=""):
-        self.same(f"{name} {told}", bool(is_so), True)
-
-    def skip(self, name, why):
-        self.skipped += 1
-        print(f"tests/deploy: {name} skipped, for want of {why}", flush=True)
-
-    def end(self):
-        print(f"{self.passed} passed, {self.failed} failed, {self.skipped} skipped")
-        sys.exit(self.failed != 0)
+        self.tell(name, [] if is_so else [f"it does not hold: {lib.shown(told)}"])

@@ -7,6 +7,7 @@ import subprocess
 import tempfile
 
 from front import PATH, PROXY, TOP, tool
+from lib import Skipped
 
 TOOLS = ["nginx", "openssl", "jq", "curl", "unshare", "nsenter", "setpriv", "prlimit", "ip", "useradd", "systemd-socket-activate"]
 FOLDERS = ["/etc", "/usr/local", "/srv", "/var", "/run"]
@@ -30,22 +31,20 @@ SAID = [
 ]
 
 
-def all_of(tests, executable):
+def rehearsal(tests):
     missing = [name for name in TOOLS if not tool(name)] + [name for name in [PROXY] if not pathlib.Path(name).exists()]
     if missing or os.geteuid() != 0:
-        tests.skip("the commands of docs/deployment.md", ", ".join(missing) or "the rights of root")
-        return
+        raise Skipped(f"{', '.join(missing)} missing" if missing else "it wants the rights of root")
     with tempfile.TemporaryDirectory(prefix="tgap-rehearsal-") as folder:
         room = pathlib.Path(folder)
         room.chmod(0o755)
         (room / "script").write_text(script(room))
-        lay_out(room, executable)
+        lay_out(room, tests.executable)
         words = [tool("unshare"), "-m", "-n", "-p", "-f", "--kill-child", "--mount-proc", "sh", "-eu", room / "script"]
         told = subprocess.run([str(word) for word in words], capture_output=True, text=True, timeout=SECONDS, check=False, cwd=room / "repository",
                               env={**os.environ, "PATH": f"{room}/bin:{PATH}"})
         if "no folder of its own" in told.stderr:
-            tests.skip("the commands of docs/deployment.md", "file systems over others")
-            return
+            raise Skipped("there are no file systems over others")
         said = told.stdout.splitlines()
         tests.same("the commands of docs/deployment.md", (told.returncode, len(said), told.stderr[-500:] if told.returncode else ""), (0, len(SAID), ""))
         for line, wanted in zip(said, SAID):

@@ -5,6 +5,7 @@ import subprocess
 import tempfile
 
 from front import COLUMBUS, PROXY, TOP, Program, tool
+from lib import Skipped
 
 UNITS = {"tgap.service": "tgap@.service", "tgap-proxy.service": "tgap-proxy@.service", "tgap-proxy.socket": "tgap-proxy@.socket"}
 # What a unit of ours must say, beside what systemd-analyze thinks of it.
@@ -16,21 +17,13 @@ SETTINGS = {
 EXPOSURE = 2.5
 
 
-def all_of(tests, executable):
+def settings(tests):
     for name in ["tgap.service", "tgap-proxy.service"]:
-        settings = settings_of(name)
-        tests.same(f"settings of {name}", {key: settings.get(key) for key in SETTINGS}, SETTINGS)
-    settings = settings_of("tgap.service")
-    tests.same("when the map server is not started again", settings.get("RestartPreventExitStatus"), "2 3 4")
-    tests.holds("the address space ends before the memory does", gigabytes(settings["LimitAS"]) < gigabytes(settings["MemoryMax"]))
-    if tool("systemd-analyze"):
-        by_systemd(tests, executable)
-    else:
-        tests.skip("the units by systemd's own tools", "systemd-analyze")
-    if tool("strace") and tool("systemd-analyze"):
-        system_calls(tests, executable)
-    else:
-        tests.skip("the system calls of the program", "strace or systemd-analyze")
+        told = settings_of(name)
+        tests.same(f"settings of {name}", {key: told.get(key) for key in SETTINGS}, SETTINGS)
+    told = settings_of("tgap.service")
+    tests.same("when the map server is not started again", told.get("RestartPreventExitStatus"), "2 3 4")
+    tests.holds("the address space ends before the memory does", gigabytes(told["LimitAS"]) < gigabytes(told["MemoryMax"]))
 
 
 def settings_of(name):
@@ -41,15 +34,14 @@ def gigabytes(text):
     return int(re.fullmatch(r"(\d+)G", text)[1])
 
 
-def by_systemd(tests, executable):
+def by_systemd(tests):
     """Each unit under the name that it is installed by, with the executable in its place."""
+    if not tool("systemd-analyze") or not pathlib.Path(PROXY).exists():
+        raise Skipped("systemd-analyze or systemd-socket-proxyd is missing")
     with tempfile.TemporaryDirectory() as room:
         for name, installed in UNITS.items():
-            text = (TOP / "deploy" / name).read_text().replace("/usr/local/bin/tgap", str(executable))
+            text = (TOP / "deploy" / name).read_text().replace("/usr/local/bin/tgap", tests.executable)
             (pathlib.Path(room) / installed).write_text(text)
-        if not pathlib.Path(PROXY).exists():
-            tests.skip("the units by systemd's own tools", PROXY)
-            return
         for installed in UNITS.values():
             unit = str(pathlib.Path(room) / installed.replace("@", "@columbus"))
             told = subprocess.run([tool("systemd-analyze"), "verify", unit], capture_output=True, text=True, timeout=60, check=False)
@@ -60,13 +52,15 @@ def by_systemd(tests, executable):
                 tests.same(f"systemd-analyze security of {installed}", told.returncode, 0)
 
 
-def system_calls(tests, executable):
+def system_calls(tests):
     """While it serves, reads and publishes, the program makes no call that the unit forbids."""
+    if not tool("strace") or not tool("systemd-analyze"):
+        raise Skipped("strace or systemd-analyze is missing")
     listed = subprocess.run([tool("systemd-analyze"), "syscall-filter"], capture_output=True, text=True, timeout=60, check=False).stdout
     allowed = calls_of(listed, "@system-service")
     with tempfile.TemporaryDirectory() as room:
         trace = pathlib.Path(room) / "trace"
-        with Program(executable, COLUMBUS, before=[tool("strace"), "-f", "-qq", "-o", trace]) as program:
+        with Program(tests.executable, COLUMBUS, under=[tool("strace"), "-I2", "-f", "-qq", "-o", trace]) as program:
             for method, path, body in [("GET", "/slice/0", None), ("POST", "/edit", b"class 1 0\n"), ("GET", "/packet/48/0", None), ("POST", "/edit", b"no line\n")]:
                 program.ask(method, path, body)
         lines = [line.split(None, 1)[1] for line in trace.read_text().splitlines()]
