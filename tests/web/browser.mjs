@@ -25,8 +25,12 @@ export class Browser {
     return Tab.open(target.webSocketDebuggerUrl);
   }
 
-  async stop() {
+  kill() {
     this.child.kill();
+  }
+
+  async stop() {
+    this.kill();
     await pause(300);
     rmSync(this.room, { recursive: true, force: true, maxRetries: 5 });
   }
@@ -74,7 +78,8 @@ class Tab {
 
   async value(expression) {
     const answer = await this.ask("Runtime.evaluate", { expression, awaitPromise: true, returnByValue: true });
-    if (answer.result?.exceptionDetails) throw new Error(JSON.stringify(answer.result.exceptionDetails));
+    const wrong = answer.error ?? answer.result.exceptionDetails;
+    if (wrong) throw new Error(`${expression.slice(0, 200)}: ${JSON.stringify(wrong)}`);
     return answer.result.result.value;
   }
 

@@ -31,6 +31,12 @@ const rules = path.join(room, "rules.json");
 const grid = path.join(room, "grid.tgap");
 const SIDE = 40;
 let browser;
+// Where the time is up, nothing of it goes on.
+process.on("SIGTERM", () => {
+  browser?.kill();
+  Served.stopAll();
+  process.exit(1);
+});
 try {
   const columbus = "columbus.rules.json";
   writeFileSync(rules, JSON.stringify({ ...JSON.parse(readFileSync(path.join(examples, columbus))), title: "Forty-nine neighbourhoods" }));

@@ -16,8 +16,15 @@ const MARGIN = 70;
 
 /** What runs `examples/web/run` over a map, and can end its program alone. */
 export class Served {
+  static #all = new Set();
+
+  static stopAll() {
+    for (const served of Served.#all) served.stop();
+  }
+
   static async start(executable, ...map) {
     const served = new Served();
+    Served.#all.add(served);
     served.child = spawn(run, map, { cwd: examples, stdio: ["ignore", "pipe", "inherit"], env: { ...process.env, TGAP_SERVER: executable } });
     served.address = await firstMatch(served.child, served.child.stdout, /http:\S+/);
     served.executable = executable;
