@@ -1,12 +1,12 @@
-// Holds examples/web/wire.js and replay.js against the texts of the built program: at every step of each map, and over broken packets.
+// Holds clients/js/wire.js and replay.js against the texts of the built program: at every step of each map, and over broken packets.
 // usage: node tests/web/texts.mjs EXECUTABLE. Last line: 'N passed, M failed'.
 import { execFileSync, spawnSync } from "node:child_process";
 import { mkdtempSync, rmSync, writeFileSync } from "node:fs";
 import { tmpdir } from "node:os";
 import path from "node:path";
 import { fileURLToPath } from "node:url";
-import { Refined, Unfit } from "../../examples/web/replay.js";
-import { BadText, packetText, readPacket, readSlice, sliceText } from "../../examples/web/wire.js";
+import { Refined, Unfit } from "../../clients/js/replay.js";
+import { BadText, packetText, readPacket, readSlice, sliceText } from "../../clients/js/wire.js";
 
 const executable = process.argv[2];
 const examples = fileURLToPath(new URL("../../examples/", import.meta.url));

@@ -1,0 +1,82 @@
+// What stands beside the map: its title, what is shown, the classes, and messages.
+
+import { fillOf } from "./sheet.js";
+
+const element = (id) => document.getElementById(id);
+
+export class Panel {
+  constructor(settings) {
+    this.settings = settings;
+    this.notices = new Map();
+    document.title = settings.title;
+    element("title").textContent = settings.title;
+  }
+
+  nameOf(ofClass) {
+    return this.settings.classes[ofClass] ?? `class ${ofClass}`;
+  }
+
+  /** Tells what is shown. */
+  tell(picture, steps) {
+    const where = picture.area ? "in this part" : "";
+    const faces = picture.faces.size;
+    element("state").textContent = `Step ${picture.step} of ${steps}: ${faces} ${faces === 1 ? "face" : "faces"} ${where}`.trim() + ".";
+    element("version").textContent = `Version ${picture.version}`;
+    const classes = [...new Set(picture.faces.values())].sort((a, b) => a - b);
+    element("legend").replaceChildren(...classes.map((ofClass) => this.#legendRow(ofClass)));
+  }
+
+  #legendRow(ofClass) {
+    const [row, box, name] = ["li", "i", "span"].map((tag) => document.createElement(tag));
+    box.style.background = fillOf(ofClass);
+    name.textContent = this.nameOf(ofClass);
+    row.append(box, name);
+    return row;
+  }
+
+  /** A bar while something is on its way: `part` from 0 to 1, or null where it is not known. */
+  showProgress(working, part) {
+    const bar = element("progress");
+    bar.hidden = !working;
+    if (part === null) bar.removeAttribute("value");
+    else bar.value = part;
+  }
+
+  /** A message, which stays until the reader dismisses it or `settle` is called: one for each cause. */
+  note(cause, text, isError = false) {
+    const known = this.notices.get(cause);
+    if (known?.text === text) return;
+    const [row, words, button] = ["li", "span", "button"].map((tag) => document.createElement(tag));
+    row.classList.toggle("error", isError);
+    row.dataset.cause = cause;
+    words.textContent = text;
+    Object.assign(button, { type: "button", textContent: "\u00d7", title: "Dismiss" });
+    button.setAttribute("aria-label", "Dismiss");
+    button.addEventListener("click", () => this.settle(cause));
+    row.append(words, button);
+    if (known) known.row.replaceWith(row);
+    else element("notices").append(row);
+    this.notices.set(cause, { text, row });
+  }
+
+  complain(cause, text) {
+    this.note(cause, text, true);
+  }
+
+  /** The cause of a message is gone. */
+  settle(cause) {
+    this.notices.get(cause)?.row.remove();
+    this.notices.delete(cause);
+  }
+}
+
+/** What an error means to a reader. */
+export function wordsOf(error) {
+  const words = {
+    Unreachable: () => `The server cannot be reached (${error.message}). It is tried again.`,
+    Refused: () => `The server refuses: ${error.message}.`,
+    BadText: () => `The server's answer cannot be read: ${error.message}.`,
+    Unfit: () => `A refinement does not fit: ${error.message}.`,
+  };
+  return (words[error.name] ?? (() => `The page has failed: ${error.message}.`))();
+}

@@ -1,0 +1,165 @@
+// A tab of a headless browser, asked by the DevTools protocol, and the pictures of it.
+import { spawn } from "node:child_process";
+import { mkdtempSync, rmSync } from "node:fs";
+import { tmpdir } from "node:os";
+import path from "node:path";
+import { setTimeout as pause } from "node:timers/promises";
+import { inflateSync } from "node:zlib";
+import { firstMatch } from "./lib.mjs";
+
+const SECONDS = 15;
+const MILLISECONDS = 50;
+
+export class Browser {
+  static async start(executable, size) {
+    const browser = new Browser();
+    browser.room = mkdtempSync(path.join(tmpdir(), "web-browser-"));
+    const words = ["--headless", "--no-sandbox", "--disable-gpu", `--window-size=${size}`, "--remote-debugging-port=0", `--user-data-dir=${browser.room}`];
+    browser.child = spawn(executable, [...words, "about:blank"], { stdio: ["ignore", "ignore", "pipe"] });
+    browser.port = new URL(await firstMatch(browser.child, browser.child.stderr, /ws:\S+/)).port;
+    return browser;
+  }
+
+  async open() {
+    const target = await (await fetch(`http://127.0.0.1:${this.port}/json/new?about:blank`, { method: "PUT" })).json();
+    return Tab.open(target.webSocketDebuggerUrl);
+  }
+
+  kill() {
+    this.child.kill();
+  }
+
+  async stop() {
+    this.kill();
+    await pause(300);
+    rmSync(this.room, { recursive: true, force: true, maxRetries: 5 });
+  }
+}
+
+class Tab {
+  static async open(address) {
+    const tab = new Tab();
+    tab.socket = new WebSocket(address);
+    tab.waiting = new Map();
+    tab.written = [];
+    tab.paused = () => {};
+    tab.number = 0;
+    await new Promise((resolve, reject) => {
+      tab.socket.onopen = resolve;
+      tab.socket.onerror = reject;
+    });
+    tab.socket.onmessage = ({ data }) => tab.#take(JSON.parse(data));
+    for (const domain of ["Page", "Runtime", "Log", "Network"]) await tab.ask(`${domain}.enable`);
+    return tab;
+  }
+
+  #take({ id, method, params, ...rest }) {
+    if (id) {
+      this.waiting.get(id)?.(rest);
+      this.waiting.delete(id);
+    } else if (method === "Fetch.requestPaused") {
+      this.paused(params);
+    } else if (method === "Log.entryAdded") {
+      this.written.push({ source: params.entry.source, text: params.entry.text });
+    } else if (method === "Runtime.exceptionThrown" || method === "Runtime.consoleAPICalled") {
+      this.written.push({ source: "page", text: JSON.stringify(params) });
+    }
+  }
+
+  ask(method, params = {}) {
+    const id = ++this.number;
+    this.socket.send(JSON.stringify({ id, method, params }));
+    return new Promise((resolve) => this.waiting.set(id, resolve));
+  }
+
+  go(url) {
+    return this.ask("Page.navigate", { url });
+  }
+
+  async value(expression) {
+    const answer = await this.ask("Runtime.evaluate", { expression, awaitPromise: true, returnByValue: true });
+    const wrong = answer.error ?? answer.result.exceptionDetails;
+    if (wrong) throw new Error(`${expression.slice(0, 200)}: ${JSON.stringify(wrong)}`);
+    return answer.result.result.value;
+  }
+
+  /** Whether an expression becomes true in time. */
+  async until(expression, seconds = SECONDS) {
+    const end = Date.now() + seconds * 1000;
+    while (Date.now() < end) {
+      if (await this.value(expression).catch(() => false)) return true;
+      await pause(MILLISECONDS);
+    }
+    return false;
+  }
+
+  mouse(type, [x, y], more = {}) {
+    return this.ask("Input.dispatchMouseEvent", { type, x, y, ...more });
+  }
+
+  async click(place, times = 1) {
+    for (let clickCount = 1; clickCount <= times; clickCount++) {
+      await this.mouse("mousePressed", place, { button: "left", buttons: 1, clickCount });
+      await this.mouse("mouseReleased", place, { button: "left", clickCount });
+    }
+  }
+
+  wheel(place, deltaY) {
+    return this.mouse("mouseWheel", place, { deltaX: 0, deltaY });
+  }
+
+  async drag(from, to) {
+    await this.mouse("mouseMoved", from);
+    await this.mouse("mousePressed", from, { button: "left", buttons: 1, clickCount: 1 });
+    const middle = from.map((z, axis) => (z + to[axis]) / 2);
+    for (const place of [middle, to]) await this.mouse("mouseMoved", place, { button: "left", buttons: 1 });
+    await this.mouse("mouseReleased", to, { button: "left", clickCount: 1 });
+  }
+
+  resize(width, height) {
+    return this.ask("Emulation.setDeviceMetricsOverride", { width, height, deviceScaleFactor: 1, mobile: false });
+  }
+
+  delay(latency) {
+    return this.ask("Network.emulateNetworkConditions", { offline: false, latency, downloadThroughput: -1, uploadThroughput: -1 });
+  }
+
+  /** What one sees, as the bytes of a PNG. */
+  async screenshot() {
+    const { result } = await this.ask("Page.captureScreenshot", { format: "png" });
+    return Buffer.from(result.data, "base64");
+  }
+}
+
+/** The pixels of a PNG of 8 bits a sample that is not interlaced: `at(x, y)` gives red, green and blue. */
+export function pixelsOf(png) {
+  const width = png.readUInt32BE(16);
+  const samples = { 2: 3, 6: 4 }[png[25]];
+  const parts = [];
+  for (let at = 8; at < png.length; at += 12 + png.readUInt32BE(at)) {
+    if (png.toString("latin1", at + 4, at + 8) === "IDAT") parts.push(png.subarray(at + 8, at + 8 + png.readUInt32BE(at)));
+  }
+  const bytes = inflateSync(Buffer.concat(parts));
+  const stride = width * samples;
+  const height = bytes.length / (stride + 1);
+  const rows = Buffer.alloc(height * stride);
+  for (let y = 0; y < height; y++) {
+    const filter = bytes[y * (stride + 1)];
+    for (let i = 0; i < stride; i++) {
+      const left = i < samples ? 0 : rows[y * stride + i - samples];
+      const up = y === 0 ? 0 : rows[(y - 1) * stride + i];
+      const corner = y === 0 || i < samples ? 0 : rows[(y - 1) * stride + i - samples];
+      rows[y * stride + i] = bytes[y * (stride + 1) + 1 + i] + predicted(filter, left, up, corner);
+    }
+  }
+  const at = (x, y) => [0, 1, 2].map((sample) => rows[y * stride + x * samples + sample]);
+  return { width, height, at };
+}
+
+function predicted(filter, left, up, corner) {
+  if (filter === 4) {
+    const [l, u, c] = [left, up, corner].map((it) => Math.abs(left + up - corner - it));
+    return l <= u && l <= c ? left : u <= c ? up : corner;
+  }
+  return [0, left, up, (left + up) >> 1][filter];
+}

@@ -1,0 +1,123 @@
+// The page of the example behind its front server, and what a test asks of it.
+import { spawn, spawnSync } from "node:child_process";
+import { readFileSync, readlinkSync } from "node:fs";
+import path from "node:path";
+import { fileURLToPath } from "node:url";
+import { lowestAbove } from "../../clients/js/places.js";
+import { readSlice } from "../../clients/js/wire.js";
+import { pixelsOf } from "./browser.mjs";
+import { examples, firstMatch } from "./lib.mjs";
+
+const run = fileURLToPath(new URL("../../examples/web/run", import.meta.url));
+// Samples of a picture, this many pixels apart, and away from borders and from what stands at the edges of the map.
+const APART = 23;
+const CLEAR = 4;
+const MARGIN = 70;
+
+/** What runs `examples/web/run` over a map, and can end its program alone. */
+export class Served {
+  static #all = new Set();
+
+  static stopAll() {
+    for (const served of Served.#all) served.stop();
+  }
+
+  static async start(executable, ...map) {
+    const served = new Served();
+    Served.#all.add(served);
+    served.child = spawn(run, map, { cwd: examples, stdio: ["ignore", "pipe", "inherit"], env: { ...process.env, TGAP_SERVER: executable } });
+    served.address = await firstMatch(served.child, served.child.stdout, /http:\S+/);
+    served.executable = executable;
+    served.program = served.#program();
+    return served;
+  }
+
+  /** The process of the program: its number and its words. */
+  #program() {
+    const parent = this.child.pid;
+    const numbers = readFileSync(`/proc/${parent}/task/${parent}/children`, "utf8").trim().split(" ");
+    const number = numbers.find((it) => readlinkSync(`/proc/${it}/exe`) === this.executable);
+    return { number: Number(number), words: readFileSync(`/proc/${number}/cmdline`, "utf8").split("\0").slice(1, -1) };
+  }
+
+  endProgram() {
+    process.kill(this.program.number, "SIGKILL");
+  }
+
+  startProgramAnew() {
+    this.second = spawn(this.executable, this.program.words, { stdio: "ignore" });
+  }
+
+  /** Publishes an edit as somebody else does. */
+  async edit(batch) {
+    const answer = await fetch(`${this.address}map/edit`, { method: "POST", body: batch });
+    return answer.text();
+  }
+
+  async slice(step) {
+    return readSlice(await (await fetch(`${this.address}map/slice/${step}`)).text());
+  }
+
+  stop() {
+    this.second?.kill();
+    this.child.kill();
+  }
+}
+
+/** What the page shows, told by the page itself. */
+export function shown(tab) {
+  return tab.value(`(() => {
+    const { sheet, detail } = window.tgap, { picture, map } = sheet, b = sheet.box, size = map.getSize();
+    return picture && { step: picture.step, version: picture.version, area: picture.area, box: b, size: [size.x, size.y], wanted: detail.wanted, steps: detail.info.steps,
+      zoom: map.getZoom() };
+  })()`);
+}
+
+export const IDLE = "Boolean(window.tgap?.sheet.picture && window.tgap.detail.settled && !window.tgap.detail.working)";
+
+/** The screenshot with what is shown on it: nothing may change meanwhile. */
+export async function look(tab) {
+  for (;;) {
+    const before = await shown(tab);
+    const pixels = pixelsOf(await tab.screenshot());
+    const after = await shown(tab);
+    if (before && JSON.stringify(before) === JSON.stringify(after)) return { ...before, pixels };
+  }
+}
+
+const FILLS = ["230,159,0", "86,180,233", "0,158,115", "240,228,66"];
+const OUTSIDE = "244,244,241";
+
+/** The samples of a picture that have another colour than the slice says. */
+export function wrongSamples(view, slice) {
+  const { box, size, pixels } = view;
+  const lines = [...slice.edges.values()];
+  const gridOf = (px, py) => [box.x0 + ((px + 0.5) / size[0]) * (box.x1 - box.x0), box.y1 - ((py + 0.5) / size[1]) * (box.y1 - box.y0)];
+  const faceOf = (px, py) => lowestAbove(lines, ...gridOf(px, py))?.below ?? 0;
+  const wrong = [];
+  let count = 0;
+  for (let px = MARGIN; px < size[0] - MARGIN; px += APART) {
+    for (let py = MARGIN; py < size[1] - MARGIN; py += APART) {
+      const face = faceOf(px, py);
+      const around = [-CLEAR, 0, CLEAR].flatMap((dx) => [-CLEAR, 0, CLEAR].map((dy) => faceOf(px + dx, py + dy)));
+      if (around.some((it) => it !== face)) continue;
+      count += 1;
+      const colour = face === 0 ? OUTSIDE : FILLS[slice.faces.get(face)];
+      if (String(pixels.at(px, py)) !== colour) wrong.push([px, py, colour, String(pixels.at(px, py))]);
+    }
+  }
+  return { count, wrong };
+}
+
+/** Where a grid point is on the screen. */
+export function placeOf(tab, [x, y]) {
+  return tab.value(`(() => { const p = window.tgap.sheet.map.latLngToContainerPoint([${y}, ${x}]); return [p.x, p.y]; })()`);
+}
+
+/** The slice of a map by the program itself. */
+export function sliceOf(executable, step, ...map) {
+  const ran = spawnSync(executable, ["slice", map[0], String(step), ...map.slice(1)], { cwd: examples, encoding: "utf8", maxBuffer: 2 ** 28 });
+  return readSlice(ran.stdout);
+}
+
+export const toolsThatAreMissing = (names) => names.filter((name) => spawnSync("sh", ["-c", `PATH=$PATH:/usr/sbin command -v "${name}"`]).status !== 0).map((it) => path.basename(it));
