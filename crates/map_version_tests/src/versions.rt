@@ -21,45 +21,45 @@ fn built_squares<R: Threads + Sync>(rt: &R, alloc: Global) -> Result<Option<Buil
     }
 }
 
-/// The version that follows on this one by a batch.
-fn next<R: Threads + Sync>(
+/// The version that a batch makes of the two squares, which are version 0.
+fn next<R: Threads + Sync>(rt: &R, alloc: Global, batch: &[u8]) -> Result<Version, RebuildFail> {
+    match built_squares(rt, alloc) {
+        Ok(Some(built)) => {
+            let first = Version { number: 0, built };
+            rebuild(rt, alloc, &first, batch)
+        }
+        _ => Err(RebuildFail::Memory),
+    }
+}
+
+/// Its number, and the third point of its arc 1.
+fn point_after<R: Threads + Sync>(
     rt: &R,
     alloc: Global,
-    version: &Version,
     batch: &[u8],
-) -> Result<Version, RebuildFail> {
-    rebuild(rt, alloc, version, batch)
+) -> Result<(u64, Option<Point>), RebuildFail> {
+    let version = next(rt, alloc, batch)?;
+    let point = points_of(version.built.base(), 1).get(2).copied();
+    Ok((version.number(), point))
 }
 
 #[test]
 fn the_next_version_is_built(rt: HostRuntime) -> Result<(), Fail> {
-    let alloc = rt.alloc();
-    let built = built_squares(&rt, alloc)?.ok_or("no map was built")?;
-    let first = Version { number: 0, built };
-    let second = next(&rt, alloc, &first, b"move 20 10 24 10\n")?;
-    assert_eq!(rt; second.number(), 1);
-    assert_eq!(rt;
-        points_of(second.built.base(), 1).get(2).copied(),
-        Some(Point { x: 24, y: 10 })
-    );
+    let (number, point) = point_after(&rt, rt.alloc(), b"move 20 10 24 10\n")?;
+    assert_eq!(rt; number, 1);
+    assert_eq!(rt; point, Some(Point { x: 24, y: 10 }));
     Ok(())
 }
 
 #[test]
 fn an_edited_map_with_a_fault_is_refused(rt: HostRuntime) -> Result<(), Fail> {
-    let alloc = rt.alloc();
-    let built = built_squares(&rt, alloc)?.ok_or("no map was built")?;
-    let first = Version { number: 0, built };
-    let fault = match next(&rt, alloc, &first, b"move 20 0 0 5\n") {
-        Ok(_) => None,
-        Err(fail) => Some(fail),
-    };
+    let refused = point_after(&rt, rt.alloc(), b"move 20 0 0 5\n").err();
     let at = Fraction {
         nx: 0,
         ny: 500,
         d: 100,
     };
     let expected = RebuildFail::Map(MapFault::Meets { i: 1, j: 3, at });
-    assert_eq!(rt; fault, Some(expected));
+    assert_eq!(rt; refused, Some(expected));
     Ok(())
 }

@@ -1,23 +1,39 @@
 //! Packets beside their numbers, and those that there are not.
 
-use crate::maps::{FOUR_SQUARES, TWO_SQUARES, built_map};
+use crate::maps::{FOUR_SQUARES, Row, TWO_SQUARES, built_map};
 use crate::numbers::numbers_of;
 use refine_packets::{PacketFail, packet};
 use std::alloc::Global;
 use std::test::Fail;
-use tgap_build::Built;
+use std::thread::Threads;
 use tgap_model::Packet;
 
-/// The packet from one step of the built map to another.
-fn packet_between(alloc: Global, built: &Built, from: u32, to: u32) -> Result<Packet, PacketFail> {
-    packet(alloc, built, from, to)
+/// A map: its ratio, the classes of its faces, and its arcs.
+#[derive(Clone, Copy)]
+struct Map(u32, &'static [u32], &'static [Row]);
+
+const TWO: Map = Map(16, &[0, 0], &TWO_SQUARES);
+
+const FOUR: Map = Map(0, &[0, 0, 0, 0], &FOUR_SQUARES);
+
+/// The packet of a map from one step to another.
+fn packet_of<R: Threads + Sync>(
+    rt: &R,
+    alloc: Global,
+    map: Map,
+    from: u32,
+    to: u32,
+) -> Result<Packet, PacketFail> {
+    match built_map(rt, alloc, map.0, map.1, map.2) {
+        Ok(Some(built)) => packet(alloc, &built, from, to),
+        _ => Err(PacketFail::Memory),
+    }
 }
 
 #[test]
 fn a_vertex_comes_back(rt: HostRuntime) -> Result<(), Fail> {
     let alloc = rt.alloc();
-    let built = built_map(&rt, alloc, 16, &[0, 0], &TWO_SQUARES)?.ok_or("no map")?;
-    let whole = packet_between(alloc, &built, 1, 0).ok().ok_or("no packet")?;
+    let whole = packet_of(&rt, alloc, TWO, 1, 0).ok().ok_or("no packet")?;
     let expected = [
         1, 0, // from, to
         1, 1, 0, 2, 0, 3, 1, 1, // the step
@@ -31,8 +47,7 @@ fn a_vertex_comes_back(rt: HostRuntime) -> Result<(), Fail> {
 #[test]
 fn three_steps(rt: HostRuntime) -> Result<(), Fail> {
     let alloc = rt.alloc();
-    let built = built_map(&rt, alloc, 0, &[0, 0, 0, 0], &FOUR_SQUARES)?.ok_or("no map")?;
-    let whole = packet_between(alloc, &built, 3, 0).ok().ok_or("no packet")?;
+    let whole = packet_of(&rt, alloc, FOUR, 3, 0).ok().ok_or("no packet")?;
     let expected = [
         3, 0, // from, to
         3, 5, 0, 6, 0, 7, 1, 1, // step 3
@@ -54,16 +69,13 @@ fn three_steps(rt: HostRuntime) -> Result<(), Fail> {
 #[test]
 fn refusals(rt: HostRuntime) -> Result<(), Fail> {
     let alloc = rt.alloc();
-    let built = built_map(&rt, alloc, 16, &[0, 0], &TWO_SQUARES)?.ok_or("no map")?;
     for (from, to, expected) in [
         (0, 1, PacketFail::NotCoarser),
         (2, 3, PacketFail::NotCoarser),
         (2, 0, PacketFail::StepTooHigh { steps: 1 }),
     ] {
-        let refused = packet_between(alloc, &built, from, to)
-            .err()
-            .ok_or("a packet")?;
-        assert_eq!(rt; refused, expected);
+        let refused = packet_of(&rt, alloc, TWO, from, to).err();
+        assert_eq!(rt; refused, Some(expected));
     }
     Ok(())
 }

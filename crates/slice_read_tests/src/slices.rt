@@ -1,17 +1,12 @@
 //! The slices of two squares at each of their steps.
 
-use crate::squares::{BETWEEN, LEFT, RIGHT, built_squares, checked_squares, is_edge};
+use crate::squares::{
+    BETWEEN, LEFT, RIGHT, checked_squares, is_edge, slice_of_squares, steps_of_squares,
+};
 use edge_forest::Forest;
-use slice_read::{ReadFail, slice_at};
-use std::alloc::Global;
+use slice_read::ReadFail;
 use std::test::Fail;
-use tgap_build::Built;
-use tgap_model::{FaceRow, Slice};
-
-/// The slice of the built map after k steps.
-fn slice_after(alloc: Global, built: &Built, k: u32) -> Result<Slice, ReadFail> {
-    slice_at(alloc, built, k)
-}
+use tgap_model::FaceRow;
 
 #[test]
 fn edges_that_have_not_ended(rt: HostRuntime) -> Result<(), Fail> {
@@ -26,9 +21,8 @@ fn edges_that_have_not_ended(rt: HostRuntime) -> Result<(), Fail> {
 
 #[test]
 fn two_faces(rt: HostRuntime) -> Result<(), Fail> {
-    let built = built_squares(&rt, rt.alloc())?.ok_or("no map")?;
-    assert_eq!(rt; built.steps(), 1);
-    let slice = slice_after(rt.alloc(), &built, 0).ok().ok_or("no slice")?;
+    assert_eq!(rt; steps_of_squares(&rt, rt.alloc())?, Some(1));
+    let slice = slice_of_squares(&rt, rt.alloc(), 0).ok().ok_or("no slice")?;
     assert_eq!(rt; slice.step, 0);
     let rows = [FaceRow { face: 1, class: 0 }, FaceRow { face: 2, class: 0 }];
     assert_eq!(rt; slice.faces.as_slice(), rows.as_slice());
@@ -43,8 +37,7 @@ fn two_faces(rt: HostRuntime) -> Result<(), Fail> {
 
 #[test]
 fn one_face(rt: HostRuntime) -> Result<(), Fail> {
-    let built = built_squares(&rt, rt.alloc())?.ok_or("no map")?;
-    let slice = slice_after(rt.alloc(), &built, 1).ok().ok_or("no slice")?;
+    let slice = slice_of_squares(&rt, rt.alloc(), 1).ok().ok_or("no slice")?;
     assert_eq!(rt; slice.step, 1);
     let rows = [FaceRow { face: 3, class: 0 }];
     assert_eq!(rt; slice.faces.as_slice(), rows.as_slice());
@@ -66,8 +59,7 @@ fn one_face(rt: HostRuntime) -> Result<(), Fail> {
 
 #[test]
 fn too_many_steps(rt: HostRuntime) -> Result<(), Fail> {
-    let built = built_squares(&rt, rt.alloc())?.ok_or("no map")?;
-    let refused = slice_after(rt.alloc(), &built, 2).err().ok_or("a slice")?;
-    assert_eq!(rt; refused, ReadFail::StepTooHigh { steps: 1 });
+    let refused = slice_of_squares(&rt, rt.alloc(), 2).err();
+    assert_eq!(rt; refused, Some(ReadFail::StepTooHigh { steps: 1 }));
     Ok(())
 }

@@ -1,10 +1,13 @@
 //! Two squares side by side, 10 wide and 10 high, and what is built of them.
 
 use base_check::check;
+use slice_read::{ReadFail, slice_at, window_at};
 use std::alloc::Global;
 use std::thread::Threads;
 use tgap_build::{Built, build};
-use tgap_model::{Base, BaseArc, Checked, Edge, List, Memory, Or, Point, Rules, Transform};
+use tgap_model::{
+    Base, BaseArc, Checked, Edge, List, Memory, Or, Point, Rules, Slice, Transform, Window,
+};
 
 pub const LEFT: [(i64, i64); 4] = [(10, 10), (0, 10), (0, 0), (10, 0)];
 
@@ -71,11 +74,45 @@ pub fn checked_squares<R: Threads + Sync>(
 }
 
 /// What is built of them.
-pub fn built_squares<R: Threads + Sync>(rt: &R, alloc: Global) -> Result<Option<Built>, Memory> {
+fn built_squares<R: Threads + Sync>(rt: &R, alloc: Global) -> Result<Option<Built>, Memory> {
     let Some(checked) = checked_squares(rt, alloc)? else {
         return Ok(None);
     };
     Ok(Some(build(rt, alloc, checked)?))
+}
+
+/// How many steps they have.
+pub fn steps_of_squares<R: Threads + Sync>(rt: &R, alloc: Global) -> Result<Option<u32>, Memory> {
+    match built_squares(rt, alloc)? {
+        Some(built) => Ok(Some(built.steps())),
+        None => Ok(None),
+    }
+}
+
+/// Their slice after k steps.
+pub fn slice_of_squares<R: Threads + Sync>(
+    rt: &R,
+    alloc: Global,
+    k: u32,
+) -> Result<Slice, ReadFail> {
+    match built_squares(rt, alloc) {
+        Ok(Some(built)) => slice_at(alloc, &built, k),
+        _ => Err(ReadFail::Memory),
+    }
+}
+
+/// The window of their slice at step 0 from 12 to 30 in x and from 2 to 4 in y.
+pub fn window_of_squares<R: Threads + Sync>(rt: &R, alloc: Global) -> Result<Slice, ReadFail> {
+    let area = Window {
+        x0: 12,
+        y0: 2,
+        x1: 30,
+        y1: 4,
+    };
+    match built_squares(rt, alloc) {
+        Ok(Some(built)) => window_at(alloc, &built, 0, area),
+        _ => Err(ReadFail::Memory),
+    }
 }
 
 /// Whether the edge has this key, these faces and these points.

@@ -1,9 +1,8 @@
 //! A window on one of two squares.
 
-use crate::squares::{RIGHT, built_squares, is_edge};
-use slice_read::window_at;
+use crate::squares::{RIGHT, is_edge, window_of_squares};
 use std::test::Fail;
-use tgap_model::{Slice, Window};
+use tgap_model::Slice;
 
 /// Whether the window has the right square alone.
 fn is_right_square(window: &Slice) -> bool {
@@ -18,16 +17,7 @@ fn is_right_square(window: &Slice) -> bool {
 
 #[test]
 fn a_window_on_the_right_square(rt: HostRuntime) -> Result<(), Fail> {
-    let built = built_squares(&rt, rt.alloc())?.ok_or("no map")?;
-    let area = Window {
-        x0: 12,
-        y0: 2,
-        x1: 30,
-        y1: 4,
-    };
-    let window = window_at(rt.alloc(), &built, 0, area)
-        .ok()
-        .ok_or("no window")?;
+    let window = window_of_squares(&rt, rt.alloc()).ok().ok_or("no window")?;
     assert!(rt; is_right_square(&window));
     Ok(())
 }
