@@ -16,7 +16,7 @@ TOOLCHAIN = "toolchain-of-the-tests logic 0123456789abcdef"
 # What the launcher needs of a machine beside its shell: no toolchain, no python3, no git.
 TOOLS = ["awk", "cat", "chmod", "cut", "find", "grep", "head", "readlink", "sed", "setpriv", "sha256sum", "sort", "tr", "true", "uname", "wc", "xargs"]
 # What a build and the gate need beside these.
-BUILD_TOOLS = ["cmp", "cp", "date", "dirname", "git", "install", "mkdir", "mktemp", "mv", "nproc", "rm", "sh", "sleep", "tail", "tee", "timeout", "touch"]
+BUILD_TOOLS = ["cmp", "cp", "dirname", "git", "install", "mkdir", "mktemp", "nproc", "rm", "sh", "tail", "tee", "timeout", "touch"]
 PARTS = ("src", "specs", "proofs")
 
 

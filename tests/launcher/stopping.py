@@ -31,9 +31,9 @@ def ends_soon(happens):
 
 @contextlib.contextmanager
 def serving(tests, **how):
-    """The launcher, once it serves, and its port."""
+    """The launcher, once it serves, and its port. It has a process group of its own, of which nothing is left behind."""
     port = free_port()
-    with tests.checkout.start("serve", TWO, str(port), "2", "4", **how) as started:
+    with tests.checkout.start("serve", TWO, str(port), "2", "4", start_new_session=True, **how) as started:
         try:
             ready, _, _ = select.select([started.stdout], [], [], SECONDS)
             said = started.stdout.readline() if ready else b""
@@ -41,7 +41,8 @@ def serving(tests, **how):
                 raise OSError(f"it does not serve: {said!r}")
             yield started, port
         finally:
-            started.kill()
+            with contextlib.suppress(ProcessLookupError):
+                os.killpg(started.pid, signal.SIGKILL)
 
 
 def signals_stop_the_server(tests):
