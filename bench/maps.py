@@ -1,5 +1,5 @@
-"""Maps of several shapes and sizes. Each is a planar partition whose faces hang together. A shape gives, for its size, the numbers of faces, arcs and
-points and the arcs: left face, right face and points."""
+"""Maps of several shapes and sizes. Each is a planar partition whose faces hang together. A shape gives, for its size,
+the numbers of faces, arcs and points and the arcs: left face, right face and points."""
 import json
 import pathlib
 import sys
@@ -35,8 +35,8 @@ def saw(teeth):
 
 
 def comb(teeth):
-    """One face inside one long arc: long level teeth over each other, each longer than the one below. A vertical line crosses up to two segments a tooth,
-    and each tooth ends on a line of its own."""
+    """One face inside one long arc: long level teeth over each other, each longer than the one below. A vertical line
+    crosses up to two segments a tooth, and each tooth ends on a line of its own."""
 
     def points():
         yield 0, 0
@@ -54,8 +54,8 @@ def comb(teeth):
 
 
 def star(reach):
-    """Arcs that leave one node for the points of the square round it, in counter-clockwise order; a face lies between each two, and an arc of the square
-    closes it."""
+    """Arcs that leave one node for the points of the square round it, in counter-clockwise order; a face lies between
+    each two, and an arc of the square closes it."""
     count = 8 * reach
 
     def rim(place):
@@ -73,7 +73,8 @@ def star(reach):
     return count, 2 * count, 4 * count, arcs()
 
 
-# Each shape with its ratio, and with sizes that about double the points, up to what a map may have: 131,072 points, 65,536 arcs and 32,768 faces.
+# Each shape with its ratio, and with sizes that about double the points, up to what a map may have: 131,072 points,
+# 65,536 arcs and 32,768 faces.
 SHAPES = {
     "grid of cells": (cells, 0, [22, 32, 45, 64, 90, 128, 180]),
     "bent cells": (bent_cells, 16, [18, 26, 40, 64, 91, 128, 147]),
@@ -84,7 +85,8 @@ SHAPES = {
 
 
 def rings_of(faces, arcs):
-    """The ring of each face: the indexes of its arcs, one after the other, against the clock. No face of these shapes has a hole."""
+    """The ring of each face: the indexes of its arcs, one after the other, against the clock. No face of these shapes
+    has a hole."""
     starts = [{} for _ in range(faces + 1)]
     for number, (left, right, points) in enumerate(arcs):
         starts[left][points[0]] = number, points[-1]

@@ -1,4 +1,5 @@
-"""What the suites of tests and the measurements share: the executable, the counting of tests, a port, the server, requests and replies over HTTP, and listings of maps."""
+"""What the suites of tests and the measurements share: the executable, the counting of tests, a port, the server,
+requests and replies over HTTP, and listings of maps."""
 import contextlib
 import http.client
 import itertools
@@ -21,7 +22,7 @@ SECONDS = 120
 
 
 def named_executable(usage):
-    """The executable that the command line names, or the released one. Where there is none the program ends with status 1."""
+    """The executable that the command line names, or the released one. Without one the suite ends with status 1."""
     if len(sys.argv) > 2:
         sys.exit(usage)
     path = pathlib.Path(sys.argv[1] if len(sys.argv) == 2 else RELEASED).resolve()
@@ -37,7 +38,7 @@ class Skipped(Exception):
 def shown(data):
     """A value as it is told in one line: bytes without their mark, and of a long one the front and the end."""
     text = repr(data)[1:] if isinstance(data, bytes) else repr(data)
-    return text if len(text) <= 300 else f"{text[:160]} .. {text[-80:]} ({len(data) if hasattr(data, '__len__') else len(text)} in all)"
+    return text if len(text) <= 300 else f"{text[:160]} .. {text[-80:]} (length {len(data)})"
 
 
 class Tests:
@@ -65,7 +66,8 @@ class Tests:
             self.skipped += 1
 
     def whole(self, test):
-        """Runs a test that may be skipped here. One that cannot be made, or that another end of a connection breaks, has failed."""
+        """Runs a test that may be skipped here. One that cannot be made, or that another end of a connection breaks,
+        has failed."""
         try:
             test(self)
         except Skipped as why:
@@ -92,7 +94,8 @@ class Tests:
 
 
 def ports():
-    """Ports that the system gives nobody by itself, below those of outgoing connections, beginning at one that differs from process to process."""
+    """Ports that the system gives nobody by itself, below those of outgoing connections, beginning at one that differs
+    from process to process."""
     first = int(pathlib.Path("/proc/sys/net/ipv4/ip_local_port_range").read_text(encoding="ascii").split()[0])
     low, high = (10000, first) if first > 12000 else (61000, 65536)
     start = os.getpid() * 37
@@ -118,8 +121,8 @@ def is_free(port):
 
 
 def free_port():
-    """A port of this machine that nobody uses. Until this process ends no other suite is given it: each port that was given out has a socket of its name, which one
-    process alone can have."""
+    """A port of this machine that nobody uses. Until this process ends no other suite is given it: each port that was
+    given out has a socket of its name, which one process alone can have."""
     with PORT_LOCK:
         for port in itertools.islice(PORTS, 20000):
             name = socket.socket(socket.AF_UNIX)
@@ -131,7 +134,7 @@ def free_port():
 
 
 class Server:
-    """The program, serving a map until it is stopped by its own process id. `under` are words that start it in another way."""
+    """The program, serving a map until it is stopped by its own process id. `under` are words before its own."""
 
     def __init__(self, executable, path, workers, versions, rules=(), under=()):
         self.port = free_port()
@@ -224,8 +227,8 @@ def reply(status, reason, version, body, close=False, allow=None):
 
 
 def listing_lines(faces, count, arcs, ratio=16, classes=("1 1",), class_of=None):
-    """The lines of the listing of a base map: the classes without their numbers, the number of arcs and the arcs without their word, and the classes that are not 0
-    by face."""
+    """The lines of the listing of a base map: the classes without their numbers, the number of arcs and the arcs
+    without their word, and the classes that are not 0 by face."""
     yield f"tgap 1\ntransform 1 1 0 0\nratio {ratio}\nclasses {len(classes)}\n"
     yield from (f"class {number} {row}\n" for number, row in enumerate(classes))
     yield f"faces {faces}\n"
@@ -246,8 +249,8 @@ def arc_text(left, right, points):
 
 
 def grid(side):
-    """The faces, the number of arcs and the arcs of square cells, side by side: the cell at (column, row) is face row * side + column + 1, and each arc, with its left face,
-    right face and points, is one side of a cell."""
+    """The faces, the number of arcs and the arcs of square cells, side by side: the cell at (column, row) is face row *
+    side + column + 1, and each arc, with its left face, right face and points, is one side of a cell."""
 
     def face(column, row):
         return row * side + column + 1 if 0 <= column < side and 0 <= row < side else 0

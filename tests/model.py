@@ -1,5 +1,5 @@
-"""A map of some hundred steps, and an own reckoning of it by docs/rules.md, as plain as it can be: its history, its borders, the areas of its faces, and the windows of a
-slice. The program's answers are held to it."""
+"""A map of some hundred steps, and an own reckoning of it by docs/rules.md, as plain as it can be: its history, its
+borders, the areas of its faces, and the windows of a slice. The program's answers are held to it."""
 import collections
 
 from lib import arc_text, bent_grid, listing
@@ -46,7 +46,8 @@ class Model:
         return listing(self.count, arcs, ratio=self.ratio, classes=classes, class_of=self.class_of)
 
     def merge(self, live):
-        """One step: the least important face goes into the neighbour that takes it best. All faces hang together, so each has a neighbour."""
+        """One step: the least important face goes into the neighbour that takes it best. All faces hang together, so
+        each has a neighbour."""
         loser = min(live, key=lambda face: (self.area[face] * WEIGHTS[self.class_of[face]], face))
         shared = collections.Counter()
         for left, right, long in self.sides:
@@ -62,7 +63,7 @@ class Model:
         return live - {loser, winner} | {made}
 
     def ancestors(self, step):
-        """What each face has become by a step. A face that is made has a greater number than those of which it is made."""
+        """What each face has become by a step. A face that is made has a greater number than what it is made of."""
         last, found = self.count + step, {0: 0}
         for face in range(last, 0, -1):
             into = self.parent.get(face)
@@ -76,7 +77,8 @@ class Model:
         return {arc: pair for arc, pair in enumerate(sides) if pair[0] != pair[1]}
 
     def borders_text(self, step):
-        return "".join([f"borders {step}\n", *(f"border {arc} {left} {right}\n" for arc, (left, right) in self.borders(step).items()), "end\n"]).encode()
+        rows = (f"border {arc} {left} {right}\n" for arc, (left, right) in self.borders(step).items())
+        return "".join([f"borders {step}\n", *rows, "end\n"]).encode()
 
     def faces(self, step):
         """The classes of the faces after a step, by number."""
@@ -108,7 +110,8 @@ class Model:
 
 
 def slice_of(text):
-    """A slice or a window as its text tells it: its first line, the classes of its faces, and its edges by key, with the faces at their sides and their points."""
+    """A slice or a window as its text tells it: its first line, the classes of its faces, and its edges by key, with
+    the faces at their sides and their points."""
     first, *lines = text.decode().splitlines()
     rows = [line.split() for line in lines]
     faces = {int(row[1]): int(row[2]) for row in rows if row[0] == "face"}
@@ -121,7 +124,8 @@ def slice_of(text):
 
 
 def window_of(text, box):
-    """The window of a slice, from the texts of both: the edges whose bounding boxes touch the box, and the faces beside them."""
+    """The window of a slice, from the texts of both: the edges whose bounding boxes touch the box, and the faces beside
+    them."""
     x0, y0, x1, y1 = box
     whole = slice_of(text)
 
@@ -132,6 +136,7 @@ def window_of(text, box):
     edges = {key: edge for key, edge in whole.edges.items() if touches(edge[2])}
     beside = {face for left, right, _ in edges.values() for face in (left, right)}
     faces = {face: number for face, number in whole.faces.items() if face in beside}
-    lines = [f"window {whole.first.split()[1]} {x0} {y0} {x1} {y1}", f"faces {len(faces)}", *(f"face {face} {number}" for face, number in faces.items()),
-             f"edges {len(edges)}", *(f"edge {key} {arc_text(*edge)}" for key, edge in edges.items()), "end"]
+    lines = [f"window {whole.first.split()[1]} {x0} {y0} {x1} {y1}", f"faces {len(faces)}"]
+    lines += [*(f"face {face} {number}" for face, number in faces.items()), f"edges {len(edges)}"]
+    lines += [*(f"edge {key} {arc_text(*edge)}" for key, edge in edges.items()), "end"]
     return ("\n".join(lines) + "\n").encode()

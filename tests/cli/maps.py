@@ -65,8 +65,9 @@ def two_squares_with(number, line):
 
 
 def crossing_lines(count):
-    """A listing of this many arcs: arc A runs down between two of the longest points, with face A / 2 + 1 at its left and nothing at its right. Every two of them meet, and no
-    two faces are neighbours. With 65,536 arcs it is near all limits, and about 4 MB long."""
+    """A listing of this many arcs: arc A runs down between two of the longest points, with face A / 2 + 1 at its left
+    and nothing at its right. Every two of them meet, and no two faces are neighbours. With 65,536 arcs it is near all
+    limits, and about 4 MB long."""
     high, low = f"-{MOST} {MOST - 1}", f"-{MOST - 1} -{MOST}"
     return listing(count // 2, [f"{arc // 2 + 1} 0 2 {high} {low}" for arc in range(count)])
 

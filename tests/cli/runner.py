@@ -8,13 +8,15 @@ from lib import SECONDS, TOP
 
 # The tools of the shell that tests/run uses; python3 is none of them.
 TOOLS = ["sh", "cat", "dirname", "grep", "head", "id", "mktemp", "mv", "rm", "sed", "tail", "tee", "timeout", "tr"]
+SUITES = ["cli", "tools", "http", "deploy", "launcher", "web"]
 LINE = "{} passed, {} failed, {} skipped"
 # Each case: what the suites print, with their statuses, and the closing line of all with the status.
 CASES = [
     ("no suite", {}, LINE.format(0, 0, 0), 0),
     ("one suite", {"cli": ("some words\n" + LINE.format(3, 0, 1), 0)}, LINE.format(3, 0, 1), 0),
-    ("suites of several rows", {name: (LINE.format(1, 0, 2), 0) for name in ["cli", "tools", "http", "deploy", "launcher", "web"]}, LINE.format(6, 0, 12), 0),
-    ("a suite with a test that failed", {"cli": (LINE.format(3, 2, 0), 1), "http": (LINE.format(5, 0, 0), 0)}, LINE.format(8, 2, 0), 1),
+    ("suites of several rows", {name: (LINE.format(1, 0, 2), 0) for name in SUITES}, LINE.format(6, 0, 12), 0),
+    ("one of two with a test that failed", {"cli": (LINE.format(3, 2, 0), 1), "http": (LINE.format(5, 0, 0), 0)},
+     LINE.format(8, 2, 0), 1),
     ("a test that failed, and yet the status 0", {"http": (LINE.format(3, 1, 0), 0)}, LINE.format(3, 1, 0), 1),
     ("a suite without its line", {"cli": ("3 passed, 0 failed", 0)}, LINE.format(0, 1, 0), 1),
     ("a suite that prints nothing", {"web": ("", 0)}, LINE.format(0, 1, 0), 1),
@@ -38,8 +40,8 @@ def made_up(folder, suites):
 
 def outcome(script, *words, **more):
     """The last line of the standard output of tests/run, its standard error and its status. It installs nothing."""
-    environment = {**os.environ, "TESTS_INSTALL": "no", **more}
-    ended = subprocess.run([script, *words], capture_output=True, text=True, check=False, timeout=SECONDS, env=environment, stdin=subprocess.DEVNULL)
+    how = {"env": {**os.environ, "TESTS_INSTALL": "no", **more}, "stdin": subprocess.DEVNULL, "timeout": SECONDS}
+    ended = subprocess.run([script, *words], capture_output=True, text=True, check=False, **how)
     return (ended.stdout.splitlines() or [""])[-1], ended.stderr, ended.returncode
 
 
@@ -53,10 +55,12 @@ def executables_that_are_none(tests):
     """Before a suite is run, and before anything is installed."""
     script = made_up("made_up_none", {"cli": (LINE.format(1, 0, 0), 0)})
     pathlib.Path("plain_file").write_bytes(b"")
+    wrong = {"none": os.path.abspath("none"), "a folder": str(script.parent), "a plain file": os.path.abspath("plain_file")}
     released = script.parents[1] / "release/tgap-x86_64-linux"
-    for name, words in [("none", [os.path.abspath("none")]), ("a folder", [str(script.parent)]), ("a plain file", [os.path.abspath("plain_file")]), ("no released one", [])]:
+    for name, path in {**wrong, "no released one": str(released)}.items():
+        words = [path] if name in wrong else []
         last, error, code = outcome(script, *words)
-        told = error.startswith(f"tests/run: there is no executable {words[0] if words else released}\n")
+        told = error.startswith(f"tests/run: there is no executable {path}\n")
         tests.same(f"tests/run with an executable that is none: {name}", (last, told, code), ("", True, 1))
     tests.same("tests/run with two words", outcome(script, "a", "b"), ("", "usage: tests/run [EXECUTABLE]\n", 1))
     released.parent.mkdir()
@@ -73,7 +77,8 @@ def no_python(tests):
     for tool in TOOLS:
         os.symlink(shutil.which(tool), f"tools/{tool}")
     last, error, code = outcome(script, tests.executable, PATH=os.path.abspath("tools"))
-    tests.same("tests/run without python3", (last, "apt-get install" in error and "python3" in error, code), (LINE.format(2, 0, 1), True, 0))
+    told = "for want of python3" in error and "apt-get install" in error
+    tests.same("tests/run without python3", (last, told, code), (LINE.format(2, 0, 1), True, 0))
 
 
 TESTS = [sums_of_suites, executables_that_are_none, no_python]

@@ -1,4 +1,5 @@
-"""A map of some hundred steps on each command, held to an own reckoning of its history, and one answer to another: a slice with the packet behind it gives the finer slice."""
+"""A map of some hundred steps on each command, held to an own reckoning of its history, and one answer to another: a
+slice with the packet behind it gives the finer slice."""
 import pathlib
 
 from model import STEPS, Model

@@ -1,5 +1,5 @@
-"""Accepts that fail. What went wrong with the connection that was coming is passed over, a want of descriptors or memory is waited out, and only a broken listener ends a
-worker."""
+"""Accepts that fail. What went wrong with the connection that was coming is passed over, a want of descriptors or
+memory is waited out, and only a broken listener ends a worker."""
 import contextlib
 import http.client
 import os
@@ -32,12 +32,14 @@ def may_trace():
     """Skips a test where strace is missing or not allowed."""
     if not shutil.which("strace"):
         raise Skipped("strace is missing")
-    if subprocess.run(["strace", "-f", "-o", "/dev/null", "true"], capture_output=True, check=False, timeout=SECONDS).returncode != 0:
+    tried = subprocess.run(["strace", "-f", "-o", "/dev/null", "true"], capture_output=True, check=False, timeout=SECONDS)
+    if tried.returncode != 0:
         raise Skipped("strace may not trace here")
 
 
 def answers_of_all(server):
-    """The answers on as many kept connections as there are workers: each holds a worker, so all of them come only where no worker has ended."""
+    """The answers on as many kept connections as there are workers: each holds a worker, so all of them come only where
+    no worker has ended."""
     with contextlib.ExitStack() as stack:
         clients = [stack.enter_context(contextlib.closing(server.client(WAIT))) for _ in range(WORKERS)]
         return [ask(client, "GET", "/info")[:3] for client in clients]
@@ -74,7 +76,8 @@ def a_broken_listener(tests):
             port = free_port()
             words = [*injecting(error, f"{folder}/{error}"), tests.executable, "serve", str(MAP), str(port), "1", "1"]
             ended = subprocess.run(words, capture_output=True, check=False, timeout=SECONDS)
-            tests.same(f"a listener that is broken by {error}", (ended.returncode, ended.stdout), (PORT_FAULT, f"serving {port}\nport fault\n".encode()))
+            wanted = PORT_FAULT, f"serving {port}\nport fault\n".encode()
+            tests.same(f"a listener that is broken by {error}", (ended.returncode, ended.stdout), wanted)
 
 
 def seconds_of_processor(process):
@@ -84,7 +87,8 @@ def seconds_of_processor(process):
 
 
 def no_descriptors(tests):
-    """While there are no descriptors the workers wait, without work for the processor; when there are some again all of them go on."""
+    """While there are no descriptors the workers wait, without work for the processor; when there are some again all of
+    them go on."""
     with Server(tests.executable, MAP, WORKERS, 1) as server, contextlib.closing(server.client()) as waiting:
         own = server.process.pid
         before = resource.prlimit(own, resource.RLIMIT_NOFILE, (3, resource.getrlimit(resource.RLIMIT_NOFILE)[1]))

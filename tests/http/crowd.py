@@ -1,4 +1,4 @@
-"""Many readers and editors at once: one chain of published versions, no pin falls, and nothing that was acknowledged is lost."""
+"""Many readers and editors at once: one chain of published versions, no pin falls, nothing acknowledged is lost."""
 import http.client
 import re
 import threading
@@ -42,7 +42,7 @@ class Crowd:
         client.close()
 
     def edit(self):
-        """One connection that moves the corner by one, from whatever version is the newest, until it is published or no more may be."""
+        """One connection that moves the corner by one, from the newest version, until it is published or none may be."""
         client = self.server.client()
         pinned = ask(client, "GET", "/info")[1]
         for _ in range(VERSIONS):
@@ -67,7 +67,8 @@ class Crowd:
 def a_crowd(tests):
     with Server(tests.executable, FOUR, 16, VERSIONS) as server:
         crowd = Crowd(server)
-        threads = [threading.Thread(target=crowd.guarded, args=(work,), daemon=True) for work in [crowd.read] * READERS + [crowd.edit] * EDITORS]
+        works = [crowd.read] * READERS + [crowd.edit] * EDITORS
+        threads = [threading.Thread(target=crowd.guarded, args=(work,), daemon=True) for work in works]
         for thread in threads:
             thread.start()
         for thread in threads:

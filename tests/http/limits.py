@@ -1,5 +1,5 @@
-"""Where the server listens, and its limits: requests of a connection, the length of a head and of a body, the number of headers. The reply to what is too long arrives whole
-although the client is still sending."""
+"""Where the server listens, and its limits: requests of a connection, the length of a head and of a body, the number of
+headers. The reply to what is too long arrives whole although the client is still sending."""
 import contextlib
 import pathlib
 import socket
@@ -106,8 +106,9 @@ def heads(tests):
     most, more = request("GET", "/info", b"", *headers[1:]), request("GET", "/info", b"", *headers)
     with Server(tests.executable, MAP, 2, 1) as server:
         for name, sent, wanted in [
-            ("a head of 8,192 bytes", padded(HEAD), GOOD), ("a head of 8,193 bytes", padded(HEAD + 1), BAD), ("a head of 9,000 bytes", padded(9000), BAD),
-            ("two heads of 8,192 bytes", padded(HEAD) * 2, GOOD * 2), ("64 headers", most, GOOD), ("65 headers", more, BAD),
+            ("a head of 8,192 bytes", padded(HEAD), GOOD), ("two heads of 8,192 bytes", padded(HEAD) * 2, GOOD * 2),
+            ("a head of 8,193 bytes", padded(HEAD + 1), BAD), ("a head of 9,000 bytes", padded(9000), BAD),
+            ("64 headers", most, GOOD), ("65 headers", more, BAD),
         ]:
             tests.same(name, exchange(server, sent), wanted)
             tests.same(f"{name}, in pieces", exchange(server, sent, 1000), wanted)
@@ -125,26 +126,31 @@ def longest_body(tests):
         tests.same("its last line was done", (status, version, b" 20 9 " in text), (200, 1, True))
 
 
+def each_time(tests, name, way, wanted):
+    """Tests that a way of asking gives the same each time."""
+    tests.same(f"{name}, {TIMES} times", [way() for _ in range(TIMES)], [wanted] * TIMES)
+
+
 def bodies_that_are_too_long(tests):
     """The reply arrives whole, each time, though the client goes on to send."""
     with Server(tests.executable, MAP, 2, 1) as server:
-        one_more, huge = (b"x" * length for length in (BODY + 1, 50_000_000))
+        one_more, huge = b"x" * (BODY + 1), request("POST", "/edit", b"x" * 50_000_000)
         announced = request("POST", "/edit", b"", f"Content-Length: {BODY + 1}")
+        half, refused = announced + one_more[: BODY // 2], (413, 0, b"too long\n")
         tests.same("a body of one byte too much, none of it sent", exchange(server, announced), TOO_LONG)
-        tests.same(f"half of such a body, {TIMES} times", [sent_beside(server, announced + one_more[: BODY // 2]) for _ in range(TIMES)], [(TOO_LONG, True)] * TIMES)
-        tests.same(f"a whole such body, {TIMES} times", [asked_once(server, "POST", "/edit", one_more) for _ in range(TIMES)], [(413, 0, b"too long\n")] * TIMES)
-        sent = request("POST", "/edit", huge)
-        tests.same(f"a body of 50 MB, {TIMES} times", [sent_first(server, sent) for _ in range(TIMES)], [TOO_LONG] * TIMES)
-        tests.same(f"50 MB from a client that reads meanwhile, {TIMES} times", [sent_beside(server, sent)[0] for _ in range(TIMES)], [TOO_LONG] * TIMES)
+        each_time(tests, "half of such a body", lambda: sent_beside(server, half), (TOO_LONG, True))
+        each_time(tests, "the whole of it", lambda: asked_once(server, "POST", "/edit", one_more), refused)
+        each_time(tests, "a body of 50 MB", lambda: sent_first(server, huge), TOO_LONG)
+        each_time(tests, "50 MB from a client that reads meanwhile", lambda: sent_beside(server, huge)[0], TOO_LONG)
         tests.same("it goes on", asked_once(server, "GET", "/info"), (200, 0, INFO))
 
 
 def bad_heads_before_more(tests):
-    """After a bad head nothing is read as a request, and the connection is closed in good order though half a megabyte follows."""
+    """After a bad head nothing is read as a request, and though half a megabyte follows, the end is in good order."""
     with Server(tests.executable, MAP, 2, 1) as server:
         sent = request("POST", "/edit", b"", "Transfer-Encoding: chunked") + request("GET", "/info") * 12000
-        tests.same(f"a bad head, {TIMES} times", [sent_beside(server, sent) for _ in range(TIMES)], [(BAD, True)] * TIMES)
-        tests.same(f"a bad head, to a client that sends first, {TIMES} times", [sent_first(server, sent) for _ in range(TIMES)], [BAD] * TIMES)
+        each_time(tests, "a bad head, to a client that reads meanwhile", lambda: sent_beside(server, sent), (BAD, True))
+        each_time(tests, "a bad head, to a client that sends first", lambda: sent_first(server, sent), BAD)
 
 
 TESTS = [one_address, requests_of_a_connection, heads, longest_body, bodies_that_are_too_long, bad_heads_before_more]

@@ -1,5 +1,5 @@
-"""Clients that send nothing, stop in the middle, or never read. After five seconds without a byte in either direction the server ends their connection, so that none of
-them holds a worker for long."""
+"""Clients that send nothing, stop in the middle, or never read. After five seconds without a byte in either direction
+the server ends their connection, so that none of them holds a worker for long."""
 import contextlib
 import pathlib
 import socket
@@ -11,7 +11,8 @@ from lib import SECONDS, TOP, Server, arc_text, asked_once, grid, listing, recei
 
 MAP = TOP / "examples/two_squares.tgap"
 INFO = b"version 0 steps 1 faces 2 arcs 3 points 10\n"
-# The server waits for five seconds, and begins anew with each byte that still fits into the buffers of the system. A loaded machine adds some.
+# The server waits for five seconds, and begins anew with each byte that still fits into the buffers of the system. A
+# loaded machine adds some.
 LEAST, MOST = 4.5, 25
 CELLS = 60
 
@@ -94,7 +95,9 @@ def a_client_that_never_reads(tests):
 
 def as_many_as_workers(tests):
     """Slow clients of each kind, one for each worker, stop the server for no longer than one of them."""
-    with tempfile.TemporaryDirectory() as folder, Server(tests.executable, large_map(folder), len(SLOW), 2) as server, contextlib.ExitStack() as stack:
+    with contextlib.ExitStack() as stack:
+        path = large_map(stack.enter_context(tempfile.TemporaryDirectory()))
+        server = stack.enter_context(Server(tests.executable, path, len(SLOW), 2))
         begun = time.monotonic()
         for start in SLOW:
             stack.enter_context(start(server))
@@ -135,5 +138,5 @@ def a_client_that_sends_on(tests):
         tests.same("its status, behind one that sends on", status, 200)
 
 
-TESTS = [a_silent_client, a_client_that_stops_in_a_head, a_client_that_stops_in_a_body, a_client_that_never_reads, as_many_as_workers,
-         a_steady_slow_client, a_client_that_sends_on]
+TESTS = [a_silent_client, a_client_that_stops_in_a_head, a_client_that_stops_in_a_body, a_client_that_never_reads,
+         as_many_as_workers, a_steady_slow_client, a_client_that_sends_on]

@@ -1,4 +1,5 @@
-"""A map of some hundred steps over HTTP: its slices and packets are those of the command line, and its windows are parts of its slices."""
+"""A map of some hundred steps over HTTP: its slices and packets are those of the command line, and its windows are
+parts of its slices."""
 import contextlib
 import pathlib
 import random
@@ -32,10 +33,11 @@ def many_steps(tests):
             for step in STEPS:
                 text = ask(client, "GET", f"/slice/{step}")[2]
                 tests.same(f"/slice/{step}", text, tests.text("slice", path, step))
-                tests.same(f"/packet/{step}/{step // 2}", ask(client, "GET", f"/packet/{step}/{step // 2}")[2], tests.text("packet", path, step, step // 2))
+                packet = ask(client, "GET", f"/packet/{step}/{step // 2}")[2]
+                tests.same(f"/packet/{step}/{step // 2}", packet, tests.text("packet", path, step, step // 2))
                 for box in boxes():
-                    place = "/".join(map(str, box))
-                    tests.same(f"/window/{step}/{place}", ask(client, "GET", f"/window/{step}/{place}")[:3], (200, 0, window_of(text, box)))
+                    window = f"/window/{step}/{'/'.join(map(str, box))}"
+                    tests.same(window, ask(client, "GET", window)[:3], (200, 0, window_of(text, box)))
             tests.same("a step too high", ask(client, "GET", "/slice/400")[:3], (400, 0, b"step too high 399\n"))
 
 
