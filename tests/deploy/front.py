@@ -68,10 +68,10 @@ class Program(lib.Server):
     def __init__(self, executable, words, workers=4, versions=16, under=()):
         super().__init__(executable, words[0], workers, versions, words[1:], under)
 
-    def limit_address_space(self, more):
-        """Lets it have this many bytes more than it has."""
+    def limit_address_space(self):
+        """Lets it have no more than it has."""
         has = int(re.search(r"VmSize:\s+(\d+) kB", pathlib.Path(f"/proc/{self.process.pid}/status").read_text())[1]) << 10
-        resource.prlimit(self.process.pid, resource.RLIMIT_AS, (has + more, has + more))
+        resource.prlimit(self.process.pid, resource.RLIMIT_AS, (has, has))
 
     def ask(self, method, path, body=None):
         """Past the front server."""

@@ -51,6 +51,7 @@ def before_a_large_map(tests):
             slow_readers(tests, front)
             editors_at_once(tests, front)
             gone_editor(tests, program, front)
+            address_space(tests, program, front)
             gone_program(tests, program, front)
 
 
@@ -274,6 +275,17 @@ def gone_editor(tests, program, front):
 def gone_program(tests, program, front):
     program.stop()
     tests.same("where the program has gone", front.ask("GET", "/map/info").told, (502, b"the map is not served at the moment\n"))
+
+
+def address_space(tests, program, front):
+    """Where its address space has an end, the program tells an editor that memory is wanting, and lives."""
+    program.limit_address_space()
+    told = []
+    # It has some room left in what it has already.
+    while len(told) < 12 and (not told or told[-1][0] == 200):
+        told.append(program.ask("POST", "/edit", OWN_BATCH).told)
+    tests.same("an edit when the address space is at its end", told[-1], (503, b"memory\n"))
+    tests.same("the program lives", front.version(), 1 + len(told))
 
 
 def closed_port(tests):
