@@ -7,7 +7,7 @@ import { setTimeout as pause } from "node:timers/promises";
 import { inflateSync } from "node:zlib";
 import { firstMatch } from "./lib.mjs";
 
-const SECONDS = 15;
+const SECONDS = 30;
 const MILLISECONDS = 50;
 
 export class Browser {
