@@ -30,9 +30,10 @@ export class Browser {
   }
 
   async stop() {
+    const ended = new Promise((resolve) => this.child.once("exit", resolve));
     this.kill();
-    await pause(300);
-    rmSync(this.room, { recursive: true, force: true, maxRetries: 5 });
+    await ended;
+    rmSync(this.room, { recursive: true, force: true, maxRetries: 10, retryDelay: 200 });
   }
 }
 
