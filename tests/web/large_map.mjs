@@ -86,7 +86,7 @@ async function paintsWindowsWithinFaces(on) {
   let bare = 0;
   for (let i = 0; i < 12; i++) {
     const place = [0, 1].map(() => Math.round(40000 * (0.02 + 0.96 * random())));
-    await tab.value(`location.hash = '#2/${place.join("/")}'`);
+    await tab.value(`location.hash = '#3/${place.join("/")}'`);
     await tab.until(`${IDLE} && Math.abs(window.tgap.sheet.map.getCenter().lng - ${place[0]}) < 1`);
     if (await tab.value("window.tgap.sheet.picture.area !== null && window.tgap.sheet.picture.lines.length === 0")) bare += 1;
     await areRight(on, `within a face at ${place}`, 1);
