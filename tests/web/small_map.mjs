@@ -48,7 +48,7 @@ async function shows(on) {
   tally.holds("the page shows a map", await tab.until(IDLE));
   const step = await isRight(on, "at first");
   tally.holds("a coarse step comes first", step > 10);
-  tally.equal("the title is that of the rules", await tab.value("document.title + '|' + document.querySelector('h1').textContent"), "Forty-nine neighbourhoods|Forty-nine neighbourhoods");
+  tally.equal("the title is that of the rules", await tab.value("document.title + '|' + document.querySelector('h1').textContent"), "Neighbourhoods of Columbus, Ohio|Neighbourhoods of Columbus, Ohio");
   tally.equal("the classes have names", await tab.value("[...document.querySelectorAll('#legend span')].map((it) => it.textContent).join()"), "field,town,water,wood");
   await picture(on, "map_coarse.png");
 }
@@ -74,12 +74,12 @@ async function keepsProportions({ tab, tally, executable, map }) {
 async function goesNearer(on) {
   const { tab, tally } = on;
   const first = (await shown(tab)).step;
-  await tab.wheel(MIDDLE, -100);
+  await tab.wheel(MIDDLE, -20);
   await pause(200);
   const second = await isRight(on, "nearer");
-  tally.holds("nearer is finer", second < first);
+  tally.holds("nearer is finer", second < first && second > 0);
   await picture(on, "map_middle.png");
-  await tab.wheel(MIDDLE, -200);
+  await tab.wheel(MIDDLE, -60);
   await tab.until("window.tgap.sheet.picture.step === 0");
   tally.equal("the finest step comes last", await isRight(on, "near"), 0);
   await picture(on, "map_fine.png");
