@@ -7,7 +7,7 @@ import { setTimeout as pause } from "node:timers/promises";
 import { inflateSync } from "node:zlib";
 import { firstMatch } from "./lib.mjs";
 
-const SECONDS = 15;
+const SECONDS = 30;
 const MILLISECONDS = 50;
 
 export class Browser {
@@ -30,9 +30,10 @@ export class Browser {
   }
 
   async stop() {
+    const ended = new Promise((resolve) => this.child.once("exit", resolve));
     this.kill();
-    await pause(300);
-    rmSync(this.room, { recursive: true, force: true, maxRetries: 5 });
+    await ended;
+    rmSync(this.room, { recursive: true, force: true, maxRetries: 10, retryDelay: 200 });
   }
 }
 

@@ -61,16 +61,16 @@ async function neverShowsAStalePicture(on) {
   const { tab, tally } = on;
   await tab.delay(MILLISECONDS_OF_DELAY);
   await areRight(on, "all of it", 1);
-  await tab.wheel(MIDDLE, -400);
+  await tab.wheel(MIDDLE, -1000);
   await areRight(on, "on the way nearer", 4);
   await tab.until(IDLE);
   tally.equal("near, a window is shown", await areRight(on, "near", 1), "window");
-  await tab.wheel(MIDDLE, 400);
+  await tab.wheel(MIDDLE, 1000);
   tally.equal("as soon as one goes back, a slice is shown", await areRight(on, "on the way back", 4), "slice");
   await tab.until(IDLE);
   const back = await shown(tab);
   tally.equal("and that of the view's step in the end", back.step, back.wanted);
-  for (const turn of [-300, 150, -200, 350]) {
+  for (const turn of [-900, 300, -400, 1000]) {
     await tab.wheel(MIDDLE, turn);
     await areRight(on, "to and fro", 2);
   }
@@ -86,7 +86,7 @@ async function paintsWindowsWithinFaces(on) {
   let bare = 0;
   for (let i = 0; i < 12; i++) {
     const place = [0, 1].map(() => Math.round(40000 * (0.02 + 0.96 * random())));
-    await tab.value(`location.hash = '#2/${place.join("/")}'`);
+    await tab.value(`location.hash = '#3/${place.join("/")}'`);
     await tab.until(`${IDLE} && Math.abs(window.tgap.sheet.map.getCenter().lng - ${place[0]}) < 1`);
     if (await tab.value("window.tgap.sheet.picture.area !== null && window.tgap.sheet.picture.lines.length === 0")) bare += 1;
     await areRight(on, `within a face at ${place}`, 1);
@@ -123,7 +123,7 @@ async function movesAVertexOfAWindow({ tab, tally, served }) {
   tally.holds("a window shows vertices that the slice at hand has not", vertex !== null);
   if (vertex === null) return;
   const at = await placeOf(tab, vertex);
-  await tab.drag(at, [at[0] + 3, at[1]]);
+  await tab.drag(at, [at[0] + 6, at[1]]);
   tally.holds("a vertex of a window can be moved", await tab.until(`document.getElementById('version').textContent === 'Version 1' && ${IDLE}`));
   const points = [...(await served.slice(0)).edges.values()].flatMap((it) => it.points.map(String));
   tally.holds("and is elsewhere then", !points.includes(String(vertex)));

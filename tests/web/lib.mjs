@@ -6,7 +6,7 @@ import { fileURLToPath } from "node:url";
 export const examples = fileURLToPath(new URL("../../examples/", import.meta.url));
 const MEGABYTES = 2 ** 20;
 
-/** Counts what holds and what does not, and tells the latter. */
+/** Counts what holds and what does not, and tells the latter; with TELL in the environment, both. */
 export class Tally {
   passed = 0;
   failed = 0;

@@ -39,7 +39,7 @@ process.on("SIGTERM", () => {
 });
 try {
   const columbus = "columbus.rules.json";
-  writeFileSync(rules, JSON.stringify({ ...JSON.parse(readFileSync(path.join(examples, columbus))), title: "Forty-nine neighbourhoods" }));
+  writeFileSync(rules, JSON.stringify({ ...JSON.parse(readFileSync(path.join(examples, columbus))), title: "Neighbourhoods of Columbus, Ohio" }));
   writeFileSync(grid, gridListing(SIDE));
   browser = await Browser.start(chromium, "1100,700");
   await over(browser, ["columbus.json", "areas", rules], smallMap);

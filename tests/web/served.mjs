@@ -1,9 +1,8 @@
 // The page of the example behind its front server, and what a test asks of it.
 import { spawn, spawnSync } from "node:child_process";
 import { readFileSync, readlinkSync } from "node:fs";
-import path from "node:path";
 import { fileURLToPath } from "node:url";
-import { lowestAbove } from "../../clients/js/places.js";
+import { crossingsAt } from "../../clients/js/places.js";
 import { readSlice } from "../../clients/js/wire.js";
 import { pixelsOf } from "./browser.mjs";
 import { examples, firstMatch } from "./lib.mjs";
@@ -88,12 +87,27 @@ export async function look(tab) {
 const FILLS = ["230,159,0", "86,180,233", "0,158,115", "240,228,66"];
 const OUTSIDE = "244,244,241";
 
+/** The face at each pixel of a view, by the slice: the crossings of a column of pixels are looked for once. */
+function facesOf({ box, size }, slice) {
+  const lines = [...slice.edges.values()];
+  const columns = new Map();
+  const columnAt = (px) => {
+    if (!columns.has(px)) {
+      const x = box.x0 + ((px + 0.5) / size[0]) * (box.x1 - box.x0);
+      columns.set(px, [...crossingsAt(lines, x)].sort((a, b) => a.y - b.y));
+    }
+    return columns.get(px);
+  };
+  return (px, py) => {
+    const y = box.y1 - ((py + 0.5) / size[1]) * (box.y1 - box.y0);
+    return columnAt(px).find((crossing) => crossing.y >= y)?.below ?? 0;
+  };
+}
+
 /** The samples of a picture that have another colour than the slice says. */
 export function wrongSamples(view, slice) {
-  const { box, size, pixels } = view;
-  const lines = [...slice.edges.values()];
-  const gridOf = (px, py) => [box.x0 + ((px + 0.5) / size[0]) * (box.x1 - box.x0), box.y1 - ((py + 0.5) / size[1]) * (box.y1 - box.y0)];
-  const faceOf = (px, py) => lowestAbove(lines, ...gridOf(px, py))?.below ?? 0;
+  const { size, pixels } = view;
+  const faceOf = facesOf(view, slice);
   const wrong = [];
   let count = 0;
   for (let px = MARGIN; px < size[0] - MARGIN; px += APART) {
@@ -119,5 +133,3 @@ export function sliceOf(executable, step, ...map) {
   const ran = spawnSync(executable, ["slice", map[0], String(step), ...map.slice(1)], { cwd: examples, encoding: "utf8", maxBuffer: 2 ** 28 });
   return readSlice(ran.stdout);
 }
-
-export const toolsThatAreMissing = (names) => names.filter((name) => spawnSync("sh", ["-c", `PATH=$PATH:/usr/sbin command -v "${name}"`]).status !== 0).map((it) => path.basename(it));

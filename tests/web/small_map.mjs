@@ -48,7 +48,7 @@ async function shows(on) {
   tally.holds("the page shows a map", await tab.until(IDLE));
   const step = await isRight(on, "at first");
   tally.holds("a coarse step comes first", step > 10);
-  tally.equal("the title is that of the rules", await tab.value("document.title + '|' + document.querySelector('h1').textContent"), "Forty-nine neighbourhoods|Forty-nine neighbourhoods");
+  tally.equal("the title is that of the rules", await tab.value("document.title + '|' + document.querySelector('h1').textContent"), "Neighbourhoods of Columbus, Ohio|Neighbourhoods of Columbus, Ohio");
   tally.equal("the classes have names", await tab.value("[...document.querySelectorAll('#legend span')].map((it) => it.textContent).join()"), "field,town,water,wood");
   await picture(on, "map_coarse.png");
 }
@@ -74,12 +74,12 @@ async function keepsProportions({ tab, tally, executable, map }) {
 async function goesNearer(on) {
   const { tab, tally } = on;
   const first = (await shown(tab)).step;
-  await tab.wheel(MIDDLE, -100);
+  await tab.wheel(MIDDLE, -20);
   await pause(200);
   const second = await isRight(on, "nearer");
-  tally.holds("nearer is finer", second < first);
+  tally.holds("nearer is finer", second < first && second > 0);
   await picture(on, "map_middle.png");
-  await tab.wheel(MIDDLE, -200);
+  await tab.wheel(MIDDLE, -60);
   await tab.until("window.tgap.sheet.picture.step === 0");
   tally.equal("the finest step comes last", await isRight(on, "near"), 0);
   await picture(on, "map_fine.png");
@@ -152,6 +152,14 @@ async function makesAPictureOnce({ tab, tally }) {
   await tab.until(IDLE);
 }
 
+/** Goes so near to a vertex that a drag over some pixels is a small edit, and drags it. */
+async function dragsNear(tab, vertex, by) {
+  await tab.value(`location.hash = '#0/${vertex.join("/")}'`);
+  await tab.until(`${IDLE} && window.tgap.sheet.map.getZoom() === 0`);
+  const at = await placeOf(tab, vertex);
+  await tab.drag(at, at.map((z, axis) => z + by[axis]));
+}
+
 /** An inner vertex of a border, and where it may go without harm: a hundredth of the way to the next vertex. */
 function vertexToMove(slice) {
   const edge = [...slice.edges.values()].find(({ points }) => points.length > 5);
@@ -159,16 +167,19 @@ function vertexToMove(slice) {
   return [p, p.map((z, axis) => Math.round(z + (q[axis] - z) / 100))];
 }
 
+/** An inner vertex of another border. */
+function otherVertex(slice) {
+  return [...slice.edges.values()].filter(({ points }) => points.length > 5)[3].points[3];
+}
+
 async function edits(on) {
   const { tab, tally, served } = on;
   await tab.value("document.getElementById('moving').click()");
-  const view = await shown(tab);
-  const [vertex] = vertexToMove(await served.slice(view.step));
-  const at = await placeOf(tab, vertex);
-  await tab.drag(at, [at[0] + 2, at[1]]);
+  const [vertex] = vertexToMove(await served.slice(0));
+  await dragsNear(tab, vertex, [6, 1]);
   tally.holds("an edit is published", await tab.until(`${text("version")} === 'Version 1' && ${IDLE}`));
   tally.equal("and told as such", await tab.value(NOTICES), "edit: Your edit is published as version 1.");
-  tally.equal("the step is as before", (await shown(tab)).step, view.step);
+  tally.equal("the step is that of the view", (await shown(tab)).step, (await shown(tab)).wanted);
 
   const [from, to] = vertexToMove(await served.slice(0));
   await served.edit(`move ${from.join(" ")} ${to.join(" ")}\n`);
@@ -184,14 +195,13 @@ async function edits(on) {
 
 /** Somebody publishes between the page's question and its edit. */
 async function landsOnAnUnseenVersion({ tab, tally, served }) {
-  const [[vertex], [from, to]] = [vertexToMove(await served.slice((await shown(tab)).step)), vertexToMove(await served.slice(0))];
+  const [from, to] = vertexToMove(await served.slice(0));
   await tab.ask("Fetch.enable", { patterns: [{ urlPattern: "*/map/edit" }] });
   tab.paused = async ({ requestId }) => {
     await served.edit(`move ${from.join(" ")} ${to.join(" ")}\n`);
     await tab.ask("Fetch.continueRequest", { requestId });
   };
-  const at = await placeOf(tab, vertex);
-  await tab.drag(at, [at[0] - 2, at[1] + 1]);
+  await dragsNear(tab, otherVertex(await served.slice(0)), [-6, 1]);
   tally.holds("an edit on a version that was not seen is told", await tab.until(`(${NOTICES}).includes('published as version 4, but on top of version 3, which you had not seen')`));
   await tab.ask("Fetch.disable");
   await tab.until(IDLE);
@@ -199,10 +209,10 @@ async function landsOnAnUnseenVersion({ tab, tally, served }) {
 }
 
 async function isTooLate({ tab, tally, served }) {
-  const [[vertex], [from, to]] = [vertexToMove(await served.slice((await shown(tab)).step)), vertexToMove(await served.slice(0))];
+  const slice = await served.slice(0);
+  const [from, to] = vertexToMove(slice);
   await served.edit(`move ${from.join(" ")} ${to.join(" ")}\n`);
-  const at = await placeOf(tab, vertex);
-  await tab.drag(at, [at[0] + 3, at[1] + 1]);
+  await dragsNear(tab, otherVertex(slice), [6, 2]);
   tally.holds("an edit that comes too late is told", await tab.until(`(${NOTICES}).includes('edit: Your edit is not published: somebody else')`));
   await tab.until(`${text("version")} === 'Version 5' && ${IDLE}`);
   await pause(1000);
@@ -215,6 +225,8 @@ async function dismiss(tab, cause) {
 }
 
 async function tellsOfFailures({ tab, tally, served }) {
+  await tab.value("document.getElementById('all').click()");
+  await tab.until(IDLE);
   const slice = await served.slice((await shown(tab)).step);
   const box = boxOf(slice.edges.values());
   const [vertex] = vertexToMove(slice);

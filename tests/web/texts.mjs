@@ -1,18 +1,17 @@
 // Holds clients/js/wire.js and replay.js against the texts of the built program: at every step of each map, and over broken packets.
-// usage: node tests/web/texts.mjs EXECUTABLE. Last line: 'N passed, M failed'.
-import { execFileSync, spawnSync } from "node:child_process";
+// usage: node tests/web/texts.mjs EXECUTABLE. Last line: 'N passed, N failed, N skipped'.
+import { execFileSync } from "node:child_process";
 import { mkdtempSync, rmSync, writeFileSync } from "node:fs";
 import { tmpdir } from "node:os";
 import path from "node:path";
-import { fileURLToPath } from "node:url";
 import { Refined, Unfit } from "../../clients/js/replay.js";
 import { BadText, packetText, readPacket, readSlice, sliceText } from "../../clients/js/wire.js";
+import { Tally, examples, tgap as ask } from "./lib.mjs";
 
 const executable = process.argv[2];
-const examples = fileURLToPath(new URL("../../examples/", import.meta.url));
 const room = mkdtempSync(path.join(tmpdir(), "web-texts-"));
-let passed = 0;
-let failed = 0;
+const tally = new Tally();
+const tgap = (...words) => ask(executable, ...words);
 
 const MAPS = [
   ["two_squares.tgap"],
@@ -25,20 +24,6 @@ const MAPS = [
   ["columbus.json", "areas", "columbus.rules.json"],
 ];
 
-function tgap(...words) {
-  const ran = spawnSync(executable, words, { cwd: examples, encoding: "utf8", maxBuffer: 1 << 28 });
-  return { status: ran.status, text: ran.stdout };
-}
-
-function holds(name, actual, expected) {
-  if (actual === expected) {
-    passed += 1;
-  } else {
-    failed += 1;
-    console.log(`${name}: FAILED\n  expected ${JSON.stringify(expected).slice(0, 300)}\n  got      ${JSON.stringify(actual).slice(0, 300)}`);
-  }
-}
-
 function lastStep([map, ...rules]) {
   return Number(tgap("slice", map, "4294967295", ...rules).text.match(/^step too high ([0-9]+)\n$/)[1]);
 }
@@ -49,18 +34,18 @@ function followsTheProgram(words) {
   const last = lastStep(words);
   const slices = [...Array(last + 1).keys()].map((step) => tgap("slice", map, String(step), ...rules).text);
   const whole = tgap("packet", map, String(last), "0", ...rules).text;
-  holds(`${map}: a packet is read and written`, packetText(readPacket(whole)), whole);
+  tally.equal(`${map}: a packet is read and written`, packetText(readPacket(whole)), whole);
   const refined = new Refined(readSlice(slices[last]));
   for (const record of readPacket(whole).records) {
-    holds(`${map}: the slice at step ${refined.step}`, sliceText(refined), slices[refined.step]);
+    tally.equal(`${map}: the slice at step ${refined.step}`, sliceText(refined), slices[refined.step]);
     refined.undo(record);
   }
-  holds(`${map}: the slice at step 0`, sliceText(refined), slices[0]);
+  tally.equal(`${map}: the slice at step 0`, sliceText(refined), slices[0]);
   const middle = Math.floor(last / 2);
   const onward = new Refined(readSlice(slices[last]));
   onward.replay(readPacket(tgap("packet", map, String(last), String(middle), ...rules).text));
   onward.replay(readPacket(tgap("packet", map, String(middle), "0", ...rules).text));
-  holds(`${map}: two packets in a row`, sliceText(onward), slices[0]);
+  tally.equal(`${map}: two packets in a row`, sliceText(onward), slices[0]);
 }
 
 /** What is said of a slice and a packet: in the words of the program's `replay`. */
@@ -109,7 +94,7 @@ function refusesLikeTheProgram(map) {
   for (const [sliceBytes, packetBytes] of differ) {
     writeFileSync(sliceFile, sliceBytes);
     writeFileSync(packetFile, packetBytes);
-    holds(`${map}: a broken text`, told(sliceBytes, packetBytes), tgap("replay", sliceFile, packetFile).text);
+    tally.equal(`${map}: a broken text`, told(sliceBytes, packetBytes), tgap("replay", sliceFile, packetFile).text);
   }
 }
 
@@ -120,5 +105,4 @@ try {
 } finally {
   rmSync(room, { recursive: true });
 }
-console.log(`${passed} passed, ${failed} failed`);
-process.exit(failed === 0 ? 0 : 1);
+tally.end();
