@@ -193,6 +193,7 @@ def slow_heads(tests, front):
 
 def bodies(tests, front):
     tests.same("an edit of 20 KB", front.edit(OWN_BATCH * 2000).told, (200, b"published 3\n"))
+    tests.same("it is kept whole", until(lambda: kept(front)[-1]["batch"] == (OWN_BATCH * 2000).decode(), AT_ONCE), True)
     lines = LONGEST // len(OWN_BATCH) - 6
     longest = OWN_BATCH * lines + b"class 10 0\n" * 6
     tests.same("the length of the longest body", len(longest), LONGEST)
@@ -205,13 +206,18 @@ def kept_batches(tests, program, front):
     x, y = next(line for line in front.ask("GET", "/map/slice/0").text.decode().splitlines() if line.startswith("edge ")).split()[5:7]
     for batch in [f"move {x} {y} {int(x) + 1} {y}\n".encode(), b"no line\n", b"class 2 2\n"]:
         front.edit(batch)
-    lines = [json.loads(line) for line in (front.room / "log/batches.log").read_text().splitlines()]
+    lines = kept(front)
     tests.same("which edits are kept", [(line["version"], line["editor"]) for line in lines], [("1", "anna"), ("2", "anna")])
     batch = "".join(line["batch"] for line in lines)
     with Program(tests.executable, COLUMBUS) as again:
         tests.same("all batches as one", again.ask("POST", "/edit", batch.encode()).told, (200, b"published 1\n"))
         tests.same("the map after a restart", again.ask("GET", "/slice/0").text, program.ask("GET", "/slice/0").text)
         tests.holds("it is another map than the file's", again.ask("GET", "/slice/0").text != before_edits(tests))
+
+
+def kept(front):
+    """The batches that the front server has kept."""
+    return [json.loads(line) for line in (front.room / "log/batches.log").read_text().splitlines()]
 
 
 def before_edits(tests):
@@ -269,7 +275,7 @@ def gone_editor(tests, program, front):
     tests.same("another edit meanwhile", front.edit(OWN_BATCH).told, (503, b"busy, try again\n"))
     tests.holds("the edit of a client that has gone is published", until(lambda: front.version() == 2), front.version())
     tests.holds("its client finds it", b" 6 2 " in front.ask("GET", "/map/window/0/6/1/6/2").text)
-    tests.same("it is kept", until(lambda: len((front.room / "log/batches.log").read_text().splitlines()) == 2), True)
+    tests.same("it is kept", until(lambda: len(kept(front)) == 2), True)
 
 
 def gone_program(tests, program, front):
