@@ -27,9 +27,9 @@ def words_of(tool, description, ending=""):
                                    formatter_class=argparse.RawDescriptionHelpFormatter)
 
 
-def add_map_words(parser):
+def add_map_words(parser, needed=True):
     """The words that name a map, as the program has them: a listing alone, or a topology with its object and its rules."""
-    parser.add_argument("map", metavar="MAP", help="a listing, or a topology with OBJECT and RULES")
+    parser.add_argument("map", metavar="MAP", nargs=None if needed else "?", help="a listing, or a topology with OBJECT and RULES")
     parser.add_argument("object", metavar="OBJECT", nargs="?", help="an object of the topology, or - for the only one")
     parser.add_argument("rules", metavar="RULES", nargs="?", help="the rules file of the topology")
 

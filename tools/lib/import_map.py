@@ -11,7 +11,7 @@ from command import Failure, counted, rounded, with_progress, words_of, write_te
 from coverage import Nearby, cells_between, joined, noded, polygons_in, rings_of, shared, snapped
 from rules import SEA, SLIVER, rules_text
 from sources import crs_code, read_areas
-from topology import FARTHEST, MOST, MOST_BYTES
+from topology import FARTHEST, MOST, MOST_BYTES, coded
 
 OBJECT, WHOLE = "areas", "area"
 SHOWN = 10
@@ -224,10 +224,6 @@ def geometry_of(part, rings, identity, sorting, property_name):
     return {"type": "MultiPolygon" if several else "Polygon", "id": identity, "properties": properties, "arcs": rings if several else rings[0]}
 
 
-def delta_coded(arc):
-    return [list(arc[0])] + [[x - before[0], y - before[1]] for before, (x, y) in zip(arc, arc[1:])]
-
-
 def topology_text(geometries, arcs, grid, crs):
     document = {"type": "Topology"}
     if crs is not None:
@@ -235,7 +231,7 @@ def topology_text(geometries, arcs, grid, crs):
     if not grid.is_plain():
         document["transform"] = {"scale": [grid.cell, grid.cell], "translate": list(grid.origin)}
     document["objects"] = {OBJECT: {"type": "GeometryCollection", "geometries": geometries}}
-    document["arcs"] = [[list(point) for point in arc] if grid.is_plain() else delta_coded(arc) for arc in arcs]
+    document["arcs"] = [coded(arc, not grid.is_plain()) for arc in arcs]
     return json.dumps(document, ensure_ascii=False, separators=(",", ":")) + "\n"
 
 

@@ -17,6 +17,14 @@ def class_names(path):
         raise Failure(f"{path} is no rules file: its classes are not a list of names with weights") from error
 
 
+def property_of(path):
+    """The property that names the class of an area."""
+    name = load_json(path).get("property")
+    if not isinstance(name, str):
+        raise Failure(f"{path} is no rules file: it names no property")
+    return name
+
+
 def rules_text(property_name, counts):
     """Rules for these classes, to be edited: each suits itself best. The sea takes in what has no other neighbour; a sliver goes first, and nothing goes
     to it."""

@@ -34,6 +34,14 @@ def crs_named(name, option):
     return crs
 
 
+def turn_between(given, wanted):
+    """What turns points of one coordinate system into those of another."""
+    try:
+        return osr.CoordinateTransformation(given, wanted)
+    except RuntimeError as error:
+        raise Failure(f"{given.GetName()} cannot be turned into {wanted.GetName()}: {error}") from error
+
+
 def crs_code(crs):
     """The name of a coordinate system by its authority, or else its text."""
     if crs is None:
@@ -100,7 +108,7 @@ def read_areas(path, words):
         raise Failure(f"{path} does not say its coordinate system, so it cannot be projected: name it by --s_srs")
     if given is not None:
         given.SetAxisMappingStrategy(osr.OAMS_TRADITIONAL_GIS_ORDER)
-    turn = osr.CoordinateTransformation(given, wanted) if words.t_srs else None
+    turn = turn_between(given, wanted) if words.t_srs else None
     areas, without = [], 0
     for feature in with_progress(layer, f"reading {path}"):
         geometry = feature.GetGeometryRef()

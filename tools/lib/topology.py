@@ -121,6 +121,13 @@ def without_repeats(points):
     return [point for at, point in enumerate(points) if at == 0 or point != points[at - 1]]
 
 
+def coded(points, transformed):
+    """An arc as a topology has it: with a transform, each position as the difference from the one before."""
+    if not transformed:
+        return [list(point) for point in points]
+    return [list(points[0])] + [[x - before[0], y - before[1]] for before, (x, y) in zip(points, points[1:])]
+
+
 def crs_of(document):
     """The name of the coordinate system, in the member that GeoJSON of 2008 has for it."""
     crs = document.get("crs")
