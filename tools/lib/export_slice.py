@@ -9,7 +9,7 @@ from shapely.ops import transform
 
 import drawing
 from areas import base_faces, face_polygons
-from command import Failure, add_map_words, add_program, counted, read_text, words_of, write_text, written
+from command import OUTPUT, Failure, add_map_words, add_program, counted, read_text, words_of, write_text, written
 from coverage import indexed, starts_of
 from program import Program, read_slice
 from rules import class_names, property_of
@@ -96,7 +96,7 @@ class Exported:
         """The polygons of an area in the coordinates of the source, or turned into another system."""
         def placed(x, y):
             x, y = self.topology.place((x, y)) if self.topology else (x, y)
-            return turn.TransformPoint(x, y)[:2] if turn else (x, y)
+            return tuple(round(at, 9) for at in turn.TransformPoint(x, y)[:2]) if turn else (x, y)
 
         polygons = [orient(transform(lambda xs, ys: tuple(zip(*map(placed, xs, ys))), cell)) for cell in area.cells]
         return polygons[0] if len(polygons) == 1 else MultiPolygon(polygons)
@@ -160,7 +160,7 @@ def write_package(exported, path):
         layer.CommitTransaction()
         layer = package = None
     except RuntimeError as error:
-        raise Failure(f"{exported.path} cannot be written: {error}", 6) from error
+        raise Failure(f"{path.name} cannot be written: {error}", OUTPUT) from error
 
 
 def write(exported, chosen, path):

@@ -13,13 +13,13 @@ from rules import SEA, SLIVER, rules_text
 from sources import crs_code, read_areas
 from topology import FARTHEST, MOST, MOST_BYTES, coded
 
-OBJECT, WHOLE = "areas", "area"
+OBJECT = "areas"
 SHOWN = 10
 DESCRIPTION = """Makes a topology and its rules out of any file of areas that GDAL reads, such as a shapefile, GeoPackage or GeoJSON.
 Borders are moved to a grid and cut where they meet, so that neighbours share them; what had to be changed is told.
 Nothing is written where the areas overlap, unless --slivers says what to make of it."""
-ENDING = """The grid: project to a system of coordinates in metres in which areas are true (--t_srs), with steps of --cell metres;
-or keep the coordinates and take --quantize steps along the longer side. One of the two is needed.
+ENDING = """One of --t_srs, --quantize and --keep is needed. The first is best: coordinates in metres, in a system in which areas are
+true, since merging goes by areas and lengths. With steps of 1 metre the coordinates of the map are those of that system.
 
 status: 0 done, 2 words, 3 the file cannot be read, 4 refused, 6 a file cannot be written
 
@@ -107,9 +107,22 @@ def sound(shapes, areas, told):
     """The shapes, each made valid where it was not."""
     for shape, area in zip(shapes, areas):
         if not shape.is_valid:
-            told.append(f"not valid by itself, and mended: {area.title}: {explain_validity(shape)}")
+            told.append(f"not valid by itself, and mended: {area.title}: {explain_validity(area.shape)}")
             shape = make_valid(shape)
         yield shape
+
+
+def without_doubles(areas, shapes, told):
+    """The areas and shapes without those that are there already."""
+    known, kept = {}, []
+    for area, shape in zip(areas, shapes):
+        double = next((other for other, there in known.get(shape.bounds, []) if there.equals(shape)), None)
+        if double:
+            told.append(f"left out, the same area as {double.title}: {area.title}")
+        else:
+            known.setdefault(shape.bounds, []).append((area, shape))
+            kept.append((area, shape))
+    return [area for area, _ in kept], [shape for _, shape in kept]
 
 
 def frame(shapes):
@@ -142,7 +155,8 @@ class Sorting:
     def __init__(self, areas, shapes, grid, chosen):
         self.areas, self.shapes, self.grid, self.chosen = areas, shapes, grid, chosen
         self.nearby = Nearby(shapes)
-        self.parts, self.thin, self.overlaps, self.gaps = {}, 0, Counter(), []
+        self.parts, self.thin, self.overlaps = {}, 0, Counter()
+        self.gaps = {SLIVER: [], SEA: [], None: []}
         self.outside = frame(shapes).bounds if chosen.sea else None
 
     def part(self, claims, kind, cell):
@@ -172,12 +186,13 @@ class Sorting:
         return self.outside is not None and cell.bounds == self.outside
 
     def take_gap(self, cell):
-        if self.chosen.slivers and not self.is_outside(cell) and is_thin(cell, self.chosen.slivers / self.grid.cell):
-            self.part((), SLIVER, cell)
-        elif self.chosen.sea:
-            self.part((), SEA, cell)
-        if not self.is_outside(cell):
-            self.gaps.append(cell)
+        outside, kind = self.is_outside(cell), SEA if self.chosen.sea else None
+        if self.chosen.slivers and not outside and is_thin(cell, self.chosen.slivers / self.grid.cell):
+            kind = SLIVER
+        if kind:
+            self.part((), kind, cell)
+        if not outside:
+            self.gaps[kind].append(cell)
 
 
 def refuse_overlaps(sorting):
@@ -192,25 +207,23 @@ def refuse_overlaps(sorting):
 
 
 def areas_of(sorting):
-    """The areas of the map, in the order of the features: for each its part and its oriented polygons."""
+    """The areas of the map, in the order of the features, with slivers and the sea behind them: for each its part, its oriented polygons and its id."""
     parts = sorted(sorting.parts.values(), key=lambda part: (part.kind in (SEA, SLIVER), part.kind == SEA, part.claims))
     for part in with_progress(parts, "joining"):
         polygons = sorted(joined(part.cells), key=lambda polygon: polygon.bounds)
-        claims = [None] * len(polygons) if part.kind != SLIVER else polygons
         if part.kind == SLIVER:
-            for number, polygon in enumerate(claims, 1):
-                yield Part(claimed(polygon, sorting), SLIVER), [polygon], f"sliver {number}"
+            yield from slivers(part.cells, polygons, sorting)
         else:
-            yield part, polygons, SEA if part.kind == SEA else sorting.areas[part.claims[0]].id
+            yield part, polygons, sorting.areas[part.claims[0]].id if part.claims else SEA
 
 
-def claimed(polygon, sorting):
-    """The features that claim some of a sliver."""
-    claims = set()
-    for cell in sorting.parts[None, SLIVER].cells:
-        if polygon.intersects(cell.representative_point()):
-            claims.update(claims_on(cell, sorting.shapes, sorting.nearby))
-    return tuple(sorted(claims))
+def slivers(cells, polygons, sorting):
+    """Each sliver by itself, with the features that claim some of it."""
+    nearby = Nearby(cells)
+    for number, polygon in enumerate(polygons, 1):
+        inner = [cells[at] for at in nearby.numbers_at(polygon) if polygon.contains(cells[at].representative_point())]
+        claims = {claim for cell in inner for claim in claims_on(cell, sorting.shapes, sorting.nearby)}
+        yield Part(tuple(sorted(claims)), SLIVER), [polygon], f"sliver {number}"
 
 
 def geometry_of(part, rings, identity, sorting, property_name):
@@ -255,7 +268,7 @@ def main(words):
     told.append(f"a step of the grid is {grid.cell:.10g} {crs.GetLinearUnitsName() if crs and crs.IsProjected() else 'in units of the coordinates'}")
     if crs is not None and crs.IsGeographic():
         told.append("the coordinates are degrees, so lengths and areas are not true, and merging goes by them: --t_srs is better")
-    shapes = list(sound([grid.place(area.shape) for area in areas], areas, told))
+    areas, shapes = without_doubles(areas, list(sound([grid.place(area.shape) for area in areas], areas, told)), told)
     check_reach(shapes, grid)
     sorting = sorted_cells(areas, shapes, grid, chosen)
     refuse_overlaps(sorting)
@@ -298,16 +311,16 @@ def write_map(sorting, crs, told):
 
 def changes(sorting):
     """What is not as it was in the source, in plain words."""
-    kept = {number for part in sorting.parts.values() for number in part.claims}
+    kept = {number for part in sorting.parts.values() if part.kind != SLIVER for number in part.claims}
     lost = [area.title for number, area in enumerate(sorting.areas) if number not in kept]
     if lost:
-        yield f"dropped, smaller than the grid: {counted(len(lost), 'feature')}: {', '.join(lost[:SHOWN])}{' ..' if len(lost) > SHOWN else ''}"
+        yield f"dropped, since nothing is left of it on the grid: {counted(len(lost), 'feature')}: {', '.join(lost[:SHOWN])}{' ..' if len(lost) > SHOWN else ''}"
     if sorting.thin:
         yield f"closed: {counted(sorting.thin, 'gap or overlap', 'gaps or overlaps')} no wider than a step of the grid"
     if sorting.overlaps:
         yield f"made slivers of what {counted(len(sorting.overlaps), 'pair')} of areas both claim"
-    unit = sorting.grid.cell ** 2
-    if sorting.gaps:
-        largest = max(gap.area for gap in sorting.gaps) * unit
-        use = "left open, as parts of the outside" if not (sorting.chosen.sea or sorting.chosen.slivers) else "taken as --sea and --slivers say"
-        yield f"{counted(len(sorting.gaps), 'gap')} inside the map, the largest of {rounded(largest)} square units: {use}"
+    fates = {SLIVER: "made slivers", SEA: "made sea", None: "left open, as a part of the outside (--slivers WIDTH and --sea make areas of it)"}
+    for kind, gaps in sorting.gaps.items():
+        if gaps:
+            largest = rounded(max(gap.area for gap in gaps) * sorting.grid.cell ** 2)
+            yield f"{counted(len(gaps), 'gap')} inside the map, the largest of {largest} square units: {fates[kind]}"

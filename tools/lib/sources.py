@@ -11,7 +11,8 @@ ogr.UseExceptions()
 osr.UseExceptions()
 gdal.PushErrorHandler("CPLQuietErrorHandler")
 
-UNKNOWN = "unknown"
+# The class of an area whose property is empty, and of all where none is asked for.
+UNKNOWN, PLAIN = "unknown", "area"
 
 
 @dataclass
@@ -132,5 +133,5 @@ def area_of(feature, geometry, fields, turn, path):
         except RuntimeError as error:
             raise Failure(f"{path}: {title} cannot be projected by --t_srs: {error}") from error
     properties = {"name": name} if name else {}
-    kind = text_of(feature, fields["property"]) or UNKNOWN
+    kind = PLAIN if fields["property"] is None else text_of(feature, fields["property"]) or UNKNOWN
     return Area(identity, title, properties, kind, shapely.wkb.loads(bytes(geometry.ExportToWkb())))

@@ -22,8 +22,9 @@ class Feature:
         """How a person would call it: by its name where one is known, and by its id, or else by its place."""
         names = [self.properties.get(key) for key in ([name] if name else ["name", "NAME", "Name"])]
         known = next((str(it) for it in names if it not in (None, "")), None)
-        by_id = f"id {self.id}" if self.id is not None else f"geometry {self.number}"
-        return f"{known} ({by_id})" if known else by_id
+        if self.id is None:
+            return known or f"geometry {self.number}"
+        return f"{known} (id {self.id})" if known else f"id {self.id}"
 
 
 @dataclass
@@ -166,3 +167,23 @@ def read_faces(topology, chosen):
                 arc = index if index >= 0 else ~index
                 if len(topology.arcs[arc]) > 1 and face not in topology.users.setdefault(arc, []):
                     topology.users[arc].append(face)
+
+
+def read_listing(path):
+    """A listing, as far as its arcs and faces go; its faces have no ids but their numbers."""
+    topology = Topology(path, [], [], [], (1, 1), (0, 0), False, None)
+    for at, line in enumerate(read_text(path).splitlines(), 1):
+        mark, *rest = line.split(" ")
+        try:
+            if mark == "face":
+                number = int(rest[0])
+                topology.faces.append(Face(number, Feature(number, None, {"name": f"face {number}"}), []))
+            elif mark == "arc":
+                numbers = [int(word) for word in rest]
+                topology.users[len(topology.arcs)] = [topology.faces[side - 1] for side in numbers[:2] if side]
+                topology.arcs.append(list(zip(numbers[3::2], numbers[4::2])))
+        except (ValueError, IndexError) as error:
+            raise Failure(f"{path} is no listing: line {at} is {line[:60]!r}") from error
+    if not topology.arcs:
+        raise Failure(f"{path} is neither a topology nor a listing with arcs")
+    return topology
