@@ -2,6 +2,7 @@
 import json
 from collections import Counter
 from dataclasses import dataclass, field
+from itertools import combinations
 
 from shapely.affinity import affine_transform
 from shapely.geometry import box
@@ -66,7 +67,7 @@ def arguments(words):
     parser.add_argument("--name", metavar="P", help="a property that is kept as the name of an area")
     parser.add_argument("--sea", action="store_true", help="make the outside an area of the class 'sea', so that islands have a neighbour")
     parser.add_argument("--slivers", metavar="WIDTH", type=positive(float),
-                        help="make overlaps, and gaps at most so wide, areas of the class 'sliver', which are merged away first")
+                        help="make overlaps and gaps that are at most so wide areas of the class 'sliver', which are merged away first")
     chosen = parser.parse_args(words)
     if chosen.quantize and chosen.cell:
         parser.error("--cell and --quantize are two ways to say the same")
@@ -155,7 +156,7 @@ class Sorting:
     def __init__(self, areas, shapes, grid, chosen):
         self.areas, self.shapes, self.grid, self.chosen = areas, shapes, grid, chosen
         self.nearby = Nearby(shapes)
-        self.parts, self.thin, self.overlaps = {}, 0, Counter()
+        self.parts, self.thin, self.overlaps, self.mended = {}, 0, Counter(), set()
         self.gaps = {SLIVER: [], SEA: [], None: []}
         self.outside = frame(shapes).bounds if chosen.sea else None
 
@@ -178,16 +179,22 @@ class Sorting:
             self.part((owner,), self.areas[owner].kind, cell)
 
     def take_overlap(self, cell, claims):
-        for first, second in ((a, b) for at, a in enumerate(claims) for b in claims[at + 1:]):
-            self.overlaps[first, second] += cell.area
-        self.part(claims, SLIVER, cell)
+        pairs = combinations(claims, 2)
+        if self.is_sliver(cell):
+            self.mended.update(pairs)
+            return self.part(claims, SLIVER, cell)
+        for pair in pairs:
+            self.overlaps[pair] += cell.area
+
+    def is_sliver(self, cell):
+        return self.chosen.slivers is not None and is_thin(cell, self.chosen.slivers / self.grid.cell)
 
     def is_outside(self, cell):
         return self.outside is not None and cell.bounds == self.outside
 
     def take_gap(self, cell):
         outside, kind = self.is_outside(cell), SEA if self.chosen.sea else None
-        if self.chosen.slivers and not outside and is_thin(cell, self.chosen.slivers / self.grid.cell):
+        if not outside and self.is_sliver(cell):
             kind = SLIVER
         if kind:
             self.part((), kind, cell)
@@ -197,13 +204,14 @@ class Sorting:
 
 def refuse_overlaps(sorting):
     pairs = sorting.overlaps.most_common()
-    if not pairs or sorting.chosen.slivers:
+    if not pairs:
         return
     areas, unit = sorting.areas, sorting.grid.cell ** 2
+    how = "overlap by more than --slivers" if sorting.chosen.slivers else "overlap"
     lines = [f"  {rounded(area * unit)} square units: {areas[first].title} and {areas[second].title}" for (first, second), area in pairs[:SHOWN]]
     more = [f"  and {counted(len(pairs) - SHOWN, 'pair')} more"] if len(pairs) > SHOWN else []
-    raise Failure("\n".join([f"{counted(len(pairs), 'pair')} of areas overlap, so that it is open whose the ground is; mend them in the source, or let "
-                             "--slivers WIDTH make areas of them that are merged away:", *lines, *more]))
+    raise Failure("\n".join([f"{sorting.chosen.file}: {counted(len(pairs), 'pair')} of areas {how}, so that it is open whose the ground is; mend them in "
+                             "the source, or let --slivers WIDTH make areas of them that are merged away:", *lines, *more]))
 
 
 def areas_of(sorting):
@@ -317,8 +325,8 @@ def changes(sorting):
         yield f"dropped, since nothing is left of it on the grid: {counted(len(lost), 'feature')}: {', '.join(lost[:SHOWN])}{' ..' if len(lost) > SHOWN else ''}"
     if sorting.thin:
         yield f"closed: {counted(sorting.thin, 'gap or overlap', 'gaps or overlaps')} no wider than a step of the grid"
-    if sorting.overlaps:
-        yield f"made slivers of what {counted(len(sorting.overlaps), 'pair')} of areas both claim"
+    if sorting.mended:
+        yield f"made slivers of what {counted(len(sorting.mended), 'pair')} of areas both claim"
     fates = {SLIVER: "made slivers", SEA: "made sea", None: "left open, as a part of the outside (--slivers WIDTH and --sea make areas of it)"}
     for kind, gaps in sorting.gaps.items():
         if gaps:
