@@ -89,14 +89,14 @@ def surroundings(tests):
 def refusals(tests, examples):
     tests.write("points.geojson", POINTS)
     new = ("new.json", "new.rules.json")
-    africa, auckland = examples / "africa.geojson", examples / "auckland.shp"
+    africa, columbus = examples / "africa.geojson", examples / "columbus.json"
     cases = [
         ("a file that is not there", ["nowhere.shp", "--keep"], 3, ["nowhere.shp"]),
         ("a file that is none of areas", [tests.write("text.txt", "some text\n"), "--keep"], 3, ["text.txt"]),
         ("a point", ["points.geojson", "--keep"], 4, ["points.geojson: id 5 is no area but a POINT"]),
         ("a property that is not there", [africa, "--keep", "--property", "kind"], 4, ["no property 'kind' for --property; there is name_long, subregion"]),
         ("a layer that is not there", [africa, "--keep", "--layer", "asia"], 4, ["no layer 'asia'; there is africa"]),
-        ("no coordinate system", [auckland, "--t_srs", "EPSG:3035"], 4, ["auckland.shp does not say its coordinate system", "--s_srs"]),
+        ("no coordinate system", [columbus, "--t_srs", "EPSG:3035"], 4, ["columbus.json does not say its coordinate system", "--s_srs"]),
         ("an unknown coordinate system", [africa, "--t_srs", "EPSG:0"], 4, ["EPSG:0"]),
         ("degrees", [africa, "--t_srs", "EPSG:4326"], 4, ["counts in degrees"]),
         ("too fine a grid", [africa, "--keep", "--cell", "1e-9"], 4, ["268,435,456", "greater --cell"]),
@@ -113,9 +113,11 @@ def real_maps(tests, examples):
     words = [examples / "africa.geojson", "--t_srs", "EPSG:6933", "--cell", 1000, "--property", "subregion", "--name", "name_long", "--sea"]
     tests.done("Africa", tests.tool("import", *words, "africa.json", "africa.rules.json"), "read 51 features", "53 faces")
     tests.same("it is accepted", tests.program("check", "africa.json", "areas", "africa.rules.json").stdout[:12], "ok faces 53 ")
-    words = [examples / "auckland.shp", "--keep", "--cell", 0.01]
-    tests.refused("Auckland, with its overlaps", tests.tool("import", *words, "new.json", "new.rules.json"), 4, "14 pairs of areas overlap")
-    tests.done("Auckland", tests.tool("import", *words, "--slivers", 0.5, "auckland.json", "auckland.rules.json"), "read 167 features", "the same area as id 83: id 106")
-    tests.same("it is accepted", tests.program("check", "auckland.json", "areas", "auckland.rules.json").stdout[:13], "ok faces 189 ")
+    words = [examples / "asia.geojson", "--t_srs", "ESRI:102025", "--property", "subregion", "--name", "name_long", "--sea"]
+    tests.refused("Asia, with its overlaps", tests.tool("import", *words, "new.json", "new.rules.json"), 4, "40 pairs of areas overlap", "Indonesia (id 2) and Malaysia")
+    made = tests.tool("import", *words, "--slivers", 100000, "asia.json", "asia.rules.json")
+    tests.done("Asia", made, "read 47 features", "what 40 pairs of areas both claim", "42 gaps inside the map", "164 faces", "90 sliver")
+    tests.same("it is accepted", tests.program("check", "asia.json", "areas", "asia.rules.json").stdout[:13], "ok faces 164 ")
+    tests.done("its slivers go first", tests.tool("steps", "asia.json", "areas", "asia.rules.json"), "after step 90 no face of class sliver is left")
     words = [examples / "columbus.json", "--keep", "--cell", 0.0001, "--property", "kind"]
     tests.done("Columbus", tests.tool("import", *words, "columbus.json", "columbus.rules.json"), "read 49 features", "49 faces")
