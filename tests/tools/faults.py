@@ -85,13 +85,14 @@ def as_geojson(tests):
     tests.write("where.json", changed(("arcs", 1), CROSSING))
     line = tests.program("check", "where.json", "land", "where.rules.json").stdout
     tests.done("a fault as GeoJSON", tests.tool("where", "where.json", "land", "--geojson", "fault.geojson", stdin=line), "wrote fault.geojson: 3 shapes")
-    # The layer lives as long as its file is held.
+    # A layer lives as long as its file is held, and a geometry as long as its feature.
     source = ogr.Open(str(tests.folder / "fault.geojson"))
     layer = source.GetLayer(0)
     tests.same("its shapes", sorted(feature.GetGeometryRef().GetGeometryName() for feature in layer), ["LINESTRING", "LINESTRING", "POINT"])
     tests.same("its coordinate system", layer.GetSpatialRef().GetAuthorityCode(None), "3035")
     layer.SetAttributeFilter("what = 'they meet'")
-    point = next(iter(layer)).GetGeometryRef()
+    feature = layer.GetNextFeature()
+    point = feature.GetGeometryRef()
     tests.same("its point", (point.GetX(), round(point.GetY(), 9)), (105, round(200 + 10 / 3, 9)))
 
 

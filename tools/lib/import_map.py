@@ -210,8 +210,8 @@ def refuse_overlaps(sorting):
     how = "overlap by more than --slivers" if sorting.chosen.slivers else "overlap"
     lines = [f"  {rounded(area * unit)} square units: {areas[first].title} and {areas[second].title}" for (first, second), area in pairs[:SHOWN]]
     more = [f"  and {counted(len(pairs) - SHOWN, 'pair')} more"] if len(pairs) > SHOWN else []
-    raise Failure("\n".join([f"{sorting.chosen.file}: {counted(len(pairs), 'pair')} of areas {how}, so that it is open whose the ground is; mend them in "
-                             "the source, or let --slivers WIDTH make areas of them that are merged away:", *lines, *more]))
+    raise Failure("\n".join([f"{sorting.chosen.file}: {counted(len(pairs), 'pair')} of areas {how}, and it is open whose the ground is:", *lines, *more,
+                             "mend them in the source, or let --slivers WIDTH make areas of them that are merged away"]))
 
 
 def areas_of(sorting):
