@@ -1,0 +1,82 @@
+"""Tests tools/export: slices of real maps, as GDAL and Shapely read them, and as the program reads them again."""
+import math
+
+# The map that imports.py has made, with the ids of its areas.
+MAPS = [("africa", "areas", 51), ("asia", "areas", 47), ("columbus", "areas", 49)]
+PARTS = 4
+
+
+def test(tests, examples):
+    for name, chosen, ids in MAPS:
+        words = [f"{name}.json", chosen, f"{name}.rules.json"]
+        last = int(tests.program("slice", words[0], 4294967295, *words[1:]).stdout.split()[-1])
+        for step in [last * part // PARTS for part in range(PARTS + 1)]:
+            tests.write("slice", tests.program("slice", words[0], step, *words[1:]).stdout)
+            one_slice(tests, f"{name} at step {step}", words, ids)
+    without_a_map(tests, examples)
+    refusals(tests, examples)
+
+
+def features(path):
+    from osgeo import ogr
+    import shapely.wkb
+    source = ogr.Open(str(path))
+    layer = source.GetLayer(0)
+    crs = layer.GetSpatialRef()
+    return crs and crs.Clone(), [({**feature.items()}, shapely.wkb.loads(bytes(feature.GetGeometryRef().ExportToWkb()))) for feature in layer]
+
+
+def one_slice(tests, name, words, ids):
+    """Tests the files that are made of a slice."""
+    faces = sum(line.startswith("face ") for line in (tests.folder / "slice").read_text().splitlines())
+    for kind in ("topojson", "geojson", "gpkg"):
+        tests.done(f"{name} as {kind}", tests.tool("export", "slice", *words, "--to", kind, f"out.{kind}"), f"{faces} face")
+    checked = tests.program("check", "out.topojson", "areas", words[2]).stdout
+    tests.same(f"{name} is accepted again", checked.split()[:3], ["ok", "faces", str(faces)])
+    crs, package = features(tests.folder / "out.gpkg")
+    tests.same(f"{name} has all faces", len(package), faces)
+    tests.tell(f"{name} is valid", [f"face {it['face']}" for it, shape in package if not shape.is_valid])
+    tests.tell(f"{name} has true areas", [f"face {it['face']}" for it, shape in package if not math.isclose(it["area"], shape.area, rel_tol=1e-9)])
+    parts = [part for it, _ in package for part in it["sources"].split(",") if part not in ("", "sea")]
+    tests.same(f"{name} is made of all areas", len(set(parts)), ids)
+    named = tests.read(words[0]).get("crs") is not None
+    tests.same(f"{name} has the coordinate system of its map", crs is not None, named)
+    longitudes(tests, name, named)
+
+
+def longitudes(tests, name, named):
+    _, collection = features(tests.folder / "out.geojson")
+    tests.tell(f"{name} is valid as GeoJSON", [f"face {it['face']}" for it, shape in collection if not shape.is_valid])
+    if named:
+        tests.tell(f"{name} is in degrees as GeoJSON", [f"{shape.bounds}" for _, shape in collection if max(map(abs, shape.bounds)) > 180])
+
+
+def without_a_map(tests, examples):
+    tests.write("slice", tests.program("slice", examples / "two_squares.tgap", 1).stdout)
+    tests.done("a slice without its map", tests.tool("export", "slice", "--to", "geojson", "out.geojson"), "1 face")
+    feature = tests.read("out.geojson")["features"][0]
+    tests.same("its properties", feature["properties"], {"face": 3, "class": 0, "area": 200, "sources": []})
+    tests.same("its corners", sorted(map(tuple, feature["geometry"]["coordinates"][0][1:])), [(0, 0), (0, 10), (10, 10), (20, 0), (20, 10)])
+    tests.done("a slice with its listing", tests.tool("export", "slice", examples / "two_squares.tgap", "--to", "geojson", "out.geojson"), "1 face")
+    tests.same("its sources", tests.read("out.geojson")["features"][0]["properties"]["sources"], [1, 2])
+    for kind, start in (("svg", b"<svg "), ("png", b"\x89PNG")):
+        tests.done(f"a picture as {kind}", tests.tool("export", "slice", "--to", kind, f"out.{kind}", "--width", 100))
+        tests.same(f"it is {kind}", (tests.folder / f"out.{kind}").read_bytes()[:len(start)], start)
+    from osgeo import gdal
+    picture = gdal.Open(str(tests.folder / "out.png"))
+    tests.same("its size", (picture.RasterXSize, picture.RasterYSize, picture.RasterCount), (100, 50, 3))
+
+
+def refusals(tests, examples):
+    tests.write("cut", (tests.folder / "slice").read_text()[:-4])
+    tests.write("other", "faces 1\nsquare 2\n")
+    squares, to = examples / "two_squares.tgap", ["--to", "gpkg", "new.gpkg"]
+    cases = [("a slice that is cut off", ["cut", *to], 4, "cut is no whole slice"),
+             ("a text that is no slice", ["other", *to], 4, "other is no slice: line 2"),
+             ("a slice of another map", ["slice", examples / "four_squares.tgap", *to], 4, "is not the slice of"),
+             ("a slice that is not there", ["nowhere", *to], 3, "nowhere"),
+             ("an unknown format", ["slice", squares, "--to", "dxf", "new.dxf"], 2, "'dxf' is none of"),
+             ("an unknown coordinate system", ["slice", squares, "--crs", "EPSG:0", *to], 4, "EPSG:0"),
+             ("a folder that is not there", ["slice", squares, "--to", "svg", "nowhere/new.svg"], 6, "nowhere/new.svg")]
+    for name, words, status, told in cases:
+        tests.refused(f"export: {name}", tests.tool("export", *words), status, told)

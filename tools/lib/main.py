@@ -1,0 +1,24 @@
+"""Runs one of the tools: the first word is its name, the others are its own."""
+import importlib
+import os
+import sys
+
+from command import Failure
+
+MODULES = {"import": "import_map", "where": "tell_fault", "export": "export_slice", "steps": "list_steps", "loss": "measure_loss"}
+
+
+def main():
+    tool, words = sys.argv[1], sys.argv[2:]
+    try:
+        importlib.import_module(MODULES[tool]).main(words)
+        sys.stdout.flush()
+    except Failure as failure:
+        print(f"{tool}: {failure}", file=sys.stderr)
+        sys.exit(failure.status)
+    except BrokenPipeError:
+        # Who reads the answer has seen enough; what is still in the buffer has nowhere to go.
+        os.dup2(os.open(os.devnull, os.O_WRONLY), sys.stdout.fileno())
+
+
+main()

@@ -1,0 +1,106 @@
+"""tools/loss: how much of a map lies in another face than it should, step by step and for several ratios."""
+import json
+import pathlib
+import tempfile
+
+from shapely.ops import unary_union
+
+from areas import base_faces, face_polygons
+from command import Failure, add_map_words, add_program, with_progress, words_of, write_text
+from program import Program
+from topology import load_json
+
+DESCRIPTION = """Tells how much of a map lies, after some steps, in another face than the union of the faces of which that face is made.
+The cause is the vertex removal: each triangle that it cuts off is small beside the face that gave way, but nothing
+bounds their sum. A greater ratio cuts off less, and keeps more points."""
+ENDING = """status: 0 done, 2 words, 3 a file cannot be read, 4 the map is refused, 5 there is no such step
+
+example: tools/loss examples/columbus.json areas examples/columbus.rules.json --steps 16,32,48 --ratio 4,64,1024"""
+
+
+def numbers(least, most):
+    def read(text):
+        values = [int(word) for word in text.split(",")]
+        if not all(least <= value <= most for value in values):
+            raise ValueError(text)
+        return values
+    read.__name__ = "list of numbers"
+    return read
+
+
+def arguments(words):
+    parser = words_of("loss", DESCRIPTION, ENDING)
+    add_map_words(parser)
+    add_program(parser)
+    parser.add_argument("--steps", type=numbers(0, 4_294_967_294), metavar="K,K..", help="the steps (those that leave a half, a quarter .. of the faces)")
+    parser.add_argument("--ratio", type=numbers(0, 65_535), metavar="R,R..", help="measure with these ratios in place of that of RULES")
+    chosen = parser.parse_args(words)
+    if chosen.ratio and not chosen.rules:
+        parser.error("--ratio wants a topology with its RULES")
+    return chosen
+
+
+def halving(last, faces):
+    """The steps that leave a half of the faces, a quarter, and so on, and the last one."""
+    steps, left = {last}, faces // 2
+    while left > 1:
+        steps.add(min(faces - left, last))
+        left //= 2
+    return sorted(steps)
+
+
+def moved_share(slice_, unions, total):
+    """Which part of the whole lies in a face that is not its own, the outside counted as one."""
+    polygons = {face: unary_union(parts) for face, parts in face_polygons(slice_).items()}
+    away = sum(unions[face].difference(polygons[face]).area for face in polygons)
+    gained = unary_union(list(polygons.values())).difference(unary_union(list(unions.values()))).area
+    return (away + gained) / total
+
+
+def measured(program, steps_asked, label):
+    last = program.last_step()
+    first, history = program.slice(0), program.steps(last)
+    base = {face: unary_union(parts) for face, parts in face_polygons(first).items()}
+    total = sum(shape.area for shape in base.values())
+    if not total:
+        raise Failure("the map has no face")
+    shares = {}
+    for step in with_progress(steps_asked or halving(last, len(first.faces)), label, 10):
+        slice_ = program.slice(step)
+        made = base_faces(history[:step], first.faces)
+        unions = {face: unary_union([base[part] for part in parts]) for face, parts in made.items()}
+        shares[step] = (len(slice_.faces), moved_share(slice_, unions, total), slice_.points())
+    return shares
+
+
+def with_ratio(chosen, ratio, folder):
+    """The words of the map, with rules of another ratio."""
+    rules = load_json(chosen.rules)
+    if not isinstance(rules, dict):
+        raise Failure(f"{chosen.rules} is no rules file")
+    path = pathlib.Path(folder) / f"ratio_{ratio}.json"
+    write_text(path, json.dumps({**rules, "ratio": ratio}))
+    changed = type(chosen)(**vars(chosen))
+    changed.rules = str(path)
+    return Program(chosen.program, changed)
+
+
+def table(columns):
+    """A row for each step; for each ratio the share in another face, and the points that are left."""
+    print(f"{'step':>8} {'faces':>8}" + "".join(f"   {name:>12} {'points':>8}" for name in columns))
+    first = next(iter(columns.values()))
+    for step, (faces, _, _) in first.items():
+        cells = "".join(f"   {100 * shares[step][1]:11.2f}% {shares[step][2]:8}" for shares in columns.values())
+        print(f"{step:8} {faces:8}{cells}")
+
+
+def main(words):
+    chosen = arguments(words)
+    columns = {}
+    with tempfile.TemporaryDirectory() as folder:
+        for ratio in chosen.ratio or [None]:
+            program = Program(chosen.program, chosen) if ratio is None else with_ratio(chosen, ratio, folder)
+            name = "moved" if ratio is None else f"ratio {ratio}"
+            columns[name] = measured(program, chosen.steps, name)
+    print("area in another face, of the whole map; points of all edges")
+    table(columns)

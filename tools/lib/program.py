@@ -1,0 +1,115 @@
+"""Asks the program: slices and packets of a map, as texts that are read."""
+import re
+import subprocess
+from dataclasses import dataclass
+
+from command import FILE, STEP, Failure
+
+BEYOND = 4_294_967_295
+
+
+@dataclass
+class Slice:
+    """The map after some steps: the class of each face, and the edges as key, left face, right face and points."""
+    step: int
+    faces: dict
+    edges: list
+
+    def points(self):
+        return sum(len(points) for _, _, _, points in self.edges)
+
+
+@dataclass
+class Step:
+    """A merger: its number, the faces that it joins, their classes, the face that it makes, and how many points it takes away."""
+    number: int
+    loser: int
+    winner: int
+    loser_class: int
+    winner_class: int
+    made: int
+    points: int
+
+
+def pairs(numbers):
+    return list(zip(numbers[::2], numbers[1::2]))
+
+
+def read_slice(text, path):
+    """A slice text. What is none is refused by its line."""
+    step, faces, edges = None, {}, []
+    lines = text.splitlines()
+    for at, line in enumerate(lines, 1):
+        mark, *rest = line.split(" ")
+        try:
+            numbers = [int(word) for word in rest]
+            if mark == "slice":
+                step, = numbers
+            elif mark == "face":
+                faces[numbers[0]] = numbers[1]
+            elif mark == "edge":
+                edges.append((*numbers[:3], pairs(numbers[4:])))
+            elif mark not in ("faces", "edges", "end"):
+                raise ValueError(line)
+        except (ValueError, IndexError) as error:
+            raise Failure(f"{path} is no slice: line {at} is {line[:60]!r}") from error
+    if step is None or not lines or lines[-1] != "end":
+        raise Failure(f"{path} is no whole slice: it has no line {'end' if step is not None else 'slice'}")
+    return Slice(step, faces, edges)
+
+
+def read_steps(text):
+    """The steps that a packet undoes, the last one first."""
+    steps = []
+    for line in text.splitlines():
+        mark, *rest = line.split(" ")
+        numbers = [int(word) for word in rest]
+        if mark == "step":
+            number, loser, loser_class, winner, winner_class, made = numbers[:6]
+            steps.append(Step(number, loser, winner, loser_class, winner_class, made, 0))
+        elif mark == "mend":
+            # Where an edge is cut, both pieces have the point.
+            steps[-1].points += numbers[1] + numbers[2] - 1
+        elif mark == "edge":
+            steps[-1].points += numbers[3]
+    return steps
+
+
+class Program:
+    """The program, with the words that name a map."""
+
+    def __init__(self, executable, words):
+        self.executable, self.map = executable, [words.map] + ([words.object, words.rules] if words.object else [])
+        if words.object and not words.rules:
+            raise Failure("a topology wants its OBJECT and its RULES, a listing neither", 2)
+
+    def run(self, command, *numbers):
+        words = [self.executable, command, self.map[0], *map(str, numbers), *self.map[1:]]
+        try:
+            return subprocess.run(words, stdin=subprocess.DEVNULL, capture_output=True, text=True)
+        except OSError as error:
+            raise Failure(f"the program {self.executable} cannot be run: {error.strerror}", FILE) from error
+
+    def asked(self, command, *numbers):
+        done = self.run(command, *numbers)
+        if done.returncode == 0:
+            return done.stdout
+        told = (done.stdout.strip() or done.stderr.strip()).splitlines()
+        advice = f"; tools/where {' '.join(self.map[:2])} tells where" if done.returncode == 4 else ""
+        raise Failure(f"the program, asked to {command} {self.map[0]}, ends with status {done.returncode}: {told[0] if told else 'no word'}{advice}",
+                      done.returncode if done.returncode in (FILE, 4, STEP) else 1)
+
+    def last_step(self):
+        done = self.run("slice", BEYOND)
+        found = re.fullmatch(r"step too high (\d+)\n", done.stdout)
+        if done.returncode == STEP and found:
+            return int(found[1])
+        self.asked("slice", BEYOND)
+        raise Failure("the program gave a slice where no step can be", 1)
+
+    def slice(self, step):
+        return read_slice(self.asked("slice", step), f"slice {step}")
+
+    def steps(self, last):
+        """The steps of the map up to this one, the first one first."""
+        return read_steps(self.asked("packet", last, 0))[::-1]
