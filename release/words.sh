@@ -34,6 +34,14 @@ usage: ./tgap COMMAND WORD...
       time, and at most VERSIONS versions of the map
       ./tgap serve examples/two_squares.tgap 8080 4 16
 
+Tools beside the program, in Python over GDAL and Shapely; each has its own --help:
+
+  import       makes a map and its rules of any file of areas that GDAL reads
+  where        tells a refusal by the areas and places of the data
+  export       writes a slice as TopoJSON, GeoJSON, GeoPackage or a picture
+  steps        lists the steps of a map, and the one that suits a scale
+  loss         measures how far the areas of a slice differ from those of the map
+
 MAP is the file of a listing. With OBJECT and RULES it is the file of a topology
 (TopoJSON), OBJECT the name of one of its objects, or - for the only one, and RULES
 the file of its rules.

@@ -8,6 +8,7 @@ from lib import SECONDS, free_port
 
 TWO, COLUMBUS, RULES = "examples/two_squares.tgap", "examples/columbus.json", "examples/columbus.rules.json"
 COMMANDS = ["borders", "check", "slice", "packet", "replay", "serve"]
+TOOLS = ["import", "where", "export", "steps", "loss"]
 
 # The words of a command line, its status, and what the sentence has to name.
 SENTENCES = [
@@ -57,6 +58,8 @@ def help_is_given(tests):
     help_text = texts[0][1].decode()
     for command in COMMANDS:
         tests.same(f"an example of {command}", f"\n      ./tgap {command} examples/" in help_text or f"\n      ./tgap {command} coarse" in help_text, True)
+    for tool in TOOLS:
+        tests.same(f"the help names {tool}", f"\n  {tool} " in help_text, True)
     tests.same("lines of the help that are too wide", [line for line in help_text.splitlines() if len(line) > 84], [])
 
 
