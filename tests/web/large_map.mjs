@@ -106,7 +106,8 @@ async function identifiesInAWindow({ tab, tally, served }) {
   const [face, told] = ["Face", "Area"].map((name) => Number(words[words.indexOf(name) + 1].replaceAll(",", "")));
   const meant = areaOf(face, [...(await served.slice(step)).edges.values()]);
   tally.holds(`in a window a click tells the area of the whole face: ${told} and ${meant}`, area !== null && Math.abs(told / meant - 1) < 1e-5);
-  await tab.ask("Input.dispatchKeyEvent", { type: "keyDown", key: "Escape", code: "Escape", windowsVirtualKeyCode: 27 });
+  await tab.value("document.querySelector('.leaflet-popup-close-button').click()");
+  tally.holds("what a click told can be closed", await tab.until("document.querySelector('.leaflet-popup') === null"));
 }
 
 /** A vertex that one sees in a window, and that the slice at hand does not have. */
@@ -124,7 +125,8 @@ async function movesAVertexOfAWindow({ tab, tally, served }) {
   if (vertex === null) return;
   const at = await placeOf(tab, vertex);
   await tab.drag(at, [at[0] + 6, at[1]]);
-  tally.holds("a vertex of a window can be moved", await tab.until(`document.getElementById('version').textContent === 'Version 1' && ${IDLE}`));
+  const isMoved = await tab.until(`document.getElementById('version').textContent === 'Version 1' && ${IDLE}`);
+  tally.holds(`a vertex of a window can be moved: ${await tab.value("document.getElementById('notices').textContent")}`, isMoved);
   const points = [...(await served.slice(0)).edges.values()].flatMap((it) => it.points.map(String));
   tally.holds("and is elsewhere then", !points.includes(String(vertex)));
   await tab.value("document.getElementById('moving').click()");
