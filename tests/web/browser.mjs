@@ -9,6 +9,8 @@ import { firstMatch } from "./lib.mjs";
 
 const SECONDS = 30;
 const MILLISECONDS = 50;
+const REMOVALS = 10;
+const SECONDS_BETWEEN_REMOVALS = 0.5;
 
 export class Browser {
   static async start(executable, size) {
@@ -29,11 +31,22 @@ export class Browser {
     this.child.kill();
   }
 
+  /** Takes the browser's folder away, in which its last processes may still write for a moment. */
+  async #clear() {
+    for (let tries = 0; tries < REMOVALS; tries++) {
+      try {
+        return rmSync(this.room, { recursive: true, force: true });
+      } catch {
+        await pause(SECONDS_BETWEEN_REMOVALS * 1000);
+      }
+    }
+  }
+
   async stop() {
     const ended = new Promise((resolve) => this.child.once("exit", resolve));
     this.kill();
     await ended;
-    rmSync(this.room, { recursive: true, force: true, maxRetries: 10, retryDelay: 200 });
+    await this.#clear();
   }
 }
 
