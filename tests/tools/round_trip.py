@@ -45,7 +45,8 @@ def one_slice(tests, name, words, ids):
     parts = [part for it, _ in package for part in it["sources"].split(",") if part not in ("", "sea")]
     tests.same(f"{name} is made of all areas", len(set(parts)), ids)
     named = tests.read(words[0]).get("crs") is not None
-    tests.same(f"{name} has the coordinate system of its map", crs is not None, named)
+    # A GeoPackage has a name for a coordinate system that is not known, and GDAL gives it.
+    tests.same(f"{name} has the coordinate system of its map", crs is not None and not crs.GetName().startswith("Undefined"), named)
     longitudes(tests, name, named)
 
 
