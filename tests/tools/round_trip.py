@@ -29,8 +29,13 @@ def features(path):
 def one_slice(tests, name, words, ids):
     """Tests the files that are made of a slice."""
     faces = sum(line.startswith("face ") for line in (tests.folder / "slice").read_text().splitlines())
-    for kind in ("topojson", "geojson", "gpkg"):
+    for kind in ("topojson", "gpkg"):
         tests.done(f"{name} as {kind}", tests.tool("export", "slice", *words, "--to", kind, f"out.{kind}"), f"{faces} face")
+    # The sea of Asia reaches beyond the meridian of 180 degrees.
+    without = [] if words[0] == "columbus.json" else ["--without", "sea"]
+    tests.done(f"{name} as geojson", tests.tool("export", "slice", *words, "--to", "geojson", "out.geojson", *without), f"of slice {name.split()[-1]}")
+    if name == "asia at step 0":
+        tests.refused("the sea in degrees", tests.tool("export", "slice", *words, "--to", "geojson", "new.geojson"), 4, "face 164, of class sea", "--without")
     checked = tests.program("check", "out.topojson", "areas", words[2]).stdout
     tests.same(f"{name} is accepted again", checked.split()[:3], ["ok", "faces", str(faces)])
     crs, package = features(tests.folder / "out.gpkg")
@@ -40,7 +45,8 @@ def one_slice(tests, name, words, ids):
     parts = [part for it, _ in package for part in it["sources"].split(",") if part not in ("", "sea")]
     tests.same(f"{name} is made of all areas", len(set(parts)), ids)
     named = tests.read(words[0]).get("crs") is not None
-    tests.same(f"{name} has the coordinate system of its map", crs is not None, named)
+    # A GeoPackage has a name for a coordinate system that is not known, and GDAL gives it.
+    tests.same(f"{name} has the coordinate system of its map", crs is not None and not crs.GetName().startswith("Undefined"), named)
     longitudes(tests, name, named)
 
 
@@ -75,6 +81,7 @@ def refusals(tests, examples):
              ("a text that is no slice", ["other", *to], 4, "other is no slice: line 2"),
              ("a slice of another map", ["slice", examples / "four_squares.tgap", *to], 4, "is not the slice of"),
              ("a slice that is not there", ["nowhere", *to], 3, "nowhere"),
+             ("a class that there is not", ["slice", "--without", "sea", *to], 4, "no class 'sea'"),
              ("an unknown format", ["slice", squares, "--to", "dxf", "new.dxf"], 2, "'dxf' is none of"),
              ("an unknown coordinate system", ["slice", squares, "--crs", "EPSG:0", *to], 4, "EPSG:0"),
              ("a folder that is not there", ["slice", squares, "--to", "svg", "nowhere/new.svg"], 6, "nowhere/new.svg")]

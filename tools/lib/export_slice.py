@@ -48,6 +48,7 @@ def arguments(words):
     add_program(parser)
     parser.add_argument("--to", nargs=2, metavar=("FORMAT", "OUT"), required=True, help=f"one of {', '.join(FORMATS)}, and the file")
     parser.add_argument("--crs", metavar="CRS", help="the coordinate system, where the topology does not say it")
+    parser.add_argument("--without", metavar="CLASS", help="leave the faces of this class out, such as the sea")
     parser.add_argument("--width", metavar="PIXELS", type=int, default=800, help="the width of a picture (800)")
     chosen = parser.parse_args(words)
     chosen.format, chosen.out = chosen.to
@@ -70,7 +71,9 @@ class Exported:
         name = chosen.crs or (self.topology.crs if self.topology else None)
         self.crs_name = name
         self.crs = crs_named(name, "the coordinate system") if name else None
-        self.areas = list(self.areas_of(self.sources(chosen, text)))
+        if chosen.without is not None and chosen.without not in (self.names or []):
+            raise Failure(f"the rules have no class {chosen.without!r} to leave out")
+        self.areas = [area for area in self.areas_of(self.sources(chosen, text)) if chosen.without is None or area.kind != chosen.without]
 
     def sources(self, chosen, text):
         """For each face the ids of what it is made of; none are known without a map."""
@@ -135,8 +138,13 @@ def topojson_text(exported):
 
 def geojson_text(exported):
     turn = turn_between(exported.crs, crs_named("OGC:CRS84", "the coordinate system")) if exported.crs else None
-    features = [{"type": "Feature", "id": area.face, "properties": exported.properties(area), "geometry": mapping(exported.shape(area, turn))}
-                for area in exported.areas]
+    shapes = [exported.shape(area, turn) for area in exported.areas]
+    for area, shape in zip(exported.areas, shapes):
+        if turn and not shape.is_valid:
+            raise Failure(f"face {area.face}, of class {area.kind}, is no sound area in longitude and latitude, as where it crosses the meridian of 180 "
+                          "degrees: leave its class out by --without, or take --to gpkg")
+    features = [{"type": "Feature", "id": area.face, "properties": exported.properties(area), "geometry": mapping(shape)}
+                for area, shape in zip(exported.areas, shapes)]
     return json.dumps({"type": "FeatureCollection", "features": features}, ensure_ascii=False) + "\n"
 
 
