@@ -1,5 +1,5 @@
-//! Tests of `refine_packets` over its public calls: packets of two squares side by side and of four squares round one
-//! node, beside numbers that are worked out by hand.
+//! A test of `refine_packets` over its public call: a packet of four squares round one node, beside numbers that are worked
+//! out by hand. Other packets, and those that there are not, are tested as texts of the command.
 #![tactic(auto)]
 
 #[cfg(test)]

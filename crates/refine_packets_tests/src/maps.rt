@@ -1,4 +1,4 @@
-//! Two squares side by side, and four squares round one node, each square 10 wide and 10 high.
+//! Four squares round one node, each 10 wide and 10 high.
 
 use base_check::check;
 use std::alloc::Global;
@@ -8,12 +8,6 @@ use tgap_model::{Base, BaseArc, Checked, List, Memory, Or, Point, Rules, Transfo
 
 /// An arc: its left face, its right face, and the coordinates of its points.
 pub type Row = (u32, u32, &'static [(i64, i64)]);
-
-pub const TWO_SQUARES: [Row; 3] = [
-    (1, 0, &[(10, 10), (0, 10), (0, 0), (10, 0)]),
-    (2, 0, &[(10, 0), (20, 0), (20, 10), (10, 10)]),
-    (1, 2, &[(10, 0), (10, 10)]),
-];
 
 pub const FOUR_SQUARES: [Row; 8] = [
     (1, 0, &[(0, 10), (0, 0), (10, 0)]),

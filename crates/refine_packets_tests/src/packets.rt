@@ -1,6 +1,6 @@
-//! Packets beside their numbers, and those that there are not.
+//! A packet of three steps beside its numbers.
 
-use crate::maps::{FOUR_SQUARES, Row, TWO_SQUARES, built_map};
+use crate::maps::{FOUR_SQUARES, built_map};
 use crate::numbers::numbers_of;
 use refine_packets::{PacketFail, packet};
 use std::alloc::Global;
@@ -8,46 +8,23 @@ use std::test::Fail;
 use std::thread::Threads;
 use tgap_model::Packet;
 
-/// A map: its ratio, the classes of its faces, and its arcs.
-#[derive(Clone, Copy)]
-struct Map(u32, &'static [u32], &'static [Row]);
-
-const TWO: Map = Map(16, &[0, 0], &TWO_SQUARES);
-
-const FOUR: Map = Map(0, &[0, 0, 0, 0], &FOUR_SQUARES);
-
-/// The packet of a map from one step to another.
+/// The packet of the four squares from one step to another.
 fn packet_of<R: Threads + Sync>(
     rt: &R,
     alloc: Global,
-    map: Map,
     from: u32,
     to: u32,
 ) -> Result<Packet, PacketFail> {
-    match built_map(rt, alloc, map.0, map.1, map.2) {
+    match built_map(rt, alloc, 0, &[0, 0, 0, 0], &FOUR_SQUARES) {
         Ok(Some(built)) => packet(alloc, &built, from, to),
         _ => Err(PacketFail::Memory),
     }
 }
 
 #[test]
-fn a_vertex_comes_back(rt: HostRuntime) -> Result<(), Fail> {
-    let alloc = rt.alloc();
-    let whole = packet_of(&rt, alloc, TWO, 1, 0).ok().ok_or("no packet")?;
-    let expected = [
-        1, 0, // from, to
-        1, 1, 0, 2, 0, 3, 1, 1, // the step
-        0, 1, 2, 3, 10, 0, 0, 3, 1, 0, 1, 6, 2, 0, // a mend
-        2, 1, 2, 2, 10, 0, 10, 10, // the edge that ended
-    ];
-    assert_eq!(rt; numbers_of(alloc, &whole)?.as_slice(), expected.as_slice());
-    Ok(())
-}
-
-#[test]
 fn three_steps(rt: HostRuntime) -> Result<(), Fail> {
     let alloc = rt.alloc();
-    let whole = packet_of(&rt, alloc, FOUR, 3, 0).ok().ok_or("no packet")?;
+    let whole = packet_of(&rt, alloc, 3, 0).ok().ok_or("no packet")?;
     let expected = [
         3, 0, // from, to
         3, 5, 0, 6, 0, 7, 1, 1, // step 3
@@ -63,19 +40,5 @@ fn three_steps(rt: HostRuntime) -> Result<(), Fail> {
         4, 1, 2, 2, 10, 0, 10, 10, // the edge that ended
     ];
     assert_eq!(rt; numbers_of(alloc, &whole)?.as_slice(), expected.as_slice());
-    Ok(())
-}
-
-#[test]
-fn refusals(rt: HostRuntime) -> Result<(), Fail> {
-    let alloc = rt.alloc();
-    for (from, to, expected) in [
-        (0, 1, PacketFail::NotCoarser),
-        (2, 3, PacketFail::NotCoarser),
-        (2, 0, PacketFail::StepTooHigh { steps: 1 }),
-    ] {
-        let refused = packet_of(&rt, alloc, TWO, from, to).err();
-        assert_eq!(rt; refused, Some(expected));
-    }
     Ok(())
 }

@@ -1,8 +1,9 @@
-//! Tests of `slice_read` over its public calls: the slices and a window of two squares side by side.
+//! Tests of `slice_read` and of the forest below it over their public calls: the edges of two squares side by side before any
+//! step, and a window. Slices are tested as texts of the command.
 #![tactic(auto)]
 
 #[cfg(test)]
-mod slices;
+mod forests;
 #[cfg(test)]
 mod squares;
 #[cfg(test)]

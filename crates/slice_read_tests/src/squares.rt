@@ -1,7 +1,7 @@
 //! Two squares side by side, 10 wide and 10 high, and what is built of them.
 
 use base_check::check;
-use slice_read::{ReadFail, slice_at, window_at};
+use slice_read::{ReadFail, window_at};
 use std::alloc::Global;
 use std::thread::Threads;
 use tgap_build::{Built, build};
@@ -9,11 +9,11 @@ use tgap_model::{
     Base, BaseArc, Checked, Edge, List, Memory, Or, Point, Rules, Slice, Transform, Window,
 };
 
-pub const LEFT: [(i64, i64); 4] = [(10, 10), (0, 10), (0, 0), (10, 0)];
+const LEFT: [(i64, i64); 4] = [(10, 10), (0, 10), (0, 0), (10, 0)];
 
 pub const RIGHT: [(i64, i64); 4] = [(10, 0), (20, 0), (20, 10), (10, 10)];
 
-pub const BETWEEN: [(i64, i64); 2] = [(10, 0), (10, 10)];
+const BETWEEN: [(i64, i64); 2] = [(10, 0), (10, 10)];
 
 /// The points with these coordinates.
 fn points_of(alloc: Global, coordinates: &[(i64, i64)]) -> Result<List<Point>, Memory> {
@@ -79,26 +79,6 @@ fn built_squares<R: Threads + Sync>(rt: &R, alloc: Global) -> Result<Option<Buil
         return Ok(None);
     };
     Ok(Some(build(rt, alloc, checked)?))
-}
-
-/// How many steps they have.
-pub fn steps_of_squares<R: Threads + Sync>(rt: &R, alloc: Global) -> Result<Option<u32>, Memory> {
-    match built_squares(rt, alloc)? {
-        Some(built) => Ok(Some(built.steps())),
-        None => Ok(None),
-    }
-}
-
-/// Their slice after k steps.
-pub fn slice_of_squares<R: Threads + Sync>(
-    rt: &R,
-    alloc: Global,
-    k: u32,
-) -> Result<Slice, ReadFail> {
-    match built_squares(rt, alloc) {
-        Ok(Some(built)) => slice_at(alloc, &built, k),
-        _ => Err(ReadFail::Memory),
-    }
 }
 
 /// The window of their slice at step 0 from 12 to 30 in x and from 2 to 4 in y.
