@@ -54,6 +54,7 @@ talk_longer limit history more talk turns (inl t) =
       told_is = t.told_is;
       split = t.split;
       items = t.items;
+      few = t.few;
       first = simp length-append (omega (arith, t.first));
       outcomes = outcomes_longer limit history more s turns t.first t.outcomes;
       last = t.last;
@@ -136,6 +137,7 @@ conversation_is middle now talk c untaken unput read_fault write_fault = record 
   told_is = c.told_is;
   split = c.split;
   items = c.items;
+  few = c.few;
   first = c.first;
   outcomes = c.outcomes;
   last = c.last;
@@ -157,7 +159,18 @@ served_more before middle now talks talk (inl (t, newest)) untaken unput read_fa
 served_more before middle now talks talk (inr u) untaken unput read_fault write_fault s =
     let kept = u.published in
     let none : IsUnserved talk [] =
-    record { how = u.how; untaken = u.unread; unput = u.unwritten; numbers = u.numbers; rows = u.rows; none = refl } in
+    record {
+      how = u.how;
+      untaken = untaken;
+      unput = unput;
+      unread = u.unread;
+      unwritten = u.unwritten;
+      first = u.first;
+      last = u.last;
+      numbers = u.numbers;
+      rows = u.rows;
+      none = refl;
+    } in
     served_turns before middle now talks talk [] s u.continues (inr none) (omega (arith, kept))
     (λ n. let up = u.continues.tellings n in grind (arith, up))
 

@@ -13,6 +13,7 @@ use Rattle.version_store.specs.declared.seat.SeatOf.{SeatOf}
 use Rattle.version_store.specs.declared.press.PressOf.{PressOf}
 use Rattle.version_store.specs.Store.{press_versions, press_limit, seat_versions, seat_limit}
 use Rattle.map_version.specs.declared.version.Version.{Version}
+use Rattle.session.specs.declared.serve.TheConstants.{MAX_REQUESTS}
 use Rattle.session.specs.Reading.{Follows}
 use Rattle.session.specs.Items.{AreItems, item_bytes}
 use Rattle.session.specs.Outcomes.{Turn, starting, standing, Outcomes, replies}
@@ -22,7 +23,8 @@ use Rattle.session.specs.Conversation.{EndsBy}
 use Rattle.workers.specs.Served.{Talk, Visit, handed_back, talk_of}
 
 -- What was read is these items and a rest, each item has an outcome over the list of versions, and the replies to them were written. How
--- it ended follows from that, and a fault is told only where the link has failed. The limit is the number of versions that there may be.
+-- it ended follows from that, and a fault is told only where the link has failed. There are no more items than one connection may have.
+-- The limit is the number of versions that there may be.
 pub record IsConversation (limit : ℕ) (history : List BaseMap) (talk : Talk) (turns : List Turn) : Type 0 where
   pub rest : List ℕ
   pub read : List ℕ
@@ -33,6 +35,7 @@ pub record IsConversation (limit : ℕ) (history : List BaseMap) (talk : Talk) (
   pub told_is : Follows talk.told_before talk.told written
   pub split : read ≡ flat_map item_bytes (items_of turns) ++ rest
   pub items : AreItems rest (items_of turns)
+  pub few : length turns ≤ MAX_REQUESTS
   pub first : talk.end.first < length history
   pub outcomes : Outcomes limit history (starting talk.end.first) turns
   pub last : talk.end.last ≡ (standing (starting talk.end.first) turns).pin
@@ -42,11 +45,15 @@ pub record IsConversation (limit : ℕ) (history : List BaseMap) (talk : Talk) (
   pub read_fault : talk.end.how ≡ ReadFault → 0 < talk.take_faults
   pub write_fault : talk.end.how ≡ WriteFault → 0 < talk.put_faults
 
--- there was no memory to begin with: nothing was read or written, and nothing was handled
+-- there was no memory to begin with: the link was a new one, nothing was read or written, nothing was handled, and no version was pinned
 pub record IsUnserved (talk : Talk) (turns : List Turn) : Type 0 where
   pub how : talk.end.how ≡ Memory
-  pub untaken : talk.taken ≡ talk.taken_before
-  pub unput : talk.told ≡ talk.told_before
+  pub untaken : HasNone talk.taken_before
+  pub unput : HasNone talk.told_before
+  pub unread : talk.taken ≡ talk.taken_before
+  pub unwritten : talk.told ≡ talk.told_before
+  pub first : talk.end.first ≡ 0
+  pub last : talk.end.last ≡ 0
   pub numbers : talk.end.numbers ≡ []
   pub rows : talk.end.rows ≡ []
   pub none : turns ≡ []

@@ -1,5 +1,6 @@
-//! Texts and the outside: canonical decimals, lines and words, and the files and sinks that a program is handed.
-//! It stands on `tgap_model`.
+//! The outside: files, sinks, links, doors and harbours, each a trait with forms in memory, one that never fails, and one over
+//! the system; and what texts are read and written with: canonical decimals, lines and words, and JSON trees. It stands on
+//! `tgap_model`.
 #![tactic(auto)]
 
 mod calls;

@@ -28,6 +28,7 @@ served_from a b c taken taken' told told' ended end f same newest v = inl (
     told_is = v.told_is;
     split = v.split;
     items = v.items;
+    few = v.few;
     first = v.first;
     outcomes = v.outcomes;
     last = v.last;

@@ -79,10 +79,10 @@ module _ (first count : ℕ) (before now : Seen) (taken a b told u : Option (Lis
       ∙ ap (λ xs. flat_map item_bytes (items_of p.turns) ++ xs) (sym r.2)
 
   -- a connection that ended between two requests, or within one
-  open_conversation : (how : EndKind) (ended : Bool)
+  open_conversation : count < MAX_REQUESTS → (how : EndKind) (ended : Bool)
       → EndsBy how (items_of p.turns) rest p.written (replies now.history (starting first) 0 p.turns) ended
       → Conversation before now taken b told u ended (record { how = how; first = first; last = pin.number; numbers = noted.numbers; rows = noted.rows })
-  open_conversation how ended ends = record {
+  open_conversation below how ended ends = record {
     turns = p.turns;
     rest = rest;
     read = p.read ++ r.0;
@@ -91,6 +91,7 @@ module _ (first count : ℕ) (before now : Seen) (taken a b told u : Option (Lis
     told_is = p.told_is;
     split = open_split;
     items = are_items rest (items_of p.turns) p.going;
+    few = (let counted = p.counted in omega (arith, counted, below));
     first = p.there;
     outcomes = p.outcomes;
     last = sym p.pin_is;
@@ -108,13 +109,13 @@ module _ (first count : ℕ) (before now : Seen) (taken a b told u : Option (Lis
   pub at_end : count < MAX_REQUESTS → IsPart rest
       → Conversation before now taken b told u true (record { how = if is_empty rest then Closed else CutShort; first = first; last = pin.number; numbers = noted.numbers; rows = noted.rows })
   at_end below part =
-      open_conversation _ true (open_end (is_empty rest) _ rest _ _ true
+      open_conversation below _ true (open_end (is_empty rest) _ rest _ _ true
       (record { all = inr (inr part); whole = p.replies_are; ends = inl (how_open (items_of p.turns) rest true p.going (few below)) }))
 
   pub at_failure : count < MAX_REQUESTS → IsPart rest
       → Conversation before now taken b told u false (record { how = ReadFault; first = first; last = pin.number; numbers = noted.numbers; rows = noted.rows })
   at_failure below part =
-      open_conversation ReadFault false
+      open_conversation below ReadFault false
       (record { all = inr (inr part); whole = p.replies_are; ends = inr (how_open (items_of p.turns) rest false p.going (few below), refl) })
 
 -- as many requests were answered as there may be
@@ -133,6 +134,7 @@ spent first count before now taken a told u pin held noted ended p full =
       told_is = p.told_is;
       split = p.split;
       items = are_items held items p.going;
+      few = (let counted = p.counted in omega (arith, counted, full));
       first = p.there;
       outcomes = p.outcomes;
       last = sym p.pin_is;

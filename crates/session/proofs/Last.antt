@@ -1,5 +1,5 @@
 -- A connection that ends with an item.
-use Rattle.std.proofs.Common.{◌≡◌, ℕ, suc, ◌+◌, ◌==◌, ◌||◌, Bool, true, false, List, [], ◌∷◌, ◌++◌, length, flat_map, take, Option, Some, None, Result, Ok, Err, All, refl, sym, ap, ◌∙◌, subst, arith, inl, inr, length-append, zero-add, add_assoc, eq-eqb, if◌then◌else◌}
+use Rattle.std.proofs.Common.{◌≡◌, ◌<◌, ℕ, suc, ◌+◌, ◌==◌, ◌||◌, Bool, true, false, List, [], ◌∷◌, ◌++◌, length, flat_map, take, Option, Some, None, Result, Ok, Err, All, refl, sym, ap, ◌∙◌, subst, arith, inl, inr, length-append, zero-add, add_assoc, eq-eqb, if◌then◌else◌}
 use Rattle.std.specs.List.{list_any}
 use Rattle.std.proofs.Math.Seq.{take-append-add}
 use Rattle.std.proofs.lemmas.List.Elements.{All-head, All-tail}
@@ -38,10 +38,10 @@ pub last_conversation : (first : ℕ) (before mid now : Seen) (taken a b told u 
     (held got rest : List ℕ) (noted noted' : Noted) (count : ℕ) (faulty closing final : Bool) {T E : Type 0} (put : Result T E)
     → (p : Progress first before mid taken a told u pin held noted count) → Received a b held got
     → (e : Exchange mid now pin pin' got rest noted noted' u v faulty closing final put) → final ≡ is_final (suc count) e.item
-    → (out : List ℕ) → Follows u v out → (how : EndKind) (ended : Bool)
+    → count < MAX_REQUESTS → (out : List ℕ) → Follows u v out → (how : EndKind) (ended : Bool)
     → EndsBy how (items_of p.turns ++ e.item ∷ []) rest (p.written ++ out) (p.written ++ e.turned.reply) ended
     → Conversation before now taken b told v ended (record { how = how; first = first; last = pin'.number; numbers = noted'.numbers; rows = noted'.rows })
-last_conversation first before mid now taken a b told u v pin pin' held got rest noted noted' count faulty closing final put p r e fin out puts how ended ends =
+last_conversation first before mid now taken a b told u v pin pin' held got rest noted noted' count faulty closing final put p r e fin below out puts how ended ends =
     let s = starting first in
     let t : Turn = record { item = e.item; number = e.turned.number; row = e.turned.row } in
     let stood = standing s p.turns in
@@ -78,6 +78,7 @@ last_conversation first before mid now taken a b told u v pin pin' held got rest
       told_is = follows_more told u v p.written out p.told_is puts;
       split = split_more (items_of p.turns) e.item p.read r.0 held got rest p.split r.2 e.bytes ∙ ap (λ is. flat_map item_bytes is ++ rest) items;
       items = subst A items (items_more rest (items_of p.turns) e.item p.going e.item_is);
+      few = simp length-append (omega (arith, p.counted, below));
       first = (let y = no_shorter mid now e.continues in let z = p.there in omega arith);
       outcomes = outcomes_more now.limit now.history s p.turns t old holds;
       last = sym (ap (λ z. z.pin) (standing_more s p.turns t) ∙ moved);

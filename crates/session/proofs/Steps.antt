@@ -4,10 +4,15 @@ use Rattle.std.proofs.lemmas.Bool.{cases_lt}
 use Rattle.std.proofs.lemmas.Bool.Decides.{nat_tests}
 use Rattle.slice_read.specs.declared.fail.ReadFail.{ReadFail}
 use Rattle.slice_read.specs.declared.fail.ReadFail.TheVariants.{StepTooHigh}
+use Rattle.refine_packets.specs.declared.fail.PacketFail.{PacketFail}
+use Rattle.refine_packets.specs.declared.fail.PacketFail.TheVariants as fail
 use Rattle.tgap_model.specs.Base.{BaseMap}
 use Rattle.tgap_model.specs.History.{history_of}
+use Rattle.tgap_model.specs.Merged.{merged}
+use Rattle.tgap_model.specs.Records.{packet_of}
+use Rattle.tgap_model.specs.SliceTexts.{packet_text}
 use Rattle.tgap_model.specs.Texts.{step_too_high_text}
-use Rattle.session.specs.Answers.{plain, at_step}
+use Rattle.session.specs.Answers.{plain, said, not_coarser_words, at_step, packet_answer}
 
 nat_lt_no : (n k : ℕ) → k ≤ n → nat_lt n k ≡ false
 nat_lt_no n k h = grind (arith, nat_tests)
@@ -30,3 +35,19 @@ at_step_above m k text h =
 pub gave : {A : Type 0} (r : Result A ReadFail) (x : A) (n k : ℕ) → r ≡ Ok x
     → ((steps : ℕ) → (r ≡ Err (StepTooHigh steps)) ↔ ((n < k) × (steps ≡ n))) → k ≤ n
 gave r x n k e high = elim (cases_lt n k) [ inl h ↦ absurd (let f : Ok x ≡ Err (StepTooHigh n) = sym e ∙ (high n).1 (h, refl) in cc) | inr h ↦ h ]
+
+-- the same of a maker of packets, which also refuses exactly those that would lead to a coarser slice
+pub gave_packet : {A : Type 0} (r : Result A PacketFail) (x : A) (n from to : ℕ) → r ≡ Ok x → (r ≡ Err fail.NotCoarser) ↔ (from < to)
+    → ((steps : ℕ) → (r ≡ Err (fail.StepTooHigh steps)) ↔ ((to ≤ from) × (n < from) × (steps ≡ n))) → (to ≤ from) × (from ≤ n)
+gave_packet r x n from to e coarser high = elim (cases_lt from to) [
+  | inl h ↦ absurd (let f : Ok x ≡ Err fail.NotCoarser = sym e ∙ coarser.1 h in cc)
+  | inr h ↦ elim (cases_lt n from) [
+    | inl k ↦ absurd (let f : Ok x ≡ Err (fail.StepTooHigh n) = sym e ∙ (high n).1 (h, k, refl) in cc)
+    | inr k ↦ (h, k)
+  ]
+]
+
+-- the answer for a packet that leads to no coarser slice
+pub finer_answer : (m : BaseMap) (from to : ℕ) → to ≤ from → packet_answer m from to ≡ at_step m from (packet_text (packet_of (merged m) from to))
+finer_answer m from to h =
+    ap (λ b. if b then said 400 (not_coarser_words from to) else at_step m from (packet_text (packet_of (merged m) from to))) (nat_lt_no from to h)

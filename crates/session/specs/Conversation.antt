@@ -40,7 +40,7 @@ EndsBy WriteFault items rest written replies ended = (n : ℕ) × (written ≡ t
 EndsBy how items rest written replies ended = EndsWell how items rest written replies ended
 
 -- What was read is these items and a rest, each item has an outcome over the list as it is at the end, and the replies to them were
--- written.
+-- written. There are no more items than one connection may have.
 pub record Conversation
     (before now : Seen) (taken taken' told told' : Option (List ℕ)) (ended : Bool) (end : ConnectionEnd) : Type 0 where
   pub turns : List Turn
@@ -51,6 +51,7 @@ pub record Conversation
   pub told_is : Follows told told' written
   pub split : read ≡ flat_map item_bytes (items_of turns) ++ rest
   pub items : AreItems rest (items_of turns)
+  pub few : length turns ≤ MAX_REQUESTS
   pub first : end.first < length now.history
   pub outcomes : Outcomes now.limit now.history (starting end.first) turns
   pub last : end.last ≡ (standing (starting end.first) turns).pin

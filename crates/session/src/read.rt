@@ -15,8 +15,8 @@ ghost use Rattle.session.specs.Turns.{Reads};
 use crate::answer::{Answer, line, plain};
 use http_face::{Allow, Route};
 use plain_io::{put_count, put_field, put_size};
-use refine_packets::packet;
-use slice_read::{slice_at, window_at};
+use refine_packets::{PacketFail, packet};
+use slice_read::{ReadFail, slice_at, window_at};
 use std::alloc::Global;
 use tgap_build::Built;
 use tgap_model::{Base, BaseArc, MAX_POINTS, Memory, Text, Window};
@@ -73,23 +73,20 @@ fn not_coarser_line(alloc: Global, from: u32, to: u32) -> Result<Text, Memory>
 }
 
 /// The answer for a slice.
-#[tactic(auto, using(crate::proofs::Steps::at_step_there, crate::proofs::Steps::at_step_above))]
 fn slice_answer(alloc: Global, built: &Built, step: u32) -> Result<Answer, Memory>
     ensures exact { IfOk result (λ a. a ≡ at_step built.now step (slice_text (slice built.now step))) }
     ensures sendable { IfOk result IsAnswer }
 {
-    let steps = built.steps();
-    if steps < step {
-        return Ok(plain(400, step_too_high_text(alloc, steps)?));
+    match slice_at(alloc, built, step) {
+        Ok(slice) => Ok(plain(200, slice_text(alloc, &slice)?)),
+        Err(ReadFail::StepTooHigh { steps }) => {
+            Ok(plain(400, step_too_high_text(alloc, steps)?))
+        }
+        Err(ReadFail::Memory) => Err(Memory),
     }
-    let Ok(slice) = slice_at(alloc, built, step) else {
-        return Err(Memory);
-    };
-    Ok(plain(200, slice_text(alloc, &slice)?))
 }
 
 /// The answer for a window of a slice.
-#[tactic(auto, using(crate::proofs::Steps::at_step_there, crate::proofs::Steps::at_step_above))]
 fn ordered_window_answer(
     alloc: Global,
     built: &Built,
@@ -101,14 +98,13 @@ fn ordered_window_answer(
     ensures exact { IfOk result (λ a. a ≡ at_step built.now step (window_text area (window_of area (slice built.now step)))) }
     ensures sendable { IfOk result IsAnswer }
 {
-    let steps = built.steps();
-    if steps < step {
-        return Ok(plain(400, step_too_high_text(alloc, steps)?));
+    match window_at(alloc, built, step, area) {
+        Ok(slice) => Ok(plain(200, window_text(alloc, &slice, area)?)),
+        Err(ReadFail::StepTooHigh { steps }) => {
+            Ok(plain(400, step_too_high_text(alloc, steps)?))
+        }
+        Err(ReadFail::Memory) => Err(Memory),
     }
-    let Ok(slice) = window_at(alloc, built, step, area) else {
-        return Err(Memory);
-    };
-    Ok(plain(200, window_text(alloc, &slice, area)?))
 }
 
 /// The answer for a window of a slice, where its ends are in order.
@@ -123,32 +119,18 @@ fn window_answer(alloc: Global, built: &Built, step: u32, area: Window) -> Resul
     }
 }
 
-/// The answer for a packet that leads to no coarser slice.
-#[tactic(auto, using(crate::proofs::Steps::at_step_there, crate::proofs::Steps::at_step_above))]
-fn finer_packet_answer(alloc: Global, built: &Built, from: u32, to: u32) -> Result<Answer, Memory>
-    requires { to ≤ from }
-    ensures exact { IfOk result (λ a. a ≡ at_step built.now from (packet_text (packet_of (merged built.now) from to))) }
-    ensures sendable { IfOk result IsAnswer }
-{
-    let steps = built.steps();
-    if steps < from {
-        return Ok(plain(400, step_too_high_text(alloc, steps)?));
-    }
-    let Ok(packet) = packet(alloc, built, from, to) else {
-        return Err(Memory);
-    };
-    Ok(plain(200, packet_text(alloc, &packet)?))
-}
-
 /// The answer for a packet.
 fn packet_answer(alloc: Global, built: &Built, from: u32, to: u32) -> Result<Answer, Memory>
     ensures exact { IfOk result (λ a. a ≡ packet_answer built.now from to) }
     ensures sendable { IfOk result IsAnswer }
 {
-    if from < to {
-        Ok(plain(400, not_coarser_line(alloc, from, to)?))
-    } else {
-        finer_packet_answer(alloc, built, from, to)
+    match packet(alloc, built, from, to) {
+        Ok(packet) => Ok(plain(200, packet_text(alloc, &packet)?)),
+        Err(PacketFail::NotCoarser) => Ok(plain(400, not_coarser_line(alloc, from, to)?)),
+        Err(PacketFail::StepTooHigh { steps }) => {
+            Ok(plain(400, step_too_high_text(alloc, steps)?))
+        }
+        Err(PacketFail::Memory) => Err(Memory),
     }
 }
 

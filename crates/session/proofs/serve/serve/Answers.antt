@@ -52,7 +52,7 @@ returns-in-Ok-clause-conversation g c =
     last_conversation c.args.pin.now.number (S c.args.versions.now) (S c.loop-count.versions) (S c.loop-count.versions)
     (taken c.args.link.now) (taken c.loop-count.link) (taken c.serve_fault.new.link) (told c.args.link.now) (told c.next_item.new.link) (told c.serve_fault.new.link)
     c.loop-count.pin c.loop-count.pin c.loop-count.room c.next_item.new.room c.next_item.new.room noted c.serve_fault.new.log c.loop-count.count true true true _
-    p more e (ap (λ b. b || (suc c.loop-count.count == MAX_REQUESTS)) e.closing_is) e.turned.reply e.put_is BadHead _
+    p more e (ap (λ b. b || (suc c.loop-count.count == MAX_REQUESTS)) e.closing_is) c.loop-count-test.true e.turned.reply e.put_is BadHead _
     (at_fault (items_of p.turns) e.item _ (p.written ++ e.turned.reply) _ (sym e.faulty_is) (sym e.closing_is))
 
 pub returns-in-Err-clause-conversation : goal.returns-in-Err-clause-conversation
@@ -71,7 +71,7 @@ returns-in-Err-clause-conversation g c =
     last_conversation c.args.pin.now.number (S c.args.versions.now) (S c.loop-count.versions) (S c.loop-count.versions)
     (taken c.args.link.now) (taken c.loop-count.link) (taken c.serve_fault.new.link) (told c.args.link.now) (told c.next_item.new.link) (told c.serve_fault.new.link)
     c.loop-count.pin c.loop-count.pin c.loop-count.room c.next_item.new.room c.next_item.new.room noted c.serve_fault.new.log c.loop-count.count true true true _
-    p more e (ap (λ b. b || (suc c.loop-count.count == MAX_REQUESTS)) e.closing_is) (take front.0 e.turned.reply) front.1 WriteFault _
+    p more e (ap (λ b. b || (suc c.loop-count.count == MAX_REQUESTS)) e.closing_is) c.loop-count-test.true (take front.0 e.turned.reply) front.1 WriteFault _
     (front_more p.written e.turned.reply front.0)
 
 pub returns-in_default-clause-conversation : goal.returns-in_default-clause-conversation
@@ -92,7 +92,7 @@ returns-in_default-clause-conversation g c =
     c.loop-count.pin c.serve_request.new.pin c.loop-count.room c.next_item.new.room c.serve_request.new.room noted c.serve_request.new.log c.loop-count.count
     false c.in-Request.close c.is_final-ends.result c.serve_request.result p more e
     (c.is_final-ends.ensures ∙ ap (λ n. c.in-Request.close || (n == MAX_REQUESTS)) (add-one c.loop-count.count) ∙ ap (λ b. b || (suc c.loop-count.count == MAX_REQUESTS)) e.closing_is)
-    (take front.0 e.turned.reply) front.1 WriteFault _ (front_more p.written e.turned.reply front.0)
+    c.loop-count-test.true (take front.0 e.turned.reply) front.1 WriteFault _ (front_more p.written e.turned.reply front.0)
 
 pub returns-then-count-eq-MAX_REQUESTS-clause-conversation : goal.returns-then-count-eq-MAX_REQUESTS-clause-conversation
 returns-then-count-eq-MAX_REQUESTS-clause-conversation g c =
@@ -111,7 +111,7 @@ returns-then-count-eq-MAX_REQUESTS-clause-conversation g c =
     c.loop-count.pin c.serve_request.new.pin c.loop-count.room c.next_item.new.room c.serve_request.new.room noted c.serve_request.new.log c.loop-count.count
     false c.in-Request.close c.is_final-ends.result _ p more e
     (c.is_final-ends.ensures ∙ ap (λ n. c.in-Request.close || (n == MAX_REQUESTS)) (add-one c.loop-count.count) ∙ ap (λ b. b || (suc c.loop-count.count == MAX_REQUESTS)) e.closing_is)
-    e.turned.reply e.put_is Spent _
+    c.loop-count-test.true e.turned.reply e.put_is Spent _
     (at_spent (items_of p.turns) e.item _ (p.written ++ e.turned.reply) _ p.going e.faulty_is (len_more p.turns e.item c.loop-count.count p.counted ∙ c.if-count-eq-MAX_REQUESTS.true))
 
 pub returns-else-count-eq-MAX_REQUESTS-clause-conversation : goal.returns-else-count-eq-MAX_REQUESTS-clause-conversation
@@ -131,7 +131,7 @@ returns-else-count-eq-MAX_REQUESTS-clause-conversation g c =
     c.loop-count.pin c.serve_request.new.pin c.loop-count.room c.next_item.new.room c.serve_request.new.room noted c.serve_request.new.log c.loop-count.count
     false c.in-Request.close c.is_final-ends.result _ p more e
     (c.is_final-ends.ensures ∙ ap (λ n. c.in-Request.close || (n == MAX_REQUESTS)) (add-one c.loop-count.count) ∙ ap (λ b. b || (suc c.loop-count.count == MAX_REQUESTS)) e.closing_is)
-    e.turned.reply e.put_is Closed _
+    c.loop-count-test.true e.turned.reply e.put_is Closed _
     (at_closed (items_of p.turns) e.item _ (p.written ++ e.turned.reply) _ p.going e.faulty_is
     (sym e.closing_is ∙ or_first c.in-Request.close ((c.loop-count.count + 1) == MAX_REQUESTS) (sym c.is_final-ends.ensures ∙ c.if-ends.true) (not_full (c.loop-count.count + 1) c.if-count-eq-MAX_REQUESTS.false))
     (ap (λ n. n == MAX_REQUESTS) (len_more p.turns e.item c.loop-count.count p.counted) ∙ (not_full (c.loop-count.count + 1) c.if-count-eq-MAX_REQUESTS.false)))

@@ -1,0 +1,20 @@
+-- A window of a step that there is, and the word for one that there is not.
+use Rattle.std.proofs.Common.{◌≡◌, Err, ap, sym, ◌∙◌}
+use Rattle.tgap_model.specs.SliceTexts.{window_text}
+use Rattle.tgap_model.specs.Texts.{step_too_high_text}
+use Rattle.session.specs.Answers.{plain}
+use Rattle.session.proofs.Steps.{at_step_there, at_step_above, gave}
+use Rattle.session.proofs.read.ordered_window_answer.Goals as goal
+
+pub returns-in_ok-window_text-in-Ok-clause-exact : goal.returns-in_ok-window_text-in-Ok-clause-exact
+returns-in_ok-window_text-in-Ok-clause-exact c =
+    let there = gave c.window_at.result c.in-Ok.slice _ _ c.in-Ok.is c.window_at.ensures.high in
+    c.plain.ensures ∙ ap (plain 200) (c.in_ok-window_text-in-Ok.ensures ∙ ap (window_text c.args.area) c.in-Ok.ensures.exact)
+    ∙ sym (at_step_there _ _ _ there)
+
+pub returns-in_ok-step_too_high_text-in-Err-StepTooHigh-clause-exact : goal.returns-in_ok-step_too_high_text-in-Err-StepTooHigh-clause-exact
+returns-in_ok-step_too_high_text-in-Err-StepTooHigh-clause-exact c =
+    let above = (c.window_at.ensures.high c.in-Err-StepTooHigh.steps).0 (c.in-Err-StepTooHigh.is ∙ ap Err c.in-Err-StepTooHigh.field-0-is) in
+    let text : c.in_ok-step_too_high_text-in-Err-StepTooHigh.field-0 ≡ step_too_high_text c.in-Err-StepTooHigh.steps =
+    c.in_ok-step_too_high_text-in-Err-StepTooHigh.ensures ∙ ap step_too_high_text c.in-Err-StepTooHigh.steps-is in
+    c.plain-in-Err-StepTooHigh.ensures ∙ ap (plain 400) (text ∙ ap step_too_high_text above.1) ∙ sym (at_step_above _ _ _ above.0)
