@@ -39,8 +39,8 @@ def test(tests, examples):
 
 def words_and_files(tests):
     for name in ("import", "where", "export", "steps", "loss"):
-        tests.done(f"help of {name}", tests.run([TOOLS / name, "--help"]), f"usage: tools/{name}", "status:")
-        tests.refused(f"{name} without a word", tests.run([TOOLS / name]), 2, "usage:")
+        tests.done(f"help of {name}", tests.command([TOOLS / name, "--help"]), f"usage: tools/{name}", "status:")
+        tests.refused(f"{name} without a word", tests.command([TOOLS / name]), 2, "usage:")
 
 
 def shared_borders(tests):
