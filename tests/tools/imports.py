@@ -113,6 +113,9 @@ def real_maps(tests, examples):
     words = [examples / "africa.geojson", "--t_srs", "EPSG:6933", "--cell", 1000, "--property", "subregion", "--name", "name_long", "--sea"]
     tests.done("Africa", tests.tool("import", *words, "africa.json", "africa.rules.json"), "read 51 features", "53 faces")
     tests.same("it is accepted", tests.program("check", "africa.json", "areas", "africa.rules.json").stdout[:12], "ok faces 53 ")
+    words = [examples / "america.geojson", "--t_srs", "EPSG:6933", "--cell", 1000, "--property", "subregion", "--name", "name_long", "--sea"]
+    tests.done("South America", tests.tool("import", *words, "america.json", "america.rules.json"), "read 13 features", "16 faces")
+    tests.same("it is accepted", tests.program("check", "america.json", "areas", "america.rules.json").stdout[:12], "ok faces 16 ")
     words = [examples / "asia.geojson", "--t_srs", "ESRI:102025", "--property", "subregion", "--name", "name_long", "--sea"]
     tests.refused("Asia, with its overlaps", tests.tool("import", *words, "new.json", "new.rules.json"), 4, "40 pairs of areas overlap", "Indonesia (id 2) and Malaysia")
     made = tests.tool("import", *words, "--slivers", 100000, "asia.json", "asia.rules.json")

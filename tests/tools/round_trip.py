@@ -2,7 +2,7 @@
 import math
 
 # The map that imports.py has made, with the ids of its areas.
-MAPS = [("africa", "areas", 51), ("asia", "areas", 47), ("columbus", "areas", 49)]
+MAPS = [("africa", "areas", 51), ("america", "areas", 13), ("asia", "areas", 47), ("columbus", "areas", 49)]
 PARTS = 4
 
 
