@@ -1,9 +1,9 @@
 -- The table of routes as the router keeps it.
-use Rattle.std.specs.Prelude.{ℕ, List, [], codes, Result, Ok, Err}
+use Rattle.std.specs.Prelude.{◌≡◌, ℕ, List, [], codes, Result, Ok, Err, None}
 use Rattle.matchit.specs.Rows.{RowsOf}
 use Rattle.matchit.specs.Order.{placed}
 use Rattle.matchit.specs.Route.{Scan, parse_route}
-use Rattle.matchit.specs.Router.{RouteOf, route_from}
+use Rattle.matchit.specs.Router.{RouteOf, nearest, route_from}
 use Rattle.http_face.specs.declared.request.Resource.{Resource}
 use Rattle.http_face.specs.declared.request.Resource.TheVariants as resource
 
@@ -28,6 +28,14 @@ the_rows =
     with_row (codes "/pin/{seen}") resource.PinSeen (
     with_row (codes "/pin") resource.Pin (
     with_row (codes "/info") resource.Info []))))))
+
+-- the route can be read, and it conflicts with none of the rows
+abbrev pub has_place : {E : Type 0} → Result Scan E → Rows → Type 0
+has_place (Ok s) rows = nearest s.pattern rows ≡ None
+has_place (Err e) rows = ⊥
+
+abbrev pub HasPlace : List ℕ → Rows → Type 0
+HasPlace text rows = has_place (parse_route text) rows
 
 -- what the router says of this route, where its text can be read
 abbrev pub entry_of : {E : Type 0} → Result Scan E → Resource → RouteOf Resource

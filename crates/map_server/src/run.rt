@@ -13,7 +13,7 @@ ghost use Rattle.commands.specs.Command as spec;
 ghost use Rattle.commands.specs.MapFile.{Contents, FileName, files_of_map};
 ghost use Rattle.commands.specs.Commands.{command, files_of, outcome_of};
 ghost use Rattle.commands.specs.Answers.{Answers, Failed, LeavesKind, MayHold, MissesOne, PutsAnswer, files_for};
-ghost use Rattle.serving.specs.Serving.{ServeCommand, CameBack, HasNoDoors, IsLoaded, IsSoundMap, PutsRefusal, ServesAll, serve_words, serving_text};
+ghost use Rattle.serving.specs.Serving.{ServeCommand, CameBack, HasNoDoors, IsLoaded, IsRefusal, IsSoundMap, PutsFront, PutsRefusal, ServesAll, serve_words, serving_text};
 
 use commands::execute;
 use plain_io::{Door, Files, Harbour, Sink};
@@ -96,14 +96,24 @@ where
     ensures serve_fault_line { (c : ServeCommand) → serve_words (map string_bytes words.now) ≡ Some c → result ≡ 8
         → Appends (K.told out.old) (K.told out.new) (text_of outcome.PortFault)
         ⊎ Appends (K.told out.old) (K.told out.new) (serving_text c.port ++ text_of outcome.PortFault) }
+    // Status 6: a front was put of what the check refuses the map with, or of the port's fault, and no doors were given; or a front of the
+    // line, and no door has failed; or the line and a front of the port's fault, after connections were served.
+    ensures serve_front { (c : ServeCommand) → serve_words (map string_bytes words.now) ≡ Some c → result ≡ 6
+        → PutsFront (serving_text c.port) (CameBack (H.told harbour.old) (H.told harbour.new))
+        ((m : BaseMap) × IsLoaded c.source (F.told files.old) m
+        × ServesAll H.Gate.closed H.Gate.faults H.Gate.told H.Gate.Line.Link (CameBack (H.told harbour.old) (H.told harbour.new))
+        c.workers c.versions (m ∷ []) result)
+        (IsRefusal c.source (F.told files.old) (Failed (F.faults files.old) (F.faults files.new)))
+        (H.faults harbour.old) (H.faults harbour.new) (K.told out.old) (K.told out.new) }
     // All doors that the harbour gave came back. With status 0 there are as many as workers, each closed and none with a fault.
     ensures doors { (c : ServeCommand) → serve_words (map string_bytes words.now) ≡ Some c
         → (doors : List H.Gate) × CameBack (H.told harbour.old) (H.told harbour.new) doors
         × (result ≡ 0 → (length doors ≡ c.workers) × All (λ door. (H.Gate.closed door ≡ true) × (H.Gate.faults door ≡ 0)) doors) }
     // Status 0 and 8 come where connections were served; or it is 8, and no doors could be given. Where they were served, as many doors
     // as workers came back, each closed or with a fault, and the status is 0 exactly where each is closed and none has a fault. There
-    // is one list of maps, which begins with the map that was loaded, a planar partition: over it each connection of each door is right,
-    // and each link that came was handed back.
+    // is one list of maps, which begins with the map that was loaded. It has no more maps than versions may be kept, and each of them is a
+    // planar partition. Over it each connection of each door is right; no connection begins with a version that is older than one that
+    // was pinned or told before at its door; and each link that came was handed back.
     ensures connections { (c : ServeCommand) → serve_words (map string_bytes words.now) ≡ Some c → (result ≡ 0) ⊎ (result ≡ 8)
         → ((result ≡ 8) × HasNoDoors (CameBack (H.told harbour.old) (H.told harbour.new)) (K.told out.old) (K.told out.new))
         ⊎ ((result ≡ 8 → Appends (K.told out.old) (K.told out.new) (serving_text c.port ++ text_of outcome.PortFault))

@@ -3,7 +3,7 @@
 ghost use Rattle.std.specs.Prelude.{◌≡◌, ◌<◌, ◌+◌, ◌-◌, ◌^◌, Ok, Err, Some, None, IfOk};
 ghost use Rattle.tgap_model.specs.Base.{BaseMap};
 ghost use Rattle.tgap_model.specs.declared.fault.MapFault.{MapFault as FaultOfMap};
-ghost use Rattle.tgap_model.specs.Partition.{map_fault};
+ghost use Rattle.tgap_model.specs.Partition.{IsPartition, base_segments, map_fault};
 ghost use Rattle.tgap_model.specs.Edits.{edited};
 ghost use Rattle.map_version.specs.declared.fault.EditFault.{EditFault as FaultOfEdit};
 ghost use Rattle.map_version.specs.declared.version.RebuildFail.TheVariants.{Edit, Map};
@@ -17,11 +17,12 @@ use std::thread::Threads;
 use tgap_build::{Built, build};
 use tgap_model::{Holds, MapFault, Memory, Or};
 
-/// A version of a map: its number, and what was built of its base map.
+/// A version of a map: its number, and what was built of its base map, which is a planar partition.
 #[derive(Debug, Drop)]
 pub struct Version {
     pub number: u64,
     pub built: Built,
+    ghost planar: { IsPartition (base_segments built) },
 }
 
 impl Holds for Version {

@@ -1,5 +1,5 @@
 -- What a seat has served: each connection over the list of versions as it is at the end.
-use Rattle.std.specs.Prelude.{◌≡◌, ℕ, ◌+◌, ◌-◌, ◌^◌, ◌<◌, ◌≤◌, ◌⊎◌, min, List, [], ◌∷◌, ◌++◌, map, flat_map, length, sum_by, count_by, Option, IfSome, ⊤}
+use Rattle.std.specs.Prelude.{◌≡◌, ℕ, ◌+◌, ◌-◌, ◌^◌, ◌<◌, ◌≤◌, ◌⊎◌, max, min, List, [], ◌∷◌, ◌++◌, map, flat_map, length, sum_by, count_by, Option, IfSome, ⊤}
 use Rattle.std.proofs.Common.{refl, sym, arith}
 use Rattle.std.proofs.lemmas.List.{append-nil}
 use Rattle.plain_io.specs.declared.connection.EndKind.TheVariants.{ReadFault, WriteFault, Memory}
@@ -24,8 +24,8 @@ use Rattle.workers.specs.Served.{Talk, Visit, handed_back, talk_of}
 
 -- What was read is these items and a rest, each item has an outcome over the list of versions, and the replies to them were written. How
 -- it ended follows from that, and a fault is told only where the link has failed. There are no more items than one connection may have.
--- The limit is the number of versions that there may be.
-pub record IsConversation (limit : ℕ) (history : List BaseMap) (talk : Talk) (turns : List Turn) : Type 0 where
+-- The first version is no older than the one of number `seen`. The limit is the number of versions that there may be.
+pub record IsConversation (limit : ℕ) (history : List BaseMap) (seen : ℕ) (talk : Talk) (turns : List Turn) : Type 0 where
   pub rest : List ℕ
   pub read : List ℕ
   pub written : List ℕ
@@ -37,6 +37,7 @@ pub record IsConversation (limit : ℕ) (history : List BaseMap) (talk : Talk) (
   pub items : AreItems rest (items_of turns)
   pub few : length turns ≤ MAX_REQUESTS
   pub first : talk.end.first < length history
+  pub no_older : seen ≤ talk.end.first
   pub outcomes : Outcomes limit history (starting talk.end.first) turns
   pub last : talk.end.last ≡ (standing (starting talk.end.first) turns).pin
   pub numbers : talk.end.numbers ≡ numbers_of turns
@@ -58,15 +59,27 @@ pub record IsUnserved (talk : Talk) (turns : List Turn) : Type 0 where
   pub rows : talk.end.rows ≡ []
   pub none : turns ≡ []
 
-abbrev pub IsTalk : ℕ → List BaseMap → Talk → List Turn → Type 0
-IsTalk limit history talk turns = IsConversation limit history talk turns ⊎ IsUnserved talk turns
+abbrev pub IsTalk : ℕ → List BaseMap → ℕ → Talk → List Turn → Type 0
+IsTalk limit history seen talk turns = IsConversation limit history seen talk turns ⊎ IsUnserved talk turns
 
--- each of the connections, by what was handled on it
-abbrev pub AreTalks : ℕ → List BaseMap → List Talk → List (List Turn) → Type 0
-AreTalks limit history [] [] = ⊤
-AreTalks limit history (talk ∷ talks) (turns ∷ all) = IsTalk limit history talk turns × AreTalks limit history talks all
-AreTalks limit history [] (turns ∷ all) = ⊥
-AreTalks limit history (talk ∷ talks) [] = ⊥
+-- the greatest number of a version that was pinned or told, where it was `seen` before this connection
+abbrev pub seen_after : ℕ → Talk → List Turn → ℕ
+seen_after seen talk turns = max seen (standing (starting talk.end.first) turns).known
+
+-- Each of the connections, by what was handled on it, one after the other. It begins with a version that is no older than any that was
+-- pinned or told on those before it, and than the one of number `seen`.
+abbrev pub AreTalks : ℕ → List BaseMap → ℕ → List Talk → List (List Turn) → Type 0
+AreTalks limit history seen [] [] = ⊤
+AreTalks limit history seen (talk ∷ talks) (turns ∷ all) =
+    IsTalk limit history seen talk turns × AreTalks limit history (seen_after seen talk turns) talks all
+AreTalks limit history seen [] (turns ∷ all) = ⊥
+AreTalks limit history seen (talk ∷ talks) [] = ⊥
+
+-- the greatest number after some connections
+abbrev pub seen_at_last : ℕ → List Talk → List (List Turn) → ℕ
+seen_at_last seen (talk ∷ talks) (turns ∷ all) = seen_at_last (seen_after seen talk turns) talks all
+seen_at_last seen [] all = seen
+seen_at_last seen (talk ∷ talks) [] = seen
 
 -- how many versions were published on some connections, and how many replies named this number as the newest to a client that is behind
 abbrev pub published_in : List (List Turn) → ℕ
@@ -75,13 +88,18 @@ published_in all = sum_by published_count all
 abbrev pub behind_in : ℕ → List (List Turn) → ℕ
 behind_in n all = sum_by (λ turns. count_by (tells_behind n) turns) all
 
--- A seat served these connections. Its list only grew; over the list as it is now each connection is right. The count of published
--- versions rose by those that were published there, and each count of tellings at least by the replies that name the number; one that
--- stands at its type's end says no more.
+-- the number of the newest version of a list
+abbrev pub newest_of : List BaseMap → ℕ
+newest_of history = length history - 1
+
+-- A seat served these connections. Its list only grew; over the list as it is now each connection is right, and the first version of each
+-- is no older than any that the seat had seen before. The count of published versions rose by those that were published there, and each
+-- count of tellings at least by the replies that name the number; one that stands at its type's end says no more.
 pub record Served (before now : Seen) (talks : List Talk) : Type 0 where
   pub continues : Continues before now
   pub turns : List (List Turn)
-  pub each : AreTalks now.limit now.history talks turns
+  pub each : AreTalks now.limit now.history (newest_of before.history) talks turns
+  pub seen : seen_at_last (newest_of before.history) talks turns ≤ newest_of now.history
   pub published : now.published ≡ before.published + published_in turns
   pub tellings : (n : ℕ) → min (before.tellings n + behind_in n turns) (2 ^ 64 - 1) ≤ now.tellings n
 
@@ -91,6 +109,7 @@ served_none seen = record {
   continues = record { history = ([], sym (append-nil seen.history)); limit = refl; tellings = λ n. omega arith };
   turns = [];
   each = tt;
+  seen = omega arith;
   published = omega arith;
   tellings = λ n. grind arith;
 }
@@ -98,17 +117,18 @@ served_none seen = record {
 -- ---- all that a door tells
 
 -- All links that came were handed back, each with the end of its connection, and each of these connections is right over this list
--- of versions.
-pub record AreRight {L : Type 0} (link : OfLink.Ghosts L) (limit : ℕ) (history : List BaseMap) (told : Connections L) : Type 0 where
+-- of versions; none begins with a version that is older than the one of number `seen`, or than one that was pinned or told before at the
+-- door.
+pub record AreRight {L : Type 0} (link : OfLink.Ghosts L) (limit : ℕ) (history : List BaseMap) (seen : ℕ) (told : Connections L) : Type 0 where
   pub visits : List (Visit L)
   pub turns : List (List Turn)
   pub came : told.came ≡ length visits
   pub back : told.back ≡ map handed_back visits
-  pub each : AreTalks limit history (map (talk_of link) visits) turns
+  pub each : AreTalks limit history seen (map (talk_of link) visits) turns
 
 -- so it is, where the door tells of its connections
-abbrev pub ServedRight : {L : Type 0} → OfLink.Ghosts L → ℕ → List BaseMap → Option (Connections L) → Type 0
-ServedRight link limit history told = IfSome told (AreRight link limit history)
+abbrev pub ServedRight : {L : Type 0} → OfLink.Ghosts L → ℕ → List BaseMap → ℕ → Option (Connections L) → Type 0
+ServedRight link limit history seen told = IfSome told (AreRight link limit history seen)
 
 module _ {N P : Type 0} {held : Held.Ghosts Version} {named : Named.Ghosts N} where
   -- the maps of the published versions

@@ -10,10 +10,11 @@ use Rattle.plain_io.specs.declared.link.Link as OfLink
 use Rattle.plain_io.specs.Doors.{Connections}
 use Rattle.plain_io.specs.Faults.{Rises, Rose}
 use Rattle.plain_io.specs.Harbours.{Doors, NoMoreBack}
-use Rattle.plain_io.specs.Puts.{Appends}
+use Rattle.plain_io.specs.Puts.{Appends, AppendsFront}
 use Rattle.workers.specs.Closing.{MayTakeBack, TakesAllBack, OneFailed, NoneFailed}
 use Rattle.workers.specs.Each.{EachBecame, OneBecame}
-use Rattle.map_workers.specs.Seats.{ServedRight}
+use Rattle.map_version.specs.declared.version.Version.{Version}
+use Rattle.map_workers.specs.Seats.{newest_of, ServedRight}
 use Rattle.commands.specs.declared.outcome.Outcome.{Outcome}
 use Rattle.commands.specs.declared.outcome.Outcome.TheVariants.{OutOfMemory, PortFault}
 use Rattle.commands.specs.Outcomes.{status_of, text_of, TakesMemory}
@@ -22,7 +23,7 @@ use Rattle.plain_io.specs.declared.files.Which.{Which}
 use Rattle.plain_io.specs.Loads.{Told}
 use Rattle.commands.specs.Command.{Source, Check}
 use Rattle.commands.specs.Answers.{AnswersCommand, ReadsMap}
-use Rattle.serving.specs.Serving.{Gave, CameBack, HasNoDoors, IsLoaded, IsStop, PutsRefusal, Serves, ServesAll, TakesEach}
+use Rattle.serving.specs.Serving.{Gave, AppendsFrontAfter, CameBack, HasNoDoors, IsLoaded, IsRefusal, IsStop, Serves, ServesAll, TakesEach}
 
 -- ---- counts
 
@@ -111,6 +112,11 @@ module _ {P : Type 0} (faults : P → ℕ) where
   none_failed R [] (y ∷ ys) e all none = absurd e
   none_failed R (x ∷ xs) [] e all none = absurd e
 
+  -- counts that are 0
+  pub none_faulty : (xs : List P) → All (λ x. faults x ≡ 0) xs → NoneFailed (map faults xs)
+  none_faulty [] all = tt
+  none_faulty (x ∷ xs) all = (All-head (λ z. faults z ≡ 0) x xs all, none_faulty xs (All-tail (λ z. faults z ≡ 0) x xs all))
+
 -- doors at posts are closed and sound
 pub doors_sound : {P D : Type 0} (door : P → D) (closed : D → Bool) (faults : D → ℕ) (xs : List P) → All (λ x. closed (door x) ≡ true) xs
     → NoneFailed (map (λ x. faults (door x)) xs) → All (λ d. (closed d ≡ true) × (faults d ≡ 0)) (map door xs)
@@ -152,22 +158,28 @@ appends_both (Some before) now new xs ys a b =
 -- ---- statuses
 
 module _ {D : Type 0} (first : List ℕ) (Back : List D → Type 0) (Served : Type 0) (count count' : ℕ)
-    (told told' : Option (List ℕ)) (sunk sunk' status : ℕ) (Other : Type 0) where
+    (told told' : Option (List ℕ)) (sunk sunk' status : ℕ) (Refusal : Outcome → Type 0) where
   -- an outcome was put before there were doors, or in the place of them
   pub put_alone : (o : Outcome) → Delivers o told told' sunk sunk' status → Back [] → status_of o ≢ 0 → status_of o ≢ 6
-      → ((status_of o ≢ 8) × (count' ≡ count)) ⊎ ((o ≡ PortFault) × Rises count count') → (status ≢ 8 → PutsWhole o told told' status → Other)
-      → Serves first Back Served count count' told told' sunk sunk' status Other
-  put_alone o (inr d) back not_zero not_six port make = record {
+      → ((status_of o ≢ 8) × (count' ≡ count) × Refusal o) ⊎ ((o ≡ PortFault) × Rises count count')
+      → Serves first Back Served count count' told told' sunk sunk' status Refusal
+  put_alone o (inr d) back not_zero not_six port = record {
     line = λ e. absurd (omega (arith, d.0, e));
     fault_line = λ e. absurd (omega (arith, d.0, e));
     port_fault = λ e. absurd (omega (arith, d.0, e));
     sound = λ n m. absurd (n d.0);
     doors = ([], back);
     other = λ a b c. absurd (b d.0);
+    front = λ e. inl (
+      back,
+      o,
+      elim port [ inl p ↦ inl (p.2, p.1) | inr p ↦ inr (p.0, rises_rose count count' p.1) ],
+      d.1,
+    );
     sink_fault = λ e. d.2;
     sink_kept = λ n. absurd (n d.0);
   }
-  put_alone o (inl d) back not_zero not_six port make = record {
+  put_alone o (inl d) back not_zero not_six port = record {
     line = λ e. absurd (not_zero (sym d.0 ∙ e));
     fault_line = λ e. elim port [
       | inl p ↦ absurd (p.0 (sym d.0 ∙ e))
@@ -176,31 +188,33 @@ module _ {D : Type 0} (first : List ℕ) (Back : List D → Type 0) (Served : Ty
     port_fault = λ e. elim port [ inl p ↦ absurd (p.0 (sym d.0 ∙ e)) | inr p ↦ rises_rose count count' p.1 ];
     sound = λ n m. elim port [ inl p ↦ p.1 | inr p ↦ absurd (m (d.0 ∙ ap status_of p.0)) ];
     doors = ([], back);
-    other = λ a b c. make c (d.0, d.1);
+    other = λ a b c. elim port [ inl p ↦ (o, p.2, d.0, d.1) | inr p ↦ absurd (c (d.0 ∙ ap status_of p.0)) ];
+    front = λ e. absurd (not_six (sym d.0 ∙ e));
     sink_fault = λ e. absurd (not_six (sym d.0 ∙ e));
     sink_kept = λ n. d.2;
   }
 
   -- memory was wanting, or no doors could be given
   pub without_doors : (o : Outcome) → Delivers o told told' sunk sunk' status ⊎ (TakesMemory o × Delivers OutOfMemory told told' sunk sunk' status)
-      → Back [] → ((o ≡ OutOfMemory) × (count' ≡ count)) ⊎ ((o ≡ PortFault) × Rises count count') → (PutsWhole OutOfMemory told told' status → Other)
-      → Serves first Back Served count count' told told' sunk sunk' status Other
-  without_doors o (inr d) back (inl p) make = absurd (subst TakesMemory p.0 d.0)
-  without_doors o (inr d) back (inr p) make = absurd (subst TakesMemory p.0 d.0)
-  without_doors o (inl d) back (inl p) make =
+      → Back [] → ((o ≡ OutOfMemory) × (count' ≡ count)) ⊎ ((o ≡ PortFault) × Rises count count') → Refusal OutOfMemory
+      → Serves first Back Served count count' told told' sunk sunk' status Refusal
+  without_doors o (inr d) back (inl p) memory = absurd (subst TakesMemory p.0 d.0)
+  without_doors o (inr d) back (inr p) memory = absurd (subst TakesMemory p.0 d.0)
+  without_doors o (inl d) back (inl p) memory =
       put_alone OutOfMemory (subst (λ (q : Outcome). Delivers q told told' sunk sunk' status) p.0 d) back (λ e. omega (arith, e)) (λ e. omega (arith, e))
-      (inl ((λ e. omega (arith, e)), p.1)) (λ n whole. make whole)
-  without_doors o (inl d) back (inr p) make =
+      (inl ((λ e. omega (arith, e)), p.1, memory))
+  without_doors o (inl d) back (inr p) memory =
       put_alone PortFault (subst (λ (q : Outcome). Delivers q told told' sunk sunk' status) p.0 d) back (λ e. omega (arith, e)) (λ e. omega (arith, e))
-      (inr (refl, p.1)) (λ n whole. absurd (n whole.0))
+      (inr (refl, p.1))
 
 -- the same of other doors and counts that they were given with
 pub serves_on : {D : Type 0} (first first' : List ℕ) (Back Back' : List D → Type 0) (Served Served' : Type 0) (count before count' : ℕ)
-    (told told' : Option (List ℕ)) (sunk sunk' status : ℕ) (Other Other' : Type 0) → (Other → Other') → (Served → Served') → first ≡ first' → count ≡ before
+    (told told' : Option (List ℕ)) (sunk sunk' status : ℕ) (Refusal Refusal' : Outcome → Type 0) → ((o : Outcome) → Refusal o → Refusal' o)
+    → (Served → Served') → first ≡ first' → count ≡ before
     → ((doors : List D) → Back doors → Back' doors)
-    → Serves first Back Served count count' told told' sunk sunk' status Other
-    → Serves first' Back' Served' before count' told told' sunk sunk' status Other'
-serves_on first first' Back Back' Served Served' count before count' told told' sunk sunk' status Other Other' make serve line same on s = record {
+    → Serves first Back Served count count' told told' sunk sunk' status Refusal
+    → Serves first' Back' Served' before count' told told' sunk sunk' status Refusal'
+serves_on first first' Back Back' Served Served' count before count' told told' sunk sunk' status Refusal Refusal' make serve line same on s = record {
   line = λ e. (subst (Appends told told') line (s.line e).0, serve (s.line e).1);
   fault_line = λ e. elim (s.fault_line e) [
     | inl none ↦ inl (on [] none.0, none.1)
@@ -209,58 +223,77 @@ serves_on first first' Back Back' Served Served' count before count' told told' 
   port_fault = λ e. subst (λ n. Rose n count') same (s.port_fault e);
   sound = λ n m. s.sound n m ∙ same;
   doors = (s.doors.0, on s.doors.0 s.doors.1);
-  other = λ a b c. make (s.other a b c);
+  other = λ a b c. let h = s.other a b c in (h.0, make h.0 h.1, h.2);
+  front = λ e. elim (s.front e) [
+    | inl p ↦ inl (
+      on [] p.0,
+      p.1,
+      elim p.2 [ inl r ↦ inl (make p.1 r.0, r.1 ∙ same) | inr r ↦ inr (r.0, subst (λ n. Rose n count') same r.1) ],
+      p.3,
+    )
+    | inr (inl p) ↦ inr (inl (p.0 ∙ same, subst (AppendsFront told told') line p.1))
+    | inr (inr p) ↦ inr (inr (
+      subst (λ n. Rose n count') same p.0,
+      serve p.1,
+      subst (λ (l : List ℕ). AppendsFrontAfter told told' l (text_of PortFault)) line p.2,
+    ))
+  ];
   sink_fault = s.sink_fault;
   sink_kept = s.sink_kept;
 }
 
 -- The line was not put: the doors that were given came back.
 pub put_failed : {P D : Type 0} (first : List ℕ) (posts : List P) (door : P → D) (Served : Type 0) (given given' : Option (Doors D))
-    (count count' : ℕ) (told told' : Option (List ℕ)) (sunk sunk' : ℕ) (Other : Type 0) → Rises sunk sunk' → TakesAllBack given given' (map door posts)
-    → Serves first (TakesEach (length posts) given given') Served count count' told told' sunk sunk' 6 Other
-put_failed first posts door Served given given' count count' told told' sunk sunk' Other rises back = record {
+    (count count' : ℕ) (told told' : Option (List ℕ)) (sunk sunk' : ℕ) (Refusal : Outcome → Type 0) → Rises sunk sunk' → AppendsFront told told' first
+    → count' ≡ count → TakesAllBack given given' (map door posts)
+    → Serves first (TakesEach (length posts) given given') Served count count' told told' sunk sunk' 6 Refusal
+put_failed first posts door Served given given' count count' told told' sunk sunk' Refusal rises front kept back = record {
   line = λ e. absurd (omega (arith, e));
   fault_line = λ e. absurd (omega (arith, e));
   port_fault = λ e. absurd (omega (arith, e));
   sound = λ n m. absurd (n refl);
   doors = (map door posts, (length-map posts door, back));
   other = λ a b c. absurd (b refl);
+  front = λ e. inr (inl (kept, front));
   sink_fault = λ e. rises;
   sink_kept = λ n. absurd (n refl);
 }
 
 -- The line was put, and the connections of all doors were served.
 pub after_line : {D : Type 0} (first : List ℕ) (Back : List D → Type 0) (Served : Type 0) (count count' : ℕ) (told middle told' : Option (List ℕ))
-    (sunk between sunk' status : ℕ) (Other : Type 0) → Appends told middle first → between ≡ sunk → (doors : List D) → Back doors → Served
+    (sunk between sunk' status : ℕ) (Refusal : Outcome → Type 0) → Appends told middle first → between ≡ sunk → (doors : List D) → Back doors → Served
     → ((status ≡ 0) × (count' ≡ count) × (told' ≡ middle) × (sunk' ≡ between)) ⊎ (Rose count count' × Delivers PortFault middle told' between sunk' status)
-    → Serves first Back Served count count' told told' sunk sunk' status Other
-after_line first Back Served count count' told middle told' sunk between sunk' status Other line same doors back served (inl h) = record {
+    → Serves first Back Served count count' told told' sunk sunk' status Refusal
+after_line first Back Served count count' told middle told' sunk between sunk' status Refusal line same doors back served (inl h) = record {
   line = λ e. (subst (λ t. Appends told t first) (sym h.2) line, served);
   fault_line = λ e. absurd (omega (arith, e, h.0));
   port_fault = λ e. absurd (omega (arith, e, h.0));
   sound = λ a b. h.1;
   doors = (doors, back);
   other = λ a b c. absurd (a h.0);
+  front = λ e. absurd (omega (arith, e, h.0));
   sink_fault = λ e. absurd (omega (arith, e, h.0));
   sink_kept = λ a. h.3 ∙ same;
 }
-after_line first Back Served count count' told middle told' sunk between sunk' status Other line same doors back served (inr (rose, inl d)) = record {
+after_line first Back Served count count' told middle told' sunk between sunk' status Refusal line same doors back served (inr (rose, inl d)) = record {
   line = λ e. absurd (omega (arith, e, d.0));
   fault_line = λ e. inr (appends_both told middle told' first (text_of PortFault) line d.1, served);
   port_fault = λ e. rose;
   sound = λ a b. absurd (b d.0);
   doors = (doors, back);
   other = λ a b c. absurd (c d.0);
+  front = λ e. absurd (omega (arith, e, d.0));
   sink_fault = λ e. absurd (omega (arith, e, d.0));
   sink_kept = λ a. d.2 ∙ same;
 }
-after_line first Back Served count count' told middle told' sunk between sunk' status Other line same doors back served (inr (rose, inr d)) = record {
+after_line first Back Served count count' told middle told' sunk between sunk' status Refusal line same doors back served (inr (rose, inr d)) = record {
   line = λ e. absurd (omega (arith, e, d.0));
   fault_line = λ e. absurd (omega (arith, e, d.0));
   port_fault = λ e. absurd (omega (arith, e, d.0));
   sound = λ a b. absurd (a d.0);
   doors = (doors, back);
   other = λ a b c. absurd (b d.0);
+  front = λ e. inr (inr (rose, served, middle, line, d.1));
   sink_fault = λ e. subst (λ k. Rises k sunk') same d.2;
   sink_kept = λ a. absurd (a d.0);
 }
@@ -287,17 +320,15 @@ stop_apart told told' sunk sunk' status o stop (inr (takes, inr d)) (inr e) = om
 module _ {D : Type 0} (first : List ℕ) (given : Option (Doors D)) (Served : Type 0) (count : ℕ)
     (told told' : Option (List ℕ)) (sunk sunk' status : ℕ) (source : Source) (files : Which → List ℕ → Told) (rose : Which → Type 0) where
   pub refused_serves : (o : Outcome) → IsStop o → AnswersCommand (Check source) files rose o → IsPut o told told' sunk sunk' status
-      → Serves first (CameBack given given) Served count count told told' sunk sunk' status (PutsRefusal source files rose told told' status)
+      → Serves first (CameBack given given) Served count count told told' sunk sunk' status (IsRefusal source files rose)
   refused_serves o stop answers (inl d) =
-      put_alone first (CameBack given given) Served count count told told' sunk sunk' status (PutsRefusal source files rose told told' status)
+      put_alone first (CameBack given given) Served count count told told' sunk sunk' status (IsRefusal source files rose)
       o d (none_back given given refl) (elim stop [ inl s ↦ λ e. omega (arith, s, e) | inr (inl s) ↦ λ e. omega (arith, s, e) | inr (inr s) ↦ λ e. omega (arith, s, e) ])
       (elim stop [ inl s ↦ λ e. omega (arith, s, e) | inr (inl s) ↦ λ e. omega (arith, s, e) | inr (inr s) ↦ λ e. omega (arith, s, e) ])
-      (inl (elim stop [ inl s ↦ λ e. omega (arith, s, e) | inr (inl s) ↦ λ e. omega (arith, s, e) | inr (inr s) ↦ λ e. omega (arith, s, e) ], refl))
-      (λ n whole. (o, answers, whole))
+      (inl (elim stop [ inl s ↦ λ e. omega (arith, s, e) | inr (inl s) ↦ λ e. omega (arith, s, e) | inr (inr s) ↦ λ e. omega (arith, s, e) ], refl, answers))
   refused_serves o stop answers (inr d) =
-      put_alone first (CameBack given given) Served count count told told' sunk sunk' status (PutsRefusal source files rose told told' status)
-      OutOfMemory d.1 (none_back given given refl) (λ e. omega (arith, e)) (λ e. omega (arith, e)) (inl ((λ e. omega (arith, e)), refl))
-      (λ n whole. (OutOfMemory, inr (inl refl), whole))
+      put_alone first (CameBack given given) Served count count told told' sunk sunk' status (IsRefusal source files rose)
+      OutOfMemory d.1 (none_back given given refl) (λ e. omega (arith, e)) (λ e. omega (arith, e)) (inl ((λ e. omega (arith, e)), refl, inr (inl refl)))
 
 -- ---- the map that is served
 
@@ -309,19 +340,30 @@ is_loaded source told m map_of (Err o) read same sound = tt
 
 -- ---- connections that were served
 
+-- the maps of versions are planar partitions
+pub maps_planar : (versions : List Version) → All (λ m. IsPartition (base_segments m)) (map (λ v. v.built) versions)
+maps_planar [] = All-nil (λ m. IsPartition (base_segments m))
+maps_planar (v ∷ versions) =
+    All-cons (λ m. IsPartition (base_segments m)) v.built (map (λ (w : Version). w.built) versions) v.planar (maps_planar versions)
+
+-- there are as many maps as versions
+pub maps_few : (versions : List Version) (limit : ℕ) → length versions ≤ limit → length (map (λ (v : Version). v.built) versions) ≤ limit
+maps_few versions limit few = subst (λ n. n ≤ limit) (sym (length-map versions (λ (v : Version). v.built))) few
+
 module _ {D L : Type 0} (closed : D → Bool) (faults : D → ℕ) (told : D → Option (Connections L)) (link : OfLink.Ghosts L) where
   -- What became of posts whose doors were sound: of each it is told that it is closed or has failed, and that its connections are right over
   -- a list that begins with the maps from the start.
   pub serves_all : {P : Type 0} (door : P → D) (xs ys all : List P) (given given' : Option (Doors D)) (limit : ℕ) (start history : List BaseMap) (status : ℕ)
       → xs ≡ all → 1 ≤ length all → All (λ x. faults (door x) ≡ 0) all
       → EachBecame (λ x y. (closed (door y) ≡ true) ⊎ Rose (faults (door x)) (faults (door y))) xs ys → TakesAllBack given given' (map door ys)
-      → All (λ y. ((later : List BaseMap) × (history ≡ start ++ later)) × ServedRight link limit history (told (door y))) ys
+      → length history ≤ limit → All (λ m. IsPartition (base_segments m)) history
+      → All (λ y. ((later : List BaseMap) × (history ≡ start ++ later)) × ServedRight link limit history (newest_of start) (told (door y))) ys
       → (status ≡ 0) ↔ All (λ d. (closed d ≡ true) × (faults d ≡ 0)) (map door ys)
       → ServesAll closed faults told link (TakesEach (length all) given given') (length all) limit start status
-  serves_all {P} door xs ys all given given' limit start history status same some sound stopped back right end =
+  serves_all {P} door xs ys all given given' limit start history status same some sound stopped back room planar right end =
       let Stopped : P → P → Type 0 = λ (x y : P). (closed (door y) ≡ true) ⊎ Rose (faults (door x)) (faults (door y)) in
       let Later : Type 0 = (later : List BaseMap) × (history ≡ start ++ later) in
-      let Right : List BaseMap → D → Type 0 = λ (h : List BaseMap) (d : D). ServedRight link limit h (told d) in
+      let Right : List BaseMap → D → Type 0 = λ (h : List BaseMap) (d : D). ServedRight link limit h (newest_of start) (told d) in
       let number : length ys ≡ length all = each_length Stopped xs ys stopped ∙ ap length same in
       let many : length (map door ys) ≡ length all = length-map ys door ∙ number in
       let later : Later =
@@ -337,6 +379,8 @@ module _ {D L : Type 0} (closed : D → Bool) (faults : D → ℕ) (told : D →
             (subst (All (λ x. faults (door x) ≡ 0)) (sym same) sound));
         end = end;
         published = later.0;
+        room = subst (λ h. length h ≤ limit) later.1 room;
+        planar = subst (All (λ m. IsPartition (base_segments m))) later.1 planar;
         right = subst (λ h. All (Right h) (map door ys)) later.1 (All-map (Right history) door ys rights);
       }
 
@@ -351,8 +395,10 @@ module _ {D L : Type 0} (closed : D → Bool) (faults : D → ℕ) (told : D →
     stopped = s.stopped;
     end = s.end;
     published = s.published;
-    right = subst (λ l. All (λ d. ServedRight link l (start' ++ s.published) (told d)) s.doors) most
-        (subst (λ h. All (λ d. ServedRight link limit (h ++ s.published) (told d)) s.doors) same s.right);
+    room = subst (λ l. length (start' ++ s.published) ≤ l) most (subst (λ h. length (h ++ s.published) ≤ limit) same s.room);
+    planar = subst (λ h. All (λ m. IsPartition (base_segments m)) (h ++ s.published)) same s.planar;
+    right = subst (λ l. All (λ d. ServedRight link l (start' ++ s.published) (newest_of start') (told d)) s.doors) most
+        (subst (λ h. All (λ d. ServedRight link limit (h ++ s.published) (newest_of h) (told d)) s.doors) same s.right);
   }
 
   -- all doors came back; with status 0 as many as workers, each closed and none with a fault
@@ -380,14 +426,14 @@ sound_apart door closed faults (x ∷ xs) all (inr failed) =
     sound_apart door closed faults xs (All-tail (λ d. (closed d ≡ true) × (faults d ≡ 0)) (door x) (map door xs) all) failed
 
 module _ {D : Type 0} (first : List ℕ) (Back : List D → Type 0) (Served : Type 0) (count count' : ℕ)
-    (told told' : Option (List ℕ)) (sunk sunk' status : ℕ) (Other : Type 0) where
+    (told told' : Option (List ℕ)) (sunk sunk' status : ℕ) (Refusal : Outcome → Type 0) where
   -- connections were served, or there were no doors
-  pub served_or_none : Serves first Back Served count count' told told' sunk sunk' status Other → (status ≡ 0) ⊎ (status ≡ 8)
+  pub served_or_none : Serves first Back Served count count' told told' sunk sunk' status Refusal → (status ≡ 0) ⊎ (status ≡ 8)
       → ((status ≡ 8) × HasNoDoors Back told told') ⊎ ((status ≡ 8 → Appends told told' (first ++ text_of PortFault)) × Served)
   served_or_none s (inl e) = inr ((λ f. absurd (omega (arith, e, f))), (s.line e).1)
   served_or_none s (inr e) = elim (s.fault_line e) [ inl none ↦ inl (e, none) | inr p ↦ inr ((λ f. p.0), p.1) ]
 
   -- what was put with a fault of the port
-  pub fault_put : Serves first Back Served count count' told told' sunk sunk' status Other → status ≡ 8
+  pub fault_put : Serves first Back Served count count' told told' sunk sunk' status Refusal → status ≡ 8
       → Appends told told' (text_of PortFault) ⊎ Appends told told' (first ++ text_of PortFault)
   fault_put s e = elim (s.fault_line e) [ inl none ↦ inl none.1 | inr p ↦ inr p.0 ]

@@ -1,5 +1,5 @@
 -- The command that serves a map, and what comes of it.
-use Rattle.std.specs.Prelude.{◌≡◌, ◌≢◌, ◌⊎◌, ◌↔◌, ℕ, ◌+◌, ◌<◌, ◌++◌, pos, unsigned_abs, Bool, true, List, [], ◌∷◌, length, All, codes, decimal, bytes_eq, Option, Some, None, option_map, option_and_then, if◌then◌else◌}
+use Rattle.std.specs.Prelude.{◌≡◌, ◌≢◌, ◌⊎◌, ◌↔◌, ℕ, ◌+◌, ◌<◌, ◌≤◌, ◌++◌, pos, unsigned_abs, Bool, true, List, [], ◌∷◌, length, All, codes, decimal, bytes_eq, Option, Some, None, option_map, option_and_then, if◌then◌else◌}
 use Rattle.tgap_model.specs.Base.{BaseMap}
 use Rattle.tgap_model.specs.Partition.{IsPartition, base_segments}
 use Rattle.tgap_model.specs.Texts.{line, number_of}
@@ -9,9 +9,9 @@ use Rattle.plain_io.specs.Doors.{Connections}
 use Rattle.plain_io.specs.Faults.{Rises, Rose}
 use Rattle.plain_io.specs.Harbours.{Doors}
 use Rattle.plain_io.specs.Loads.{Told}
-use Rattle.plain_io.specs.Puts.{Appends}
+use Rattle.plain_io.specs.Puts.{Appends, AppendsFront}
 use Rattle.workers.specs.Closing.{TakesAllBack}
-use Rattle.map_workers.specs.Seats.{ServedRight}
+use Rattle.map_workers.specs.Seats.{newest_of, ServedRight}
 use Rattle.commands.specs.declared.outcome.Outcome.{Outcome}
 use Rattle.commands.specs.declared.outcome.Outcome.TheVariants.{PortFault}
 use Rattle.commands.specs.Outcomes.{status_of, text_of}
@@ -61,10 +61,35 @@ IsSoundMap source told = (m : BaseMap) × IsLoaded source told m
 abbrev pub IsStop : Outcome → Type 0
 IsStop outcome = (status_of outcome ≡ 3) ⊎ ((status_of outcome ≡ 4) ⊎ (status_of outcome ≡ 7))
 
--- The outcome is one that the check of this map has where it does not pass, or memory is wanting. It is put whole.
+-- the outcome is one that the check of this map has where it does not pass, or memory is wanting
+abbrev pub IsRefusal : Source → (Which → List ℕ → Told) → (Which → Type 0) → Outcome → Type 0
+IsRefusal source told rose outcome = AnswersCommand (Check source) told rose outcome
+
+-- one of these outcomes is put whole
+abbrev pub PutsOne : (Outcome → Type 0) → Option (List ℕ) → Option (List ℕ) → ℕ → Type 0
+PutsOne Refusal old new status = (outcome : Outcome) × Refusal outcome × PutsWhole outcome old new status
+
 abbrev pub PutsRefusal : Source → (Which → List ℕ → Told) → (Which → Type 0) → Option (List ℕ) → Option (List ℕ) → ℕ → Type 0
-PutsRefusal source told rose old new status =
-    (outcome : Outcome) × AnswersCommand (Check source) told rose outcome × PutsWhole outcome old new status
+PutsRefusal source told rose = PutsOne (IsRefusal source told rose)
+
+-- ---- a put that failed
+
+-- A front is put of one of these outcomes, or of the port's fault, of which the count tells.
+abbrev pub PutsFrontOfRefusal : (Outcome → Type 0) → ℕ → ℕ → Option (List ℕ) → Option (List ℕ) → Type 0
+PutsFrontOfRefusal Refusal count count' old new =
+    (outcome : Outcome) × ((Refusal outcome × (count' ≡ count)) ⊎ ((outcome ≡ PortFault) × Rose count count')) × AppendsFront old new (text_of outcome)
+
+-- the first text is put, and then a front of the second
+abbrev pub AppendsFrontAfter : Option (List ℕ) → Option (List ℕ) → List ℕ → List ℕ → Type 0
+AppendsFrontAfter old new first second = (middle : Option (List ℕ)) × Appends old middle first × AppendsFront middle new second
+
+-- What is put where a put fails: a front of a refusal, before there are doors or in the place of them; a front of the line, and no door has
+-- failed; or the line and a front of the port's fault, after connections were served.
+abbrev pub PutsFront : {D : Type 0} → List ℕ → (List D → Type 0) → Type 0 → (Outcome → Type 0) → ℕ → ℕ → Option (List ℕ) → Option (List ℕ) → Type 0
+PutsFront first Back Served Refusal count count' told told' =
+    (Back [] × PutsFrontOfRefusal Refusal count count' told told')
+    ⊎ (((count' ≡ count) × AppendsFront told told' first)
+    ⊎ (Rose count count' × Served × AppendsFrontAfter told told' first (text_of PortFault)))
 
 -- so many doors more were given
 abbrev pub Gave : {D : Type 0} → ℕ → Option (Doors D) → Option (Doors D) → Type 0
@@ -81,8 +106,9 @@ TakesEach n old new doors = (length doors ≡ n) × TakesAllBack old new doors
 -- What came of serving connections at doors, where `start` are the maps of the versions that were there before, `Back` says which doors were
 -- given and came back, `told` tells of a door which links came and were handed back, and `limit` is the number of versions that there may
 -- be. As many doors as workers came back, and each is closed or has failed. The status is 0 exactly where each is closed and none has
--- failed. There is one list of versions for all of them: those from the start, and then those that were published. Over this list each
--- connection of each door is right, and each link that came was handed back.
+-- failed. There is one list of versions for all of them: those from the start, and then those that were published. There are no more of
+-- them than there may be, and the map of each is a planar partition. Over this list each connection of each door is right, and each link
+-- that came was handed back.
 pub record ServesAll {D L : Type 0} (closed : D → Bool) (faults : D → ℕ) (told : D → Option (Connections L)) (link : OfLink.Ghosts L)
     (Back : List D → Type 0) (workers limit : ℕ) (start : List BaseMap) (status : ℕ) : Type 0 where
   pub doors : List D
@@ -91,23 +117,26 @@ pub record ServesAll {D L : Type 0} (closed : D → Bool) (faults : D → ℕ) (
   pub stopped : All (λ door. (closed door ≡ true) ⊎ (0 < faults door)) doors
   pub end : (status ≡ 0) ↔ All (λ door. (closed door ≡ true) × (faults door ≡ 0)) doors
   pub published : List BaseMap
-  pub right : All (λ door. ServedRight link limit (start ++ published) (told door)) doors
+  pub room : length (start ++ published) ≤ limit
+  pub planar : All (λ m. IsPartition (base_segments m)) (start ++ published)
+  pub right : All (λ door. ServedRight link limit (start ++ published) (newest_of start) (told door)) doors
 
 -- No doors could be given: none came back, and the port's fault alone is told.
 abbrev pub HasNoDoors : {D : Type 0} → (List D → Type 0) → Option (List ℕ) → Option (List ℕ) → Type 0
 HasNoDoors Back told told' = Back [] × Appends told told' (text_of PortFault)
 
 -- What came of serving, where `first` is the line that tells the port, `Back` says which doors were given and came back, `Served` tells of
--- the connections at them, and the other statuses say what `Other` does. Status 0: that line was put, and connections were served. Status 8:
--- the count of the harbour rose, and no doors could be given, or one of them failed after the line. In any case all doors that were given
--- came back.
+-- the connections at them, and the other statuses are of an outcome that is a `Refusal`. Status 0: that line was put, and connections were
+-- served. Status 8: the count of the harbour rose, and no doors could be given, or one of them failed after the line. Status 6: a put
+-- failed, and a front of one of these texts is there. In any case all doors that were given came back.
 pub record Serves {D : Type 0} (first : List ℕ) (Back : List D → Type 0) (Served : Type 0) (count count' : ℕ) (told told' : Option (List ℕ))
-    (sunk sunk' status : ℕ) (Other : Type 0) : Type 0 where
+    (sunk sunk' status : ℕ) (Refusal : Outcome → Type 0) : Type 0 where
   pub line : status ≡ 0 → Appends told told' first × Served
   pub fault_line : status ≡ 8 → HasNoDoors Back told told' ⊎ (Appends told told' (first ++ text_of PortFault) × Served)
   pub port_fault : status ≡ 8 → Rose count count'
   pub sound : status ≢ 6 → status ≢ 8 → count' ≡ count
   pub doors : (doors : List D) × Back doors
-  pub other : status ≢ 0 → status ≢ 6 → status ≢ 8 → Other
+  pub other : status ≢ 0 → status ≢ 6 → status ≢ 8 → PutsOne Refusal told told' status
+  pub front : status ≡ 6 → PutsFront first Back Served Refusal count count' told told'
   pub sink_fault : status ≡ 6 → Rises sunk sunk'
   pub sink_kept : status ≢ 6 → sunk' ≡ sunk

@@ -13,7 +13,7 @@ ghost use Rattle.commands.specs.Asked.{source_of};
 ghost use Rattle.commands.specs.Answers.{AnswersCommand, Failed, KeepCounts, LeavesKind};
 ghost use Rattle.commands.specs.Check.{IsFirstFault};
 ghost use Rattle.serving.specs.Asked.{serving_of};
-ghost use Rattle.serving.specs.Serving.{number_to, serve_command, serve_words, serving_text, CameBack, IsLoaded, IsSoundMap, IsStop, PutsRefusal, Serves, ServesAll};
+ghost use Rattle.serving.specs.Serving.{number_to, serve_command, serve_words, serving_text, CameBack, IsLoaded, IsRefusal, IsSoundMap, IsStop, Serves, ServesAll};
 
 use crate::serve_store::serve_store;
 use base_check::check;
@@ -108,7 +108,7 @@ where
         × ServesAll H.Gate.closed H.Gate.faults H.Gate.told H.Gate.Line.Link (CameBack (H.told harbour.old) (H.told harbour.new))
         serving.entry.workers serving.entry.versions (m ∷ []) result)
         (H.faults harbour.old) (H.faults harbour.new) (K.told out.old) (K.told out.new) (K.faults out.old) (K.faults out.new) result
-        (PutsRefusal (source_of serving.entry.map) (F.told files.old) (Failed (F.faults files.old) (F.faults files.new)) (K.told out.old) (K.told out.new) result) }
+        (IsRefusal (source_of serving.entry.map) (F.told files.old) (Failed (F.faults files.old) (F.faults files.new))) }
     ensures sound { (result ≡ 0) ⊎ (result ≡ 8) → IsSoundMap (source_of serving.entry.map) (F.told files.old) }
     ensures loads_kept { result ≢ 3 → result ≢ 6 → (kind : Kind) → F.faults files.new kind ≡ F.faults files.old kind }
     ensures kinds_kept { (kind : Kind) → LeavesKind (files_of_map (source_of serving.entry.map)) kind
@@ -173,6 +173,7 @@ fn store_of_built(
 ) -> Result<Fresh<Version>, Memory>
     requires some { (1 ≤ workers) × (1 ≤ versions) }
     requires few { (workers ≤ 16) × (versions ≤ 64) }
+    requires planar { IsPartition (base_segments built) }
     ensures places { IfOk result (λ store. fresh_places store ≡ workers) }
     ensures limit { IfOk result (λ store. fresh_limit store ≡ versions) }
     ensures first { IfOk result (λ store. (fresh_first store).built ≡ built) }

@@ -8,7 +8,7 @@ ghost use Rattle.version_store.specs.Store.{fresh_store, fresh_first, fresh_limi
 ghost use Rattle.workers.specs.Closing.{MayTakeBack, TakesAllBack, OneFailed, NoneFailed};
 ghost use Rattle.map_workers.specs.Seats.{press_maps, SeesAll};
 ghost use Rattle.commands.specs.declared.outcome.Outcome.TheVariants as outcome;
-ghost use Rattle.commands.specs.Delivery.{Delivers, PutsWhole};
+ghost use Rattle.commands.specs.Delivery.{Delivers};
 ghost use Rattle.serving.specs.Serving.{serving_text, CameBack, TakesEach, Gave, Serves, ServesAll};
 
 use commands::{Outcome, SINK_FAULT};
@@ -49,7 +49,7 @@ where
         (ServesAll H.Gate.closed H.Gate.faults H.Gate.told H.Gate.Line.Link (CameBack (H.told harbour.old) (H.told harbour.new))
         (fresh_places store) (fresh_limit store) ((fresh_first store).built ∷ []) result)
         (H.faults harbour.old) (H.faults harbour.new) (K.told out.old) (K.told out.new) (K.faults out.old) (K.faults out.new) result
-        (PutsWhole outcome.OutOfMemory (K.told out.old) (K.told out.new) result) }
+        (λ o. o ≡ outcome.OutOfMemory) }
 {
     match open_service::<N, R, H>(rt, alloc, store, port, harbour) {
         Ok(service) => serve_posts(rt, alloc, service, out, harbour),
@@ -172,7 +172,7 @@ where
         (TakesEach (length service.posts.items) (H.told harbour.old) (H.told harbour.new))
         (length service.posts.items) (press_limit service.press) (press_maps service.press) result)
         (H.faults harbour.old) (H.faults harbour.new) (K.told out.old) (K.told out.new) (K.faults out.old) (K.faults out.new) result
-        (PutsWhole outcome.OutOfMemory (K.told out.old) (K.told out.new) result) }
+        (λ o. o ≡ outcome.OutOfMemory) }
 {
     let Service { press, posts, line } = service;
     match out.put(line.as_slice()) {

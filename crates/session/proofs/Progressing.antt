@@ -2,11 +2,9 @@
 use Rattle.std.proofs.Common.{◌≡◌, ℕ, suc, ◌+◌, ◌<◌, Bool, false, List, [], ◌∷◌, ◌++◌, length, flat_map, Option, Some, None, IfSome, Result, Ok, All, sym, ap, ◌∙◌, subst, arith, append_assoc, add_assoc, zero-add, length-append}
 use Rattle.std.proofs.lemmas.List.{append-nil}
 use Rattle.std.proofs.lemmas.List.Elements.{All-push}
-use Rattle.std.proofs.lemmas.Option.{slice_get_within}
 use Rattle.std.proofs.lemmas.Grind.{flat_map-append}
 use Rattle.tgap_model.specs.Base.{BaseMap}
 use Rattle.session.specs.declared.row.Row.{Row}
-use Rattle.session.specs.declared.row.Row.TheVariants.{Read, Pinned, SeenPinned, Behind, Refused, Published, Stale, Full, NoMemory}
 use Rattle.session.specs.declared.answer.Answer.{Answer}
 use Rattle.version_store.specs.declared.pin.Pin.{Pin}
 use Rattle.map_version.specs.declared.version.Version.{Version}
@@ -17,7 +15,7 @@ use Rattle.session.specs.Versions.{Seen, Continues}
 use Rattle.session.specs.Turns.{publishes}
 use Rattle.session.specs.Progress.{Progress, Exchange, Noted, IsGoing, items_of, published_count, tells_behind, ToldEnough}
 use Rattle.session.proofs.Kept.{no_shorter}
-use Rattle.session.proofs.Talks.{outcomes_longer, replies_longer, standing_more, outcomes_more, replies_more, count_more, sum_more, map_more}
+use Rattle.session.proofs.Talks.{known_within, outcomes_longer, replies_longer, standing_more, outcomes_more, replies_more, count_more, sum_more, map_more}
 
 -- what came in or went out once, and then again
 pub follows_more : (a b c : Option (List ℕ)) (x y : List ℕ) → Follows a b x → Follows b c y → Follows a c (x ++ y)
@@ -38,19 +36,6 @@ continues_more a b c p q = record {
   limit = q.limit ∙ p.limit;
   tellings = λ n. (let x = p.tellings n in let y = q.tellings n in omega arith);
 }
-
--- what the client knows afterwards is in the list
-known_within : (row : Row) (limit : ℕ) (h : List BaseMap) (s : Standing) (item : Item) (n : ℕ) → s.known < length h
-    → Holds row limit h s (asked_of item) n → (next s (record { item = item; number = n; row = row })).known < length h
-known_within Pinned limit h s item n k (is, i) = (let x = i.there in omega arith)
-known_within SeenPinned limit h s item n k (seen, body, is, i, le) = (let x = i.there in omega arith)
-known_within Behind limit h s item n k (seen, body, is, i, lt) = (let x = i.there in omega arith)
-known_within Published limit h s item n k (made, i, there, step, above, room) = (let x = slice_get_within h n made there in omega arith)
-known_within Stale limit h s item n k (made, i, above, news) = (let x = news.there in omega arith)
-known_within Read limit h s item n k o = k
-known_within Refused limit h s item n k o = k
-known_within Full limit h s item n k o = k
-known_within NoMemory limit h s item n k o = k
 
 -- the reply of a row is what was sent
 pub reply_is : (h : List BaseMap) (s : Standing) (count : ℕ) (t : Turn) (a : Answer) → answer_of t.row h s.pin (asked_of t.item) t.number ≡ Some a

@@ -8,7 +8,7 @@ use Rattle.std.specs.Option.{option_and_then}
 use Rattle.tgap_model.specs.Base.{BaseMap}
 use Rattle.session.specs.declared.row.Row.{Row}
 use Rattle.session.specs.declared.row.Row.TheVariants.{Read, Pinned, SeenPinned, Behind, Refused, Published, Stale, Full, NoMemory}
-use Rattle.session.specs.Items.{Asked, asked_of}
+use Rattle.session.specs.Items.{Item, Asked, asked_of}
 use Rattle.session.specs.Answers.{read_answer}
 use Rattle.session.specs.Outcomes.{Standing, Turn, next, standing, pin_after, IsGoodEdit, IsNews, Holds, answer_of, edit_answer, Outcomes, replies, reply_in, sent, is_final}
 use Rattle.session.proofs.Kept.{get_longer}
@@ -77,6 +77,25 @@ pin_within Refused limit h s asked n p o = p
 pin_within Stale limit h s asked n p o = p
 pin_within Full limit h s asked n p o = p
 pin_within NoMemory limit h s asked n p o = p
+
+-- what the client knows afterwards is in the list
+pub known_within : (row : Row) (limit : ℕ) (h : List BaseMap) (s : Standing) (item : Item) (n : ℕ) → s.known < length h
+    → Holds row limit h s (asked_of item) n → (next s (record { item = item; number = n; row = row })).known < length h
+known_within Pinned limit h s item n k (is, i) = (let x = i.there in omega arith)
+known_within SeenPinned limit h s item n k (seen, body, is, i, le) = (let x = i.there in omega arith)
+known_within Behind limit h s item n k (seen, body, is, i, lt) = (let x = i.there in omega arith)
+known_within Published limit h s item n k (made, i, there, step, above, room) = (let x = slice_get_within h n made there in omega arith)
+known_within Stale limit h s item n k (made, i, above, news) = (let x = news.there in omega arith)
+known_within Read limit h s item n k o = k
+known_within Refused limit h s item n k o = k
+known_within Full limit h s item n k o = k
+known_within NoMemory limit h s item n k o = k
+
+pub known_is_there : (limit : ℕ) (h : List BaseMap) (s : Standing) (turns : List Turn) → s.known < length h → Outcomes limit h s turns
+    → (standing s turns).known < length h
+known_is_there limit h s [] k o = k
+known_is_there limit h s (t ∷ turns) k (holds, o) =
+    known_is_there limit h (next s t) turns (known_within t.row limit h s t.item t.number k holds) o
 
 pub outcomes_longer : (limit : ℕ) (h more : List BaseMap) (s : Standing) (turns : List Turn) → s.pin < length h
     → Outcomes limit h s turns → Outcomes limit (h ++ more) s turns

@@ -26,6 +26,7 @@ returns-in-None g c =
       serve_kinds_kept = λ s e. absurd (unserved _ s none e);
       serve_line = λ s e. absurd (unserved _ s none e);
       serve_fault_line = λ s e. absurd (unserved _ s none e);
+      serve_front = λ s e. absurd (unserved _ s none e);
       doors = λ s e. absurd (unserved _ s none e);
       connections = λ s e. absurd (unserved _ s none e);
       port_fault = λ e. absurd (eight_apart p e);
@@ -58,6 +59,7 @@ returns-in-Some g c =
       serve_kinds_kept = λ a asked. rw (same_command _ _ a some asked) e.kinds_kept;
       serve_line = λ a asked. rw (same_command _ _ a some asked) (λ zero. (s.line zero).0);
       serve_fault_line = λ a asked. rw (same_command _ _ a some asked) (fault_put _ _ _ _ _ _ _ _ _ _ _ s);
+      serve_front = λ a asked. rw (same_command _ _ a some asked) s.front;
       doors = λ a asked. rw (same_command _ _ a some asked) (doors_back g.H.Gate.Door.closed g.H.Gate.Door.faults g.H.Gate.Door.told g.H.Gate.Line.Link
           _ _ _ _ c.run_serve.result s.doors (λ zero. (s.line zero).1));
       connections = λ a asked. rw (same_command _ _ a some asked) (served_or_none _ _ _ _ _ _ _ _ _ _ _ s);

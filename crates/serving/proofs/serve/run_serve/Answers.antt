@@ -1,13 +1,12 @@
 use Rattle.std.proofs.Common.{refl, inl, inr}
 use Rattle.version_store.specs.Store.{fresh_first}
-use Rattle.commands.specs.declared.outcome.Outcome.TheVariants.{OutOfMemory}
 use Rattle.serving.proofs.Servings.{serves_on, serves_all_on, refused_serves, stop_apart}
 use Rattle.serving.proofs.serve.run_serve.Goals as goal
 
 pub returns-in-Ok-clause-serves : goal.returns-in-Ok-clause-serves
 returns-in-Ok-clause-serves g c =
     let e = c.in-Ok.ensures in
-    serves_on _ _ _ _ _ _ _ _ _ _ _ _ _ _ _ _ (λ whole. (OutOfMemory, inr (inl refl), whole))
+    serves_on _ _ _ _ _ _ _ _ _ _ _ _ _ _ _ _ (λ o is. inr (inl is))
     (λ all. (
       (fresh_first c.in-Ok.store).built,
       e.first,

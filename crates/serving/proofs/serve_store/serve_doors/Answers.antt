@@ -1,4 +1,4 @@
-use Rattle.std.proofs.Common.{◌≡◌, ◌∙◌, map, inl, inr, refl, sym, subst, All}
+use Rattle.std.proofs.Common.{◌≡◌, ◌≤◌, ◌∙◌, length, map, inl, inr, refl, sym, subst, All}
 use Rattle.plain_io.specs.Doors.{NoneCame}
 use Rattle.version_store.specs.Growth.{IsPrefix}
 use Rattle.version_store.specs.Store.{seat_versions, press_versions, press_limit}
@@ -6,7 +6,7 @@ use Rattle.workers.specs.Closing.{TakesAllBack, OneFailed, NoneFailed}
 use Rattle.workers.specs.declared.end.ServeEnd.TheVariants.{Closed, DoorFailed}
 use Rattle.map_workers.specs.Seats.{press_maps, SeesAll}
 use Rattle.map_workers.proofs.Seats.{posts_right}
-use Rattle.serving.proofs.Servings.{each_length, written_back, serves_all, doors_sound, none_failed, one_failed, not_zero, sound_apart}
+use Rattle.serving.proofs.Servings.{each_length, written_back, serves_all, maps_few, maps_planar, doors_sound, none_failed, one_failed, not_zero, sound_apart}
 use Rattle.serving.proofs.serve_store.serve_doors.Goals as goal
 
 pub returns-in-Closed-clause-all : goal.returns-in-Closed-clause-all
@@ -26,9 +26,13 @@ returns-in-Closed-clause-all g c =
     (subst (λ xs. All (λ post. NoneCame (g.H.Gate.Door.told post.door)) xs) value c.requires.empty)
     (subst (λ xs. All (λ post. SeesAll c.args.press post.seat) xs) value c.requires.seats)
     (subst (λ ps. All (λ post. IsPrefix (seat_versions post.seat) (press_versions c.into_inner.result)) ps) same c.hand_back.ensures.gathered) in
+    let room =
+    maps_few (press_versions c.into_inner.result) (press_limit c.args.press)
+    (subst (λ n. length (press_versions c.into_inner.result) ≤ n) (c.into_inner.result.of_store.2 ∙ sym c.args.press.of_store.2)
+    (rw c.into_inner.result.counted.0 c.into_inner.result.counted.1)) in
     serves_all g.H.Gate.Door.closed g.H.Gate.Door.faults g.H.Gate.Door.told g.H.Gate.Line.Link (λ post. post.door) _ _ c.args.posts.items _ _
     (press_limit c.args.press) (press_maps c.args.press) (press_maps c.into_inner.result) 0 c.as_mut_slice.ensures.value c.requires.some c.requires.sound
-    i.stopped back right
+    i.stopped back room (maps_planar (press_versions c.into_inner.result)) right
     ((λ e. doors_sound (λ post. post.door) g.H.Gate.Door.closed g.H.Gate.Door.faults _ (i.closed refl) none), (λ all. refl))
 
 pub returns-in-Closed-clause-end : goal.returns-in-Closed-clause-end
@@ -59,9 +63,13 @@ returns-in-DoorFailed-clause-all g c =
     (subst (λ xs. All (λ post. NoneCame (g.H.Gate.Door.told post.door)) xs) value c.requires.empty)
     (subst (λ xs. All (λ post. SeesAll c.args.press post.seat) xs) value c.requires.seats)
     (subst (λ ps. All (λ post. IsPrefix (seat_versions post.seat) (press_versions c.into_inner.result)) ps) same c.hand_back.ensures.gathered) in
+    let room =
+    maps_few (press_versions c.into_inner.result) (press_limit c.args.press)
+    (subst (λ n. length (press_versions c.into_inner.result) ≤ n) (c.into_inner.result.of_store.2 ∙ sym c.args.press.of_store.2)
+    (rw c.into_inner.result.counted.0 c.into_inner.result.counted.1)) in
     serves_all g.H.Gate.Door.closed g.H.Gate.Door.faults g.H.Gate.Door.told g.H.Gate.Line.Link (λ post. post.door) _ _ c.args.posts.items _ _
     (press_limit c.args.press) (press_maps c.args.press) (press_maps c.into_inner.result) c.put.result c.as_mut_slice.ensures.value c.requires.some
-    c.requires.sound i.stopped back right (
+    c.requires.sound i.stopped back room (maps_planar (press_versions c.into_inner.result)) right (
       (λ e. absurd (not_zero _ _ _ _ _ c.put.ensures e)),
       (λ all. absurd (sound_apart (λ post. post.door) g.H.Gate.Door.closed g.H.Gate.Door.faults _ all failed)),
     )

@@ -1,6 +1,6 @@
 use Rattle.std.proofs.Common.{subst}
-use Rattle.plain_io.specs.Puts.{Appends}
-use Rattle.serving.proofs.Servings.{after_line, put_failed}
+use Rattle.plain_io.specs.Puts.{Appends, AppendsFront}
+use Rattle.serving.proofs.Servings.{after_line, none_faulty, put_failed}
 use Rattle.serving.proofs.serve_store.serve_posts.Goals as goal
 
 pub returns-in-Ok : goal.returns-in-Ok
@@ -11,4 +11,7 @@ returns-in-Ok g c =
 
 pub returns : goal.returns
 returns g c =
-    put_failed c.args.service.line c.args.service.posts.items (λ post. post.door) _ _ _ _ _ _ _ _ _ _ c.in-Err.ensures.faults c.hand_back.ensures.back
+    let sound = none_faulty (λ post. g.H.Gate.Door.faults post.door) c.args.service.posts.items c.requires.sound in
+    put_failed c.args.service.line c.args.service.posts.items (λ post. post.door) _ _ _ _ _ _ _ _ _ _ c.in-Err.ensures.faults
+    (subst (λ bytes. AppendsFront (g.K.Sink.told c.args.out.now) (g.K.Sink.told c.put.new.self) bytes) c.as_slice.ensures c.in-Err.ensures.bytes)
+    (c.hand_back.ensures.sound sound) c.hand_back.ensures.back

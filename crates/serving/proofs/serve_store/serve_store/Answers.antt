@@ -1,4 +1,4 @@
-use Rattle.std.proofs.Common.{◌∙◌, sym, ap, subst, map}
+use Rattle.std.proofs.Common.{◌∙◌, refl, sym, ap, subst, map}
 use Rattle.workers.specs.Closing.{MayTakeBack}
 use Rattle.serving.proofs.Servings.{serves_on, serves_all_on, came_back, none_back, room_back, without_doors}
 use Rattle.serving.proofs.serve_store.serve_store.Goals as goal
@@ -12,7 +12,7 @@ serve_posts-requires-clause-given g c κs within =
 pub returns-in-Ok : goal.returns-in-Ok
 returns-in-Ok g c =
     let e = c.in-Ok.ensures in
-    serves_on _ _ _ _ _ _ _ _ _ _ _ _ _ _ _ _ (λ whole. whole)
+    serves_on _ _ _ _ _ _ _ _ _ _ _ _ _ _ _ _ (λ o is. is)
     (serves_all_on g.H.Gate.Door.closed g.H.Gate.Door.faults g.H.Gate.Door.told g.H.Gate.Line.Link _ _ _ _ _ _ _ _ _
     (λ doors b. came_back _ _ _ _ doors (b.0 ∙ e.number) e.given b.1) e.number e.limit (ap (λ versions. map (λ v. v.built) versions) e.first))
     e.line e.kept (λ doors b. came_back _ _ _ _ doors (b.0 ∙ e.number) e.given b.1) c.serve_posts.ensures
@@ -20,4 +20,4 @@ returns-in-Ok g c =
 pub returns-in-Err : goal.returns-in-Err
 returns-in-Err g c =
     let e = c.in-Err.ensures in
-    without_doors _ _ _ _ _ _ _ _ _ _ _ c.in-Err.outcome c.put.ensures (none_back _ _ e.none) e.refused (λ whole. whole)
+    without_doors _ _ _ _ _ _ _ _ _ _ _ c.in-Err.outcome c.put.ensures (none_back _ _ e.none) e.refused refl
