@@ -363,6 +363,13 @@ module _ (k : ℕ) (g : Growth) (w : IsStored k g) (places : List ℕ) (m : Meet
       ]
       | inr e ↦ inr (ap (λ (e : ForestEdge). e.high) (last_is i e))
     ];
+    order = λ i l. elim (edge_cases i l) [
+      | inl s ↦ elim (kept i s) [
+        | inl u ↦ omega (arith, w.low i s, ap (λ (e : ForestEdge). e.low) u.1, ap (λ (e : ForestEdge). e.high) u.1)
+        | inr u ↦ omega (arith, w.order i s, ap (λ (e : ForestEdge). e.low) u.2, ap (λ (e : ForestEdge). e.high) u.2)
+      ]
+      | inr e ↦ omega (arith, less, ap (λ (e : ForestEdge). e.low) (last_is i e), ap (λ (e : ForestEdge). e.high) (last_is i e))
+    ];
     rows = new_row_of;
     labels = new_labels;
     of_edges = of_edges;

@@ -216,6 +216,13 @@ module _ (g : Growth) (low : ℕ) (s : MergeStep) (some : 0 < low) (within : low
         | inr e ↦ inl (omega (arith, ap (λ (c : ForestEdge). c.high) e.1))
       ]
 
+      pub settled_order : (i : ℕ) → i < length edges → (edge_at edges i).low ≤ (edge_at edges i).high
+      settled_order i l = elim (w.edges i l) [
+        | inl e ↦ rw e (rest.stored.order i (omega (arith, l, w.edge_count)))
+        | inr e ↦
+            omega (arith, rest.stored.low i (omega (arith, l, w.edge_count)), ap (λ (c : ForestEdge). c.low) e.1, ap (λ (c : ForestEdge). c.high) e.1)
+      ]
+
       pub settled_past : (j : ℕ) → j < low → map (chain_of edges) (alive_edges edges j) ≡ chains_at (merged g.base) j
       settled_past j less = same_alive_chains low g.edges.items edges w.edge_count w.edges step_small j less ∙ elim (cases_eq j (low - 1)) [
         | inl e ↦ rw e rest.alive
@@ -248,6 +255,7 @@ module _ (g : Growth) (low : ℕ) (s : MergeStep) (some : 0 < low) (within : low
           edges = λ i l. same_edge low g.edges.items g'.edges.items w.edge_count w.edges (merged g.base) i l (rest.stored.edges i (omega (arith, l, w.edge_count)));
           low = settled_low (rows_of g') g'.edges.items touched w;
           high = settled_high (rows_of g') g'.edges.items touched w;
+          order = settled_order (rows_of g') g'.edges.items touched w;
           rows = settled_rows (rows_of g') g'.edges.items touched w;
           labels = settled_labels (rows_of g') g'.edges.items touched w g'.faces.items made others;
           of_edges = w.of_edges;

@@ -60,6 +60,7 @@ pub record IsStoredOf (k : ℕ) (base_map : BaseMap) (all : Nodes) (current : Li
   pub edges : (i : ℕ) → i < length made → IsForestEdge (merged base_map) made i
   pub low : (i : ℕ) → i < length made → (edge_at made i).low ≤ k
   pub high : (i : ℕ) → i < length made → ((edge_at made i).high ≤ k) ⊎ ((edge_at made i).high ≡ never)
+  pub order : (i : ℕ) → i < length made → (edge_at made i).low ≤ (edge_at made i).high
   pub rows : AreRows (chains_of made) current
   pub labels : (i : ℕ) (r : Current) → row_at current i ≡ Some r → IsLabelled (merged base_map) k lists i r
   pub of_edges : (i : ℕ) (r : Current) → row_at current i ≡ Some r → IsOfEdge made i r
