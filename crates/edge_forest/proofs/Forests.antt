@@ -1,7 +1,7 @@
 -- What is known of a forest, from its growth.
 use Rattle.std.proofs.Common.{◌≡◌, ◌≢◌, inl, inr, ℕ, ◌+◌, ◌-◌, ◌<◌, ◌≤◌, ◌^◌, ◌==◌, ◌&&◌, nat_le, nat_lt, Bool, true, false, cond, List, [], ◌∷◌, map, filter, length, get_or, Contains, refl, sym, ap, ap₂, ◌∙◌, subst, arith}
 use Rattle.std.specs.List.{All, range_with_len}
-use Rattle.std.proofs.lemmas.Bool.{cases_eq, and_parts, eqb-true, eq-eqb, leb-true, lt-ltb, ltb-true, true≢false}
+use Rattle.std.proofs.lemmas.Bool.{cases_eq, cases_order, and_parts, eqb-true, eq-eqb, leb-true, lt-ltb, ltb-true, true≢false}
 use Rattle.std.proofs.lemmas.List.{length-map, get_or-map}
 use Rattle.std.proofs.lemmas.List.Elements.{All-filter}
 use Rattle.lemmas.specs.Sorting.{is_sorted_by}
@@ -21,7 +21,7 @@ use Rattle.edge_forest.specs.declared.edge.ForestEdge.{ForestEdge}
 use Rattle.edge_forest.specs.declared.growth.Growth.{Growth}
 use Rattle.edge_forest.specs.Edges.{edge_at, chains_of, chain_of, is_alive, alive_edges, IsPart}
 use Rattle.edge_forest.specs.Forest.{EdgeForest, never, last_step, AreChains, IsForest}
-use Rattle.edge_forest.specs.Growth.{ended, IsAtRest, IsFew}
+use Rattle.edge_forest.specs.Growth.{ended, IsStored, IsAtRest, IsFew}
 use Rattle.edge_forest.specs.Kept.{forest_of, IsKept, closed_edge}
 use Rattle.edge_forest.specs.Removed.{PointSteps, arc_points, step_of}
 use Rattle.edge_forest.proofs.Chains.{same_parts}
@@ -30,6 +30,19 @@ use Rattle.edge_forest.proofs.Few.{few_small}
 use Rattle.edge_forest.proofs.Rested.{among_in_range}
 
 -- ---- at rest
+
+-- no two edges have one chain: of two with one key the later one is longer
+chains_differ : (made : ℕ) (g : Growth) → IsStored made g → (i j : ℕ) → i < length g.edges.items → j < length g.edges.items
+    → chain_of g.edges.items i ≡ chain_of g.edges.items j → i ≡ j
+chains_differ made g w i j l m e =
+    let keys : (edge_at g.edges.items i).key ≡ (edge_at g.edges.items j).key = (w.edges i l).key ∙ ap key e ∙ sym (w.edges j m).key in
+    elim (cases_order i j) [
+      | inl s ↦ s
+      | inr o ↦ elim o [
+        | inl less ↦ absurd (omega (arith, w.longer i j less m keys, ap (λ (c : Chain). length c) e))
+        | inr less ↦ absurd (omega (arith, w.longer j i less l (sym keys), ap (λ (c : Chain). length c) e))
+      ]
+    ]
 
 pub rest_forest : (made : ℕ) (g : Growth) (t : PointSteps) → IsAtRest made g → IsForest (forest_of made false g t)
 rest_forest made g t w = record {
@@ -44,6 +57,7 @@ rest_forest made g t w = record {
     done = λ e. absurd (true≢false (sym e));
     last = λ e. absurd (true≢false (sym e));
   };
+  once = chains_differ made g w.stored;
   chains = λ k l. elim (cases_eq k made) [
     | inl e ↦ subst (λ (n : ℕ). map (chain_of g.edges.items) (alive_edges g.edges.items n) ≡ chains_at (merged g.base) n) (sym e) w.alive
     | inr ne ↦ w.stored.past k (omega (arith, l, ne))
@@ -72,6 +86,7 @@ same_forest made closed g t t' w = record {
   edges = w.edges;
   low = w.low;
   ranges = λ i l. let r = w.ranges i l in record { order = r.order; growing = r.growing; done = r.done; last = r.last };
+  once = w.once;
   chains = w.chains;
 }
 
@@ -234,6 +249,9 @@ module _ (made : ℕ) (g g' : Growth) (t : PointSteps) (w : IsForest (forest_of 
               (and_parts (nat_le (edge_at new i).low (length (history_of g.base))) (nat_lt (length (history_of g.base)) (edge_at new i).high) alive).1 in
               omega (arith, there, limit);
         };
+    once = λ i j l m e.
+        let same : (n : ℕ) → chain_of new n ≡ chain_of old n = λ n. ap (λ (cs : List Chain). get_or cs n []) chains_same in
+        w.once i j (omega (arith, l, count)) (omega (arith, m, count)) (sym (same i) ∙ e ∙ same j);
     chains = λ k l.
         longer_chains k old new (record {
           count = omega (arith, count);

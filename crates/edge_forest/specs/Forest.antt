@@ -46,8 +46,8 @@ pub record IsRange (f : EdgeForest) (e : ForestEdge) : Type 0 where
 abbrev pub AreChains : EdgeForest → ℕ → Type 0
 AreChains f k = map (chain_of f.edges) (alive_edges f.edges k) ≡ chains_at (merged f.base) k
 
--- What is known of a forest: its base map is a planar partition, each edge is one and has a range, and after any number of steps
--- that were made the edges whose range holds it are the chains.
+-- What is known of a forest: its base map is a planar partition, each edge is one and has a range, no two have one chain, and after any
+-- number of steps that were made the edges whose range holds it are the chains.
 pub record IsForest (f : EdgeForest) : Type 0 where
   pub base : IsTrue (is_base f.base)
   pub partition : IsPartition (base_segments f.base)
@@ -55,4 +55,5 @@ pub record IsForest (f : EdgeForest) : Type 0 where
   pub edges : (i : ℕ) → i < length f.edges → IsForestEdge (merged f.base) f.edges i
   pub low : (i : ℕ) → i < length f.edges → (edge_at f.edges i).low ≤ f.made
   pub ranges : (i : ℕ) → i < length f.edges → IsRange f (edge_at f.edges i)
+  pub once : (i j : ℕ) → i < length f.edges → j < length f.edges → chain_of f.edges i ≡ chain_of f.edges j → i ≡ j
   pub chains : (k : ℕ) → k ≤ f.made → AreChains f k
