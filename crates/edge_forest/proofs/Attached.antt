@@ -1,8 +1,8 @@
 -- Chains put together: their keys, directions and ends.
-use Rattle.std.proofs.Common.{◌≡◌, ◌⊎◌, inl, inr, ℕ, zero, suc, ◌+◌, ◌*◌, ◌<◌, ◌≤◌, ◌==◌, ◌||◌, Bool, true, false, not, cond, List, [], ◌∷◌, ◌++◌, length, get_or, refl, sym, ap, ◌∙◌, subst, arith}
+use Rattle.std.proofs.Common.{◌≡◌, ◌⊎◌, inl, inr, ℕ, zero, suc, ◌+◌, ◌*◌, ◌<◌, ◌≤◌, ◌==◌, ◌||◌, Bool, true, false, not, cond, List, [], ◌∷◌, ◌++◌, map, length, get_or, refl, sym, ap, ◌∙◌, subst, arith}
 use Rattle.std.proofs.lemmas.Bool.{or_left, ne_eqb, not_from_false}
 use Rattle.std.proofs.Math.Seq.{get_or-append_seam}
-use Rattle.std.proofs.lemmas.List.{get_or_append_left}
+use Rattle.std.proofs.lemmas.List.{get_or_append_left, length-append, length-map, length-reverse}
 use Rattle.tgap_model.specs.declared.geometry.Point.{Point}
 use Rattle.tgap_model.specs.declared.base.BaseArc.{BaseArc}
 use Rattle.tgap_model.specs.Chains.{first_point, last_point, arc_number, Link, Chain, link_start, link_end, chain_start, chain_end, key, is_directed, has_links, turned_round}
@@ -55,6 +55,21 @@ module _ (a b : Chain) (ha : has_links a ≡ true) (hb : has_links b ≡ true) (
 
   pub after_directed : is_directed (b ++ a) ≡ true
   after_directed = row_directed (b ++ a) after_key (λ e m. elim (append_among b a e m) [ inl n ↦ inr n | inr n ↦ inl n ])
+
+-- ---- lengths
+
+some_links : (c : Chain) → has_links c ≡ true → 0 < length c
+some_links [] h = absurd cc
+some_links (d ∷ c) h = omega arith
+
+turned_if_length : (t : Bool) (c : Chain) → length (turned_if t c) ≡ length c
+turned_if_length true c = length-reverse (map turn c) ∙ length-map c turn
+turned_if_length false c = refl
+
+-- a chain with another at an end is longer
+pub attached_longer : (ea eb : Bool) (a b : Chain) → has_links b ≡ true → length a < length (attached ea eb a b)
+attached_longer true eb a b h = omega (arith, length-append a (turned_if eb b), turned_if_length eb b, some_links b h)
+attached_longer false eb a b h = omega (arith, length-append (turned_if (not eb) b) a, turned_if_length (not eb) b, some_links b h)
 
 -- ---- arc ends
 

@@ -1,7 +1,7 @@
 -- What is known of a forest, from its growth.
 use Rattle.std.proofs.Common.{◌≡◌, ◌≢◌, inl, inr, ℕ, ◌+◌, ◌-◌, ◌<◌, ◌≤◌, ◌^◌, ◌==◌, ◌&&◌, nat_le, nat_lt, Bool, true, false, cond, List, [], ◌∷◌, map, filter, length, get_or, Contains, refl, sym, ap, ap₂, ◌∙◌, subst, arith}
 use Rattle.std.specs.List.{All, range_with_len}
-use Rattle.std.proofs.lemmas.Bool.{cases_eq, and_parts, eqb-true, leb-true, lt-ltb, true≢false}
+use Rattle.std.proofs.lemmas.Bool.{cases_eq, cases_order, and_parts, eqb-true, eq-eqb, leb-true, lt-ltb, ltb-true, true≢false}
 use Rattle.std.proofs.lemmas.List.{length-map, get_or-map}
 use Rattle.std.proofs.lemmas.List.Elements.{All-filter}
 use Rattle.lemmas.specs.Sorting.{is_sorted_by}
@@ -21,7 +21,7 @@ use Rattle.edge_forest.specs.declared.edge.ForestEdge.{ForestEdge}
 use Rattle.edge_forest.specs.declared.growth.Growth.{Growth}
 use Rattle.edge_forest.specs.Edges.{edge_at, chains_of, chain_of, is_alive, alive_edges, IsPart}
 use Rattle.edge_forest.specs.Forest.{EdgeForest, never, last_step, AreChains, IsForest}
-use Rattle.edge_forest.specs.Growth.{ended, IsAtRest, IsFew}
+use Rattle.edge_forest.specs.Growth.{ended, IsStored, IsAtRest, IsFew}
 use Rattle.edge_forest.specs.Kept.{forest_of, IsKept, closed_edge}
 use Rattle.edge_forest.specs.Removed.{PointSteps, arc_points, step_of}
 use Rattle.edge_forest.proofs.Chains.{same_parts}
@@ -31,6 +31,19 @@ use Rattle.edge_forest.proofs.Rested.{among_in_range}
 
 -- ---- at rest
 
+-- no two edges have one chain: of two with one key the later one is longer
+chains_differ : (made : ℕ) (g : Growth) → IsStored made g → (i j : ℕ) → i < length g.edges.items → j < length g.edges.items
+    → chain_of g.edges.items i ≡ chain_of g.edges.items j → i ≡ j
+chains_differ made g w i j l m e =
+    let keys : (edge_at g.edges.items i).key ≡ (edge_at g.edges.items j).key = (w.edges i l).key ∙ ap key e ∙ sym (w.edges j m).key in
+    elim (cases_order i j) [
+      | inl s ↦ s
+      | inr o ↦ elim o [
+        | inl less ↦ absurd (omega (arith, w.longer i j less m keys, ap (λ (c : Chain). length c) e))
+        | inr less ↦ absurd (omega (arith, w.longer j i less l (sym keys), ap (λ (c : Chain). length c) e))
+      ]
+    ]
+
 pub rest_forest : (made : ℕ) (g : Growth) (t : PointSteps) → IsAtRest made g → IsForest (forest_of made false g t)
 rest_forest made g t w = record {
   base = w.stored.base;
@@ -38,6 +51,13 @@ rest_forest made g t w = record {
   steps = w.stored.steps;
   edges = w.stored.edges;
   low = w.stored.low;
+  ranges = λ i l. record {
+    order = w.stored.order i l;
+    growing = λ e. w.stored.high i l;
+    done = λ e. absurd (true≢false (sym e));
+    last = λ e. absurd (true≢false (sym e));
+  };
+  once = chains_differ made g w.stored;
   chains = λ k l. elim (cases_eq k made) [
     | inl e ↦ subst (λ (n : ℕ). map (chain_of g.edges.items) (alive_edges g.edges.items n) ≡ chains_at (merged g.base) n) (sym e) w.alive
     | inr ne ↦ w.stored.past k (omega (arith, l, ne))
@@ -59,7 +79,16 @@ rest_is_kept made g t w few listed within = record {
 
 -- it is a forest with any points
 same_forest : (made : ℕ) (closed : Bool) (g : Growth) (t t' : PointSteps) → IsForest (forest_of made closed g t) → IsForest (forest_of made closed g t')
-same_forest made closed g t t' w = record { base = w.base; partition = w.partition; steps = w.steps; edges = w.edges; low = w.low; chains = w.chains }
+same_forest made closed g t t' w = record {
+  base = w.base;
+  partition = w.partition;
+  steps = w.steps;
+  edges = w.edges;
+  low = w.low;
+  ranges = λ i l. let r = w.ranges i l in record { order = r.order; growing = r.growing; done = r.done; last = r.last };
+  once = w.once;
+  chains = w.chains;
+}
 
 pub removed_is_kept : (made : ℕ) (closed : Bool) (g : Growth) (t t' : PointSteps) → IsKept made closed g t → t'.points ≡ t.points
     → ((p : Point) → step_of t' p ≤ made) → IsKept made closed g t'
@@ -169,6 +198,21 @@ module _ (made : ℕ) (g g' : Growth) (t : PointSteps) (w : IsForest (forest_of 
           ∙ sym (lt-ltb k (edge_at old i).high (omega (arith, l, less, eqb-true (edge_at old i).high never e)))
       by false e = refl
 
+  -- no edge ends later than at the end of the history, nor before it begins
+  high_within : (i : ℕ) → i < length old → ((edge_at new i).low ≤ (edge_at new i).high) × ((edge_at new i).high ≤ made + 1)
+  high_within i s = rw (new_is i s) (by ((edge_at old i).high == never) refl)
+    where
+      by : (b : Bool) → ((edge_at old i).high == never) ≡ b
+          → ((edge_at old i).low ≤ cond b (made + 1) (edge_at old i).high) × (cond b (made + 1) (edge_at old i).high ≤ made + 1)
+      by true e = (omega (arith, w.low i s), omega arith)
+      by false e = (
+        (w.ranges i s).order,
+        elim ((w.ranges i s).growing refl) [
+          | inl le ↦ omega (arith, le)
+          | inr n ↦ absurd (true≢false (sym (eq-eqb (edge_at old i).high never n) ∙ e))
+        ],
+      )
+
   pub closed_forest : IsForest (forest_of made true g' t)
   closed_forest = rw (base, edges) (record {
     base = w.base;
@@ -192,6 +236,22 @@ module _ (made : ℕ) (g g' : Growth) (t : PointSteps) (w : IsForest (forest_of 
     low = λ i l.
         let s : i < length old = omega (arith, l, count) in
         omega (arith, w.low i s, keeps (λ (e : ForestEdge). e.low) (λ h e. refl) i s);
+    ranges = λ i l.
+        let s : i < length old = omega (arith, l, count) in
+        let bounds = high_within i s in
+        let limit : (edge_at new i).high ≤ length (history_of g.base) + 1 = omega (arith, bounds.1, all) in
+        record {
+          order = bounds.0;
+          growing = λ e. absurd (true≢false e);
+          done = λ e. limit;
+          last = λ e alive.
+              let there = ltb-true (length (history_of g.base)) (edge_at new i).high
+              (and_parts (nat_le (edge_at new i).low (length (history_of g.base))) (nat_lt (length (history_of g.base)) (edge_at new i).high) alive).1 in
+              omega (arith, there, limit);
+        };
+    once = λ i j l m e.
+        let same : (n : ℕ) → chain_of new n ≡ chain_of old n = λ n. ap (λ (cs : List Chain). get_or cs n []) chains_same in
+        w.once i j (omega (arith, l, count)) (omega (arith, m, count)) (sym (same i) ∙ e ∙ same j);
     chains = λ k l.
         longer_chains k old new (record {
           count = omega (arith, count);

@@ -1,5 +1,5 @@
 -- What is stored after a join.
-use Rattle.std.proofs.Common.{◌≡◌, ◌≢◌, ◌⊎◌, inl, inr, ℕ, ◌+◌, ◌<◌, ◌&&◌, nat_le, nat_lt, Bool, true, false, not, cond, List, [], ◌∷◌, ◌++◌, length, get_or, set, Option, Some, None, refl, sym, ap, ap₂, ◌∙◌, subst, arith}
+use Rattle.std.proofs.Common.{◌≡◌, ◌≢◌, ◌⊎◌, inl, inr, ℕ, ◌+◌, ◌<◌, ◌≤◌, ◌&&◌, nat_le, nat_lt, Bool, true, false, not, cond, List, [], ◌∷◌, ◌++◌, length, get_or, set, Option, Some, None, refl, sym, ap, ap₂, ◌∙◌, subst, arith}
 use Rattle.std.specs.List.{All}
 use Rattle.std.proofs.lemmas.Bool.{cases_eq, lt-ltb, lt-leb}
 use Rattle.std.proofs.lemmas.List.{get_or-set_same, get_or-set_other, get_or_append_left, length-set, append-nil}
@@ -18,7 +18,7 @@ use Rattle.edge_forest.specs.Nodes.{places_at}
 use Rattle.edge_forest.specs.Net.{row_at, IsNetOf, IsMeeting}
 use Rattle.edge_forest.specs.Rows.{IsRow, turned_if, attached, joined_row}
 use Rattle.edge_forest.specs.Growth.{ended, edge_part, meeting_parts, IsLabelled, IsOfEdge, IsStoredOf, IsStored, IsJoinOf, IsJoinedAt}
-use Rattle.edge_forest.proofs.Attached.{new_links, new_key, new_row, row_stays}
+use Rattle.edge_forest.proofs.Attached.{attached_longer, new_links, new_key, new_row, row_stays}
 use Rattle.edge_forest.proofs.Nets.{some_same, none_some, read_within, set_reads}
 use Rattle.edge_forest.proofs.Chains.{set_chains, push_chains, chains_count}
 use Rattle.edge_forest.proofs.AliveSame.{IsLonger, longer_chains}
@@ -314,6 +314,42 @@ module _ (k : ℕ) (g : Growth) (w : IsStored k g) (places : List ℕ) (m : Meet
     ]
   ]
 
+  -- ---- the edges with one key
+
+  same_key : (i : ℕ) → i < length old → (edge_at new i).key ≡ (edge_at old i).key
+  same_key = keeps (λ (e : ForestEdge). e.key) (λ e. refl)
+
+  last_key : (i : ℕ) → i ≡ length old → (edge_at new i).key ≡ m.key
+  last_key i e = ap (λ (e : ForestEdge). e.key) (last_is i e)
+
+  -- an edge with the key of the new one is shorter
+  shorter : (i : ℕ) → i < length old → (edge_at old i).key ≡ m.key → length (chain_of old i) < length joined
+  shorter i l e =
+      let more = attached_longer m.one_ends m.other_ends (chain_of old a) (chain_of old b) (w.rows m.other_key m.other t.other).links in
+      elim (cases_eq i a) [
+        | inl s ↦ omega (arith, more, ap (λ (n : ℕ). length (chain_of old n)) s)
+        | inr ne ↦ omega (arith, more, w.longer i a (omega (arith, ne, w.latest m.key m.one t.one i l e)) of_one.id (e ∙ sym of_one.key))
+      ]
+
+  new_longer : (i j : ℕ) → i < j → j < length new → (edge_at new i).key ≡ (edge_at new j).key → length (chain_of new i) < length (chain_of new j)
+  new_longer i j below l e = elim (edge_cases j l) [
+    | inl s ↦
+        let i_in : i < length old = omega (arith, below, s) in
+        rw (old_chain i i_in, old_chain j s) (w.longer i j below s (sym (same_key i i_in) ∙ e ∙ same_key j s))
+    | inr s ↦
+        let i_in : i < length old = omega (arith, below, s) in
+        rw (old_chain i i_in, last_chain j s) (shorter i i_in (sym (same_key i i_in) ∙ e ∙ last_key j s))
+  ]
+
+  new_latest : (i : ℕ) (r : Current) → row_at new_rows i ≡ Some r → (j : ℕ) → j < length new → (edge_at new j).key ≡ i → j ≤ r.id
+  new_latest i r e j l k = elim (row_cases i r e) [
+    | inl u ↦ omega (arith, ap (λ (c : Current). c.id) u.1, l, new_length)
+    | inr u ↦ elim (edge_cases j l) [
+      | inl s ↦ w.latest i r u.2 j s (sym (same_key j s) ∙ k)
+      | inr s ↦ absurd (u.0 (sym k ∙ last_key j s))
+    ]
+  ]
+
   -- ---- all
 
   new_row_of : (i : ℕ) (r : Current) → row_at new_rows i ≡ Some r → IsRow (chains_of new) i r
@@ -363,6 +399,15 @@ module _ (k : ℕ) (g : Growth) (w : IsStored k g) (places : List ℕ) (m : Meet
       ]
       | inr e ↦ inr (ap (λ (e : ForestEdge). e.high) (last_is i e))
     ];
+    order = λ i l. elim (edge_cases i l) [
+      | inl s ↦ elim (kept i s) [
+        | inl u ↦ omega (arith, w.low i s, ap (λ (e : ForestEdge). e.low) u.1, ap (λ (e : ForestEdge). e.high) u.1)
+        | inr u ↦ omega (arith, w.order i s, ap (λ (e : ForestEdge). e.low) u.2, ap (λ (e : ForestEdge). e.high) u.2)
+      ]
+      | inr e ↦ omega (arith, less, ap (λ (e : ForestEdge). e.low) (last_is i e), ap (λ (e : ForestEdge). e.high) (last_is i e))
+    ];
+    longer = new_longer;
+    latest = new_latest;
     rows = new_row_of;
     labels = new_labels;
     of_edges = of_edges;

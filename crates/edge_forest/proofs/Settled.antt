@@ -1,5 +1,5 @@
 -- When the keys of a step have been visited, the edges between its loser and its winner are out.
-use Rattle.std.proofs.Common.{◌≡◌, ◌≢◌, ◌⊎◌, inl, inr, ℕ, suc, ◌+◌, ◌-◌, ◌<◌, ◌≤◌, Bool, true, false, cond, List, [], ◌++◌, map, length, Option, Some, None, refl, sym, ap, ◌∙◌, subst, subst₂, ne_eqb, arith, ◌↔◌}
+use Rattle.std.proofs.Common.{◌≡◌, ◌≢◌, ◌⊎◌, inl, inr, ℕ, suc, ◌+◌, ◌-◌, ◌<◌, ◌≤◌, Bool, true, false, cond, List, [], ◌++◌, map, length, get_or, Option, Some, None, refl, sym, ap, ◌∙◌, subst, subst₂, ne_eqb, arith, ◌↔◌}
 use Rattle.std.specs.Prelude.{Contains}
 use Rattle.std.proofs.lemmas.Bool.{cases_eq}
 use Rattle.std.proofs.lemmas.List.{ext_get_or, get_or-map, length-map}
@@ -27,7 +27,7 @@ use Rattle.edge_forest.specs.Growth.{rows_of, keys_at, keys_of_both, has_row, is
 use Rattle.edge_forest.specs.Settle.{IsSettling}
 use Rattle.edge_forest.proofs.FewSteps.{few_steps}
 use Rattle.edge_forest.proofs.SettledKeys.{read_inside, row_before}
-use Rattle.edge_forest.proofs.EndedEdges.{same_low, same_chains, same_alive_chains, same_edge}
+use Rattle.edge_forest.proofs.EndedEdges.{same_key, same_low, same_chains, same_alive_chains, same_edge}
 
 -- ---- the step
 
@@ -216,6 +216,25 @@ module _ (g : Growth) (low : ℕ) (s : MergeStep) (some : 0 < low) (within : low
         | inr e ↦ inl (omega (arith, ap (λ (c : ForestEdge). c.high) e.1))
       ]
 
+      pub settled_order : (i : ℕ) → i < length edges → (edge_at edges i).low ≤ (edge_at edges i).high
+      settled_order i l = elim (w.edges i l) [
+        | inl e ↦ rw e (rest.stored.order i (omega (arith, l, w.edge_count)))
+        | inr e ↦
+            omega (arith, rest.stored.low i (omega (arith, l, w.edge_count)), ap (λ (c : ForestEdge). c.low) e.1, ap (λ (c : ForestEdge). c.high) e.1)
+      ]
+
+      pub settled_longer : (i j : ℕ) → i < j → j < length edges → (edge_at edges i).key ≡ (edge_at edges j).key → length (chain_of edges i) < length (chain_of edges j)
+      settled_longer i j less l e =
+          subst (λ (chains : List Chain). length (get_or chains i []) < length (get_or chains j [])) (sym (same_chains low g.edges.items edges w.edge_count w.edges))
+          (rest.stored.longer i j less (omega (arith, l, w.edge_count))
+          (sym (same_key low g.edges.items edges w.edge_count w.edges i (omega (arith, less, l))) ∙ e ∙ same_key low g.edges.items edges w.edge_count w.edges j l))
+
+      pub settled_latest : (i : ℕ) (r : Current) → row_at rows i ≡ Some r → (j : ℕ) → j < length edges → (edge_at edges j).key ≡ i → j ≤ r.id
+      settled_latest i r e j l k =
+          let source = row_source i r e in
+          let before = rest.stored.latest i source.0 source.1 j (omega (arith, l, w.edge_count)) (sym (same_key low g.edges.items edges w.edge_count w.edges j l) ∙ k) in
+          omega (arith, before, ap (λ (c : Current). c.id) source.3)
+
       pub settled_past : (j : ℕ) → j < low → map (chain_of edges) (alive_edges edges j) ≡ chains_at (merged g.base) j
       settled_past j less = same_alive_chains low g.edges.items edges w.edge_count w.edges step_small j less ∙ elim (cases_eq j (low - 1)) [
         | inl e ↦ rw e rest.alive
@@ -248,6 +267,9 @@ module _ (g : Growth) (low : ℕ) (s : MergeStep) (some : 0 < low) (within : low
           edges = λ i l. same_edge low g.edges.items g'.edges.items w.edge_count w.edges (merged g.base) i l (rest.stored.edges i (omega (arith, l, w.edge_count)));
           low = settled_low (rows_of g') g'.edges.items touched w;
           high = settled_high (rows_of g') g'.edges.items touched w;
+          order = settled_order (rows_of g') g'.edges.items touched w;
+          longer = settled_longer (rows_of g') g'.edges.items touched w;
+          latest = settled_latest (rows_of g') g'.edges.items touched w;
           rows = settled_rows (rows_of g') g'.edges.items touched w;
           labels = settled_labels (rows_of g') g'.edges.items touched w g'.faces.items made others;
           of_edges = w.of_edges;

@@ -185,6 +185,11 @@ stored_at_start g base partition nodes net er ee many listed = record {
   edges = λ i l. subst (λ (es : List ForestEdge). IsForestEdge h es i) (sym ee) (arc_is_edge h i (within i l));
   low = λ i l. omega (arith, ap (λ (e : ForestEdge). e.low) (edge_is i l));
   high = λ i l. inr (ap (λ (e : ForestEdge). e.high) (edge_is i l));
+  order = λ i l. omega (arith, ap (λ (e : ForestEdge). e.low) (edge_is i l));
+  longer = λ i j less l e.
+      absurd (omega (arith, less, e, ap (λ (e : ForestEdge). e.key) (edge_is i (omega (arith, less, l))), ap (λ (e : ForestEdge). e.key) (edge_is j l)));
+  latest = λ i r k j l e.
+      omega (arith, ap (λ (c : Current). c.id) (row_is arcs i r (read i r k)).1, e, ap (λ (e : ForestEdge). e.key) (edge_is j l));
   rows =
       subst (λ (cs : List Chain). AreRows cs (rows_of g)) (sym (ap chains_of ee ∙ chains_are arcs))
       (subst (AreRows (map single (range_with_len 0 (length arcs)))) (sym er) (arc_rows_are arcs));

@@ -46,8 +46,8 @@ pub record IsOfEdge (edges : List ForestEdge) (i : ℕ) (r : Current) : Type 0 w
   pub key : (edge_at edges r.id).key ≡ i
   pub high : (edge_at edges r.id).high ≡ never
 
--- After k steps, and while step k is made: the edges, the nodes, and a row for each edge that goes on. After fewer steps the
--- edges whose range holds them are the chains.
+-- After k steps, and while step k is made: the edges, the nodes, and a row for each edge that goes on. Of the edges with one key
+-- a later one is longer, and the row is that of the last. After fewer steps the edges whose range holds them are the chains.
 pub record IsStoredOf (k : ℕ) (base_map : BaseMap) (all : Nodes) (current : List (Option Current)) (ends : List (Option ℕ)) (counts : List ℕ)
     (lists : List (List ℕ)) (made : List ForestEdge) : Type 0 where
   pub base : IsTrue (is_base base_map)
@@ -60,6 +60,9 @@ pub record IsStoredOf (k : ℕ) (base_map : BaseMap) (all : Nodes) (current : Li
   pub edges : (i : ℕ) → i < length made → IsForestEdge (merged base_map) made i
   pub low : (i : ℕ) → i < length made → (edge_at made i).low ≤ k
   pub high : (i : ℕ) → i < length made → ((edge_at made i).high ≤ k) ⊎ ((edge_at made i).high ≡ never)
+  pub order : (i : ℕ) → i < length made → (edge_at made i).low ≤ (edge_at made i).high
+  pub longer : (i j : ℕ) → i < j → j < length made → (edge_at made i).key ≡ (edge_at made j).key → length (chain_of made i) < length (chain_of made j)
+  pub latest : (i : ℕ) (r : Current) → row_at current i ≡ Some r → (j : ℕ) → j < length made → (edge_at made j).key ≡ i → j ≤ r.id
   pub rows : AreRows (chains_of made) current
   pub labels : (i : ℕ) (r : Current) → row_at current i ≡ Some r → IsLabelled (merged base_map) k lists i r
   pub of_edges : (i : ℕ) (r : Current) → row_at current i ≡ Some r → IsOfEdge made i r

@@ -8,7 +8,7 @@ ghost use Rattle.tgap_model.specs.Merged.{merged, step_number};
 ghost use Rattle.tgap_model.specs.Chains.{chain_points, chains_at};
 ghost use Rattle.edge_forest.specs.Edges.{IsForestEdge, edge_at, chain_of, alive_edges};
 ghost use Rattle.edge_forest.specs.Beside.{AreBeside};
-ghost use Rattle.edge_forest.specs.Forest.{IsForest, last_step, never, is_gone};
+ghost use Rattle.edge_forest.specs.Forest.{IsForest, IsRange, last_step, never, is_gone};
 ghost use Rattle.edge_forest.specs.Continued.{AreContinued};
 ghost use Rattle.edge_forest.specs.Kept.{closed_edge};
 ghost use Rattle.edge_forest.specs.Removed.{arc_points};
@@ -165,6 +165,7 @@ impl Forest {
         ensures base { OnOk result (self.new.base ≡ self.old.base) }
         ensures made { OnOk result (self.new.made ≡ self.old.made) }
         ensures closed { OnOk result (self.new.closed ≡ true) }
+        ensures edges { OnOk result (self.new.edges ≡ map (closed_edge (last_step self.old + 1)) self.old.edges) }
         ensures gone { OnOk result ((k : ℕ) (p : Point) → is_gone self.new k p ≡ is_gone self.old k p) }
         ensures err { OnErr result (self.new ≡ self.old) }
     {
@@ -188,6 +189,7 @@ impl Forest {
         ensures value { result.now ≡ edge_at self.now.edges id }
         ensures edge { IsForestEdge (merged self.now.base) self.now.edges id }
         ensures low { (edge_at self.now.edges id).low ≤ self.now.made }
+        ensures range { IsRange self.now (edge_at self.now.edges id) }
     {
         &self.growth.edges[id as usize]
     }
