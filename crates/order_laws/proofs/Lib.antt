@@ -1,0 +1,7 @@
+pub mod Rotations
+pub mod WayPlaces
+pub mod Ways
+pub mod ReplacedOrder
+pub mod RowWays
+pub mod ChainWays
+pub mod JoinedWays

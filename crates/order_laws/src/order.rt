@@ -1,0 +1,13 @@
+//! Laws of the order of edge ends round a node.
+
+ghost use Rattle.order_laws.specs.NodeOrder.{ReplacedKeepsOrder, SweepKeepsOrder};
+
+/// The edge ends at a node keep their cyclic order where a vertex is taken out of an edge.
+pub fn replaced_keeps_order()
+    ensures { ReplacedKeepsOrder }
+{}
+
+/// The edge ends at a node keep their cyclic order in a sweep.
+pub fn sweep_keeps_order()
+    ensures { SweepKeepsOrder }
+{}
