@@ -1,20 +1,19 @@
 -- The ways out of a node of the edges of chains, each with the arc end that it leaves by.
-use Rattle.std.proofs.Common.{◌≡◌, ◌≢◌, ◌⊎◌, inl, inr, ℕ, ◌≤◌, ◌==◌, not, Bool, true, false, cond, List, [], ◌∷◌, ◌++◌, map, flat_map, length, reverse, drop, AllPairs, Contains, refl, sym, ap, ap₂, ◌∙◌, subst, arith}
+use Rattle.std.proofs.Common.{◌≡◌, ◌≢◌, inl, inr, ℕ, ◌≤◌, not, Bool, true, false, cond, List, [], ◌∷◌, ◌++◌, map, flat_map, length, reverse, drop, AllPairs, Contains, refl, sym, ap, ap₂, ◌∙◌, subst, arith}
 use Rattle.std.proofs.lemmas.Bool.{eq-eqb, ne_eqb}
 use Rattle.std.proofs.lemmas.List.{map-append}
 use Rattle.std.proofs.lemmas.List.Concat.{flat_map-append}
 use Rattle.std.proofs.lemmas.List.Elements.{All-map}
 use Rattle.lemmas.specs.Sorting.{sort_by}
-use Rattle.lemmas.proofs.Members.{AllPairs-head, AllPairs-tail, AllPairs-from_map, Contains-flat_map, Contains-from_flat_map}
+use Rattle.lemmas.proofs.Members.{AllPairs-head, AllPairs-tail, Contains-flat_map, Contains-from_flat_map}
 use Rattle.lemmas.proofs.Sorting.{map-sort_by}
 use Rattle.tgap_model.specs.declared.geometry.Point.{Point}
 use Rattle.tgap_model.specs.declared.base.BaseArc.{BaseArc}
-use Rattle.tgap_model.specs.declared.slice.Edge.{Edge}
 use Rattle.tgap_model.specs.declared.slice.Removal.{Removal}
 use Rattle.tgap_model.specs.Base.{same_point}
 use Rattle.tgap_model.specs.Merged.{MergedMap}
 use Rattle.tgap_model.specs.Partition.{path_segments, edge_segments}
-use Rattle.tgap_model.specs.Chains.{Link, Chain, first_point, last_point, chain_start, chain_end, chain_points, has_links, key, turned_round}
+use Rattle.tgap_model.specs.Chains.{Chain, first_point, last_point, chain_start, chain_end, chain_points, has_links, key, turned_round}
 use Rattle.tgap_model.specs.Removals.{is_removed, without, edge_of, edges_of}
 use Rattle.map_laws.proofs.ChainMembers.{Among}
 use Rattle.map_laws.proofs.ChainEnds.{turn}
@@ -25,7 +24,7 @@ use Rattle.removal_laws.proofs.Less.{without_append}
 use Rattle.slice_laws.proofs.NodeLinks.{next_to_last, second_point}
 use Rattle.step_laws.proofs.ChainPoints.{without_reversed, without_first, without_last, without_drop, turned_long, append_long, append_points, turned_points}
 use Rattle.step_laws.proofs.EdgesAlong.{Anywhere}
-use Rattle.order_laws.specs.NodeOrder.{End, Way, ways_of, way_before, ends_round, start_end, finish_end, chain_with, arc_end}
+use Rattle.order_laws.specs.NodeOrder.{End, Way, ways_of, way_before, start_end, finish_end, chain_with, arc_end}
 use Rattle.order_laws.proofs.WayPlaces.{way, end_of, Leaves, AreDecided}
 use Rattle.order_laws.proofs.Ways.{end_at, all_ways, pairs_to_map, AreWays}
 use Rattle.order_laws.proofs.RowWays.{way_if, row_ways, segment_ways, HasWay, way_of_row, row_has_way, way_reversed, reversed_way}

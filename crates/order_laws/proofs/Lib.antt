@@ -5,3 +5,5 @@ pub mod ReplacedOrder
 pub mod RowWays
 pub mod ChainWays
 pub mod JoinedWays
+pub mod BaseWays
+pub mod EachOrder

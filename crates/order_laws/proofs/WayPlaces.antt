@@ -1,5 +1,5 @@
 -- The ends round a node keep their cyclic order where the way of one of them is replaced by one that has its place among the others.
-use Rattle.std.proofs.Common.{append-nil, ◌≡◌, ◌≢◌, inl, inr, ◌||◌, Bool, true, false, cond, List, [], ◌∷◌, ◌++◌, map, All, AllPairs, refl, sym, ap, ◌∙◌, subst, subst₂}
+use Rattle.std.proofs.Common.{append-nil, ◌≡◌, ◌≢◌, inl, inr, ◌||◌, Bool, true, false, cond, List, [], ◌∷◌, ◌++◌, map, All, AllPairs, refl, sym, ap, ◌∙◌, subst₂}
 use Rattle.std.proofs.lemmas.List.Elements.{All-head, All-tail, All-weaker}
 use Rattle.std.proofs.lemmas.List.Sorted.{IsPermutation-middle, IsPermutation-trans}
 use Rattle.lemmas.specs.Sorting.{insert_by, sort_by, IsStrictOrderOn}

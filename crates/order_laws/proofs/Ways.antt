@@ -14,7 +14,7 @@ use Rattle.tgap_model.specs.Partition.{Spoke, spokes_of, edge_segments}
 use Rattle.base_check.proofs.Apart.{IsDecided}
 use Rattle.removal_laws.specs.StandLaws.{AreSound}
 use Rattle.slice_laws.proofs.SpokeRings.{spoke}
-use Rattle.step_laws.proofs.SpokesApart.{all_spokes, spokes_decided, spokes_leave}
+use Rattle.step_laws.proofs.SpokesApart.{spokes_decided, spokes_leave}
 use Rattle.order_laws.specs.NodeOrder.{End, Way, ways_of}
 use Rattle.order_laws.proofs.WayPlaces.{way, Leaves, AreDecided}
 
@@ -71,18 +71,23 @@ ways_toward P v ss h =
     all_from_map P toward_of (flat_map (ways_of v) ss)
     (subst (All P) (sym (all_toward v ss)) (All-map P spoke_toward (flat_map (spokes_of v) ss) h))
 
--- ---- of sound edges
+-- ---- what is known of them
 
 pub record AreWays (v : Point) (ws : List Way) : Type 0 where
   pub leave : All (Leaves v) ws
   pub decided : AllPairs (AreDecided v) ws
 
-pub sound_ways : (es : List Edge) → AreSound es → (v : Point) → AreWays v (all_ways v es)
+pub ways_from_spokes : (v : Point) (ss : List LabelledSegment) → All (λ (q : Spoke). v ≢ q.toward) (flat_map (spokes_of v) ss)
+    → AllPairs (IsDecided v) (flat_map (spokes_of v) ss) → AreWays v (flat_map (ways_of v) ss)
 unfolding toward_of spoke_toward
-sound_ways es sound v = record {
-  leave = ways_toward (λ p. v ≢ p) v (edge_segments es) (spokes_leave es sound v);
+ways_from_spokes v ss leave decided = record {
+  leave = ways_toward (λ p. v ≢ p) v ss leave;
   decided =
       let R : Point → Point → Type 0 = λ (p q : Point). (turns_before v p q || turns_before v q p) ≡ true in
-      AllPairs-from_map R toward_of (all_ways v es)
-      (subst (AllPairs R) (sym (all_toward v (edge_segments es))) (pairs_to_map R spoke_toward (all_spokes v es) (spokes_decided es sound v)));
+      AllPairs-from_map R toward_of (flat_map (ways_of v) ss)
+      (subst (AllPairs R) (sym (all_toward v ss)) (pairs_to_map R spoke_toward (flat_map (spokes_of v) ss) decided));
 }
+
+-- of sound edges
+pub sound_ways : (es : List Edge) → AreSound es → (v : Point) → AreWays v (all_ways v es)
+sound_ways es sound v = ways_from_spokes v (edge_segments es) (spokes_leave es sound v) (spokes_decided es sound v)
