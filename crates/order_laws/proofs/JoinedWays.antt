@@ -289,17 +289,17 @@ module _ (h : MergedMap) (k : ℕ) (rs : List Removal) where
       → SameWays cs (sort_by (λ c d. nat_lt (key c) (key d)) (map directed cs)) v
   ways_directed cs keeps v = inl (λ w. (
     (λ i.
-    let c = i.0 in (
-      directed c,
-      among_sort (λ c d. nat_lt (key c) (key d)) (map directed cs) (directed c) (among_map directed cs c i.1),
-      (way_directed c (keeps c i.1) v w).0 i.2,
-    )),
+        let c = i.0 in (
+          directed c,
+          among_sort (λ c d. nat_lt (key c) (key d)) (map directed cs) (directed c) (among_map directed cs c i.1),
+          (way_directed c (keeps c i.1) v w).0 i.2,
+        )),
     (λ i.
-    let c = map_among directed cs i.0 (sort_among (λ c d. nat_lt (key c) (key d)) (map directed cs) i.0 i.1) in (
-      c.0,
-      c.1,
-      (way_directed c.0 (keeps c.0 c.1) v w).1 (subst (λ e. ChainWay h.base.arcs rs e v w) (sym c.2) i.2),
-    )),
+        let c = map_among directed cs i.0 (sort_among (λ c d. nat_lt (key c) (key d)) (map directed cs) i.0 i.1) in (
+          c.0,
+          c.1,
+          (way_directed c.0 (keeps c.0 c.1) v w).1 (subst (λ e. ChainWay h.base.arcs rs e v w) (sym c.2) i.2),
+        )),
   ))
 
   -- chains that are joined at all these points, in the order of their keys

@@ -7,3 +7,4 @@ pub mod ChainWays
 pub mod JoinedWays
 pub mod BaseWays
 pub mod EachOrder
+mod Examples
