@@ -7,4 +7,5 @@ pub mod ChainWays
 pub mod JoinedWays
 pub mod BaseWays
 pub mod EachOrder
+pub mod FacesRound
 mod Examples

@@ -7,9 +7,9 @@ use Rattle.tgap_model.specs.declared.segment.LabelledSegment.{LabelledSegment}
 use Rattle.tgap_model.specs.declared.slice.Edge.{Edge}
 use Rattle.tgap_model.specs.Base.{BaseMap, is_base, same_point}
 use Rattle.tgap_model.specs.Segment.{turns_before}
-use Rattle.tgap_model.specs.Partition.{IsPartition, base_segments, edge_segments}
+use Rattle.tgap_model.specs.Partition.{IsPartition, Spoke, spokes_at, base_segments, edge_segments}
 use Rattle.tgap_model.specs.History.{history_of}
-use Rattle.tgap_model.specs.Merged.{merged, is_border}
+use Rattle.tgap_model.specs.Merged.{merged, label_at, is_border}
 use Rattle.tgap_model.specs.Chains.{Chain, arc_number, key, chains_at}
 use Rattle.tgap_model.specs.Slice.{slice}
 use Rattle.removal_laws.specs.ReplaceLaws.{is_free, other_segments}
@@ -82,6 +82,20 @@ base_order m k v = filter (is_border_end m k) (ends_round v (base_segments m))
 abbrev pub slice_order : BaseMap → ℕ → Point → List End
 slice_order m k v = map (arc_end (chains_at (merged m) k)) (ends_round v (edge_segments (slice m k).edges))
 
+-- the faces at the left and at the right of one who leaves a node: by a spoke, and by an arc end after k steps
+pub record EndFaces : Type 0 where
+  pub left : ℕ
+  pub right : ℕ
+
+abbrev pub spoke_faces : Spoke → EndFaces
+spoke_faces p = record { left = p.left; right = p.right }
+
+abbrev pub end_faces : BaseMap → ℕ → End → EndFaces
+end_faces m k e =
+    let a = arc_number m.arcs e.arc in
+    if e.first then record { left = label_at (merged m) k a.left; right = label_at (merged m) k a.right }
+    else record { left = label_at (merged m) k a.right; right = label_at (merged m) k a.left }
+
 -- ---- the laws
 
 -- The ends at a node of sound edges keep their cyclic order when b is taken out of an edge between a and c.
@@ -105,3 +119,9 @@ abbrev pub EndsKeepOrder : Type 0
 EndsKeepOrder =
     (m : BaseMap) → IsTrue (is_base m) → IsPartition (base_segments m) → (k : ℕ) → k ≤ length (history_of m)
     → (v : Point) → ends_round v (edge_segments (slice m k).edges) ≢ [] → IsRotation (base_order m k v) (slice_order m k v)
+
+-- The spokes of a slice are in that order the ways out by these arc ends, with the faces of the slice that the arc has at its sides.
+abbrev pub EndsKeepFaces : Type 0
+EndsKeepFaces =
+    (m : BaseMap) → IsTrue (is_base m) → IsPartition (base_segments m) → (k : ℕ) → (v : Point)
+    → map spoke_faces (spokes_at v (edge_segments (slice m k).edges)) ≡ map (end_faces m k) (slice_order m k v)

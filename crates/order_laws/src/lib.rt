@@ -5,4 +5,4 @@
 
 mod order;
 
-pub use order::{ends_keep_order, replaced_keeps_order, sweep_keeps_order};
+pub use order::{ends_keep_faces, ends_keep_order, replaced_keeps_order, sweep_keeps_order};

@@ -1,6 +1,6 @@
 //! Laws of the order of edge ends round a node.
 
-ghost use Rattle.order_laws.specs.NodeOrder.{EndsKeepOrder, ReplacedKeepsOrder, SweepKeepsOrder};
+ghost use Rattle.order_laws.specs.NodeOrder.{EndsKeepFaces, EndsKeepOrder, ReplacedKeepsOrder, SweepKeepsOrder};
 
 /// The edge ends at a node keep their cyclic order where a vertex is taken out of an edge.
 pub fn replaced_keeps_order()
@@ -15,4 +15,9 @@ pub fn sweep_keeps_order()
 /// At each node of a slice the edge ends have the cyclic order that their arc ends have in the base map.
 pub fn ends_keep_order()
     ensures { EndsKeepOrder }
+{}
+
+/// The spokes of a slice at a node are in that order those of the arc ends, with the faces of the slice at their sides.
+pub fn ends_keep_faces()
+    ensures { EndsKeepFaces }
 {}
