@@ -46,7 +46,9 @@ row_kept p b v e f ps x y = by (same_point (first_point ps) v) (same_point (last
 
     by : (s t : Bool) → filter (λ w. p (end_of w)) (way_if s (way e (second_point ps)) ++ way_if t (way f (next_to_last ps)))
         ≡ cond b (way_if s (way e (second_point ps)) ++ way_if t (way f (next_to_last ps))) []
-    by true true = ap₂ (λ (c d : Bool). cond c (way e (second_point ps) ∷ cond d (way f (next_to_last ps) ∷ []) []) (cond d (way f (next_to_last ps) ∷ []) [])) x y ∙ both (way e (second_point ps)) (way f (next_to_last ps)) b
+    by true true =
+        ap₂ (λ (c d : Bool). cond c (way e (second_point ps) ∷ cond d (way f (next_to_last ps) ∷ []) []) (cond d (way f (next_to_last ps) ∷ []) [])) x y
+        ∙ both (way e (second_point ps)) (way f (next_to_last ps)) b
     by true false = ap (λ (c : Bool). cond c (way e (second_point ps) ∷ []) []) x
     by false true = ap (λ (c : Bool). cond c (way f (next_to_last ps) ∷ []) []) y
     by false false = none b
@@ -73,7 +75,8 @@ pub kept_twice : {A : Type 0} (p q : A → Bool) → ((x : A) → q x ≡ true �
 kept_twice p q weaker [] = refl
 kept_twice {A} p q weaker (x ∷ xs) = by (p x) (q x) (weaker x) refl (kept_twice p q weaker xs)
   where
-    by : (b c : Bool) → (c ≡ true → b ≡ true) → q x ≡ c → filter q (filter p xs) ≡ filter q xs → filter q (cond b (x ∷ filter p xs) (filter p xs)) ≡ cond c (x ∷ filter q xs) (filter q xs)
+    by : (b c : Bool) → (c ≡ true → b ≡ true) → q x ≡ c → filter q (filter p xs) ≡ filter q xs
+        → filter q (cond b (x ∷ filter p xs) (filter p xs)) ≡ cond c (x ∷ filter q xs) (filter q xs)
     by true true f e k = ap (λ (d : Bool). cond d (x ∷ filter q (filter p xs)) (filter q (filter p xs))) e ∙ ap (λ (ys : List A). x ∷ ys) k
     by true false f e k = ap (λ (d : Bool). cond d (x ∷ filter q (filter p xs)) (filter q (filter p xs))) e ∙ k
     by false true f e k = absurd (false_true (f refl))

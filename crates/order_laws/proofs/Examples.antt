@@ -1,8 +1,9 @@
 -- A worked map whose edge ends turn round a node: a bend is taken out, and the way that was the last one becomes the first.
-use Rattle.std.proofs.Common.{◌≡◌, ℕ, true, false, [], ◌∷◌, None, refl}
+use Rattle.std.proofs.Common.{◌≡◌, ◌≢◌, ℕ, ◌≤◌, true, false, [], ◌∷◌, map, length, None, refl, arith}
+use Rattle.tgap_model.specs.declared.geometry.Point.{Point}
 use Rattle.tgap_model.specs.Base.{BaseMap, is_transform, is_rules, is_arc, is_base}
 use Rattle.tgap_model.specs.Segment.{any_common, common_point, turns_before, is_higher}
-use Rattle.tgap_model.specs.Partition.{base_segments, edge_segments, arc_fault, map_fault, IsPartition}
+use Rattle.tgap_model.specs.Partition.{spokes_at, base_segments, edge_segments, arc_fault, map_fault, IsPartition}
 use Rattle.tgap_model.specs.History.{next_step, history_of}
 use Rattle.tgap_model.specs.Chains.{chains_at}
 use Rattle.tgap_model.specs.Clear.{is_clear}
@@ -11,8 +12,9 @@ use Rattle.tgap_model.specs.Slice.{slice}
 use Rattle.map_laws.proofs.Examples.{arc, plain_map}
 use Rattle.map_laws.proofs.SliceExamples.{point, edge}
 use Rattle.slice_laws.proofs.Sound.{partition_from_no_fault}
-use Rattle.order_laws.specs.NodeOrder.{End, ends_round, IsRotation, base_order, slice_order}
+use Rattle.order_laws.specs.NodeOrder.{End, ends_round, IsRotation, base_order, slice_order, EndFaces, spoke_faces, end_faces}
 use Rattle.order_laws.proofs.Ways.{end_at}
+use Rattle.order_laws.proofs.EachOrder.{ends_keep_order}
 
 -- the first point of an arc, or of the edge with this key, and the last one
 abbrev first : ℕ → End
@@ -20,6 +22,9 @@ first n = end_at n true
 
 abbrev last : ℕ → End
 last n = end_at n false
+
+abbrev faces : ℕ → ℕ → EndFaces
+faces left right = record { left = left; right = right }
 
 -- three faces round the node 20 10, and a small one in a corner; the arc from the node to the right has a bend
 abbrev bend : BaseMap
@@ -44,6 +49,14 @@ bend_sound = refl
 
 bend_planar : IsPartition (base_segments bend)
 bend_planar = partition_from_no_fault bend bend_base bend_sound
+
+bend_steps : 1 ≤ length (history_of bend)
+unfolding history_of next_step
+bend_steps = omega arith
+
+-- so at each of its nodes the slice after the step keeps the order
+bend_keeps_order : (v : Point) → ends_round v (edge_segments (slice bend 1).edges) ≢ [] → IsRotation (base_order bend 1 v) (slice_order bend 1 v)
+bend_keeps_order v = ends_keep_order bend bend_base bend_planar 1 bend_steps v
 
 -- ---- at the node the arc to the right goes down at first, so its end is the last one
 
@@ -74,6 +87,14 @@ order_after = refl
 turned_round_node : IsRotation (base_order bend 1 (point 20 10)) (slice_order bend 1 (point 20 10))
 unfolding turns_before slice removals_to sweep is_removable is_clear chains_at history_of next_step
 turned_round_node = record { front = first 0 ∷ first 1 ∷ []; back = first 2 ∷ []; was = refl; is = refl }
+
+faces_after : map spoke_faces (spokes_at (point 20 10) (edge_segments (slice bend 1).edges)) ≡ faces 5 3 ∷ faces 1 5 ∷ faces 3 1 ∷ []
+unfolding turns_before slice removals_to sweep is_removable is_clear chains_at history_of next_step
+faces_after = refl
+
+faces_of_ends : map (end_faces bend 1) (first 2 ∷ first 0 ∷ first 1 ∷ []) ≡ faces 5 3 ∷ faces 1 5 ∷ faces 3 1 ∷ []
+unfolding history_of next_step
+faces_of_ends = refl
 
 -- ---- the edge with key 5 ends with arc 7, and so does its end: it is the last point of that arc
 

@@ -81,7 +81,8 @@ module _ (before after : List Edge) (e : Edge) (front rest : List Point) (a b c 
   unfolding us ws front_segments back_segments starts ends ab bc m alone
   old_ways =
       ap (flat_map (ways_of v)) (old_is before after e front rest a b c alone)
-      ∙ flat_map-append (ways_of v) (xs before after e front rest a b c alone) (ab before after e front rest a b c alone ∷ bc before after e front rest a b c alone ∷ ys before after e front rest a b c alone)
+      ∙ flat_map-append (ways_of v) (xs before after e front rest a b c alone)
+      (ab before after e front rest a b c alone ∷ bc before after e front rest a b c alone ∷ ys before after e front rest a b c alone)
       ∙ ap₂ (λ (ps : List Way) (t : Bool). us ++ (ps ++ ((where_there (t && same_point b v) (way (end_at e.key true) c) ++ where_there ends (way (end_at e.key false) b)) ++ ws)))
       (append-nil (where_there starts (way (end_at e.key true) b))) (ne_eqb (m before after e front rest a b c alone + 1) 0 (λ f. absurd (omega arith)))
 
@@ -90,7 +91,8 @@ module _ (before after : List Edge) (e : Edge) (front rest : List Point) (a b c 
   unfolding us ws front_segments back_segments starts ends ac m alone
   new_ways =
       ap (flat_map (ways_of v)) (new_is before after e front rest a b c alone)
-      ∙ flat_map-append (ways_of v) (map (moved e.key (m before after e front rest a b c alone)) (xs before after e front rest a b c alone)) (ac before after e front rest a b c alone ∷ map (moved e.key (m before after e front rest a b c alone)) (ys before after e front rest a b c alone))
+      ∙ flat_map-append (ways_of v) (map (moved e.key (m before after e front rest a b c alone)) (xs before after e front rest a b c alone))
+      (ac before after e front rest a b c alone ∷ map (moved e.key (m before after e front rest a b c alone)) (ys before after e front rest a b c alone))
       ∙ ap₂ (λ (ps qs : List Way). ps ++ (ways_of v (ac before after e front rest a b c alone) ++ qs))
       (ways_moved e.key (m before after e front rest a b c alone) v (xs before after e front rest a b c alone))
       (ways_moved e.key (m before after e front rest a b c alone) v (ys before after e front rest a b c alone))

@@ -4,16 +4,19 @@ use Rattle.std.proofs.lemmas.List.{map-append}
 use Rattle.std.proofs.lemmas.List.Elements.{filter-append}
 use Rattle.order_laws.specs.NodeOrder.{IsRotation}
 
--- two ways to put one list together from two parts: the first part of one begins that of the other
-cons_tail : {A : Type 0} (x y : A) (xs ys : List A) → x ∷ xs ≡ y ∷ ys → xs ≡ ys
-cons_tail x y xs ys e = cc
+-- ---- two ways to put one list together from two parts
 
 cons_head : {A : Type 0} (x y : A) (xs ys : List A) → x ∷ xs ≡ y ∷ ys → x ≡ y
 cons_head x y xs ys e = cc
 
+cons_tail : {A : Type 0} (x y : A) (xs ys : List A) → x ∷ xs ≡ y ∷ ys → xs ≡ ys
+cons_tail x y xs ys e = cc
+
+-- the first part begins with the first part of the other way, and what is between is in the second part there
 abbrev Begins : {A : Type 0} → List A → List A → List A → List A → Type 0
 Begins {A} xs ys us vs = (ws : List A) × (us ≡ xs ++ ws) × (ys ≡ ws ++ vs)
 
+-- the first part of one begins with that of the other
 two_splits : {A : Type 0} (xs ys us vs : List A) → xs ++ ys ≡ us ++ vs → Begins xs ys us vs ⊎ Begins us vs xs ys
 two_splits [] ys us vs e = inl (us, refl, e)
 two_splits (x ∷ xs) ys [] vs e = inr (x ∷ xs, refl, sym e)
@@ -25,6 +28,8 @@ two_splits {A} (x ∷ xs) ys (u ∷ us) vs e = by (two_splits xs ys us vs (cons_
     by : Begins xs ys us vs ⊎ Begins us vs xs ys → Begins (x ∷ xs) ys (u ∷ us) vs ⊎ Begins (u ∷ us) vs (x ∷ xs) ys
     by (inl (ws, f, g)) = inl (ws, ap (λ (zs : List A). u ∷ zs) f ∙ ap (λ (z : A). z ∷ (xs ++ ws)) (sym head), g)
     by (inr (ws, f, g)) = inr (ws, ap (λ (zs : List A). x ∷ zs) f ∙ ap (λ (z : A). z ∷ (us ++ ws)) head, g)
+
+-- ---- one cyclic order
 
 module _ {A : Type 0} where
   pub rotation_self : (xs : List A) → IsRotation xs xs

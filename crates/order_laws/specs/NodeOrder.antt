@@ -66,11 +66,11 @@ abbrev pub chain_with : List Chain → ℕ → Chain
 chain_with [] n = []
 chain_with (c ∷ chains) n = if key c == n then c else chain_with chains n
 
--- the arc end that an end of an edge is, where the edge is that of the chain with its key
+-- the arc end that an end of an edge is: where the chain with the edge's key starts, or where it ends
 abbrev pub arc_end : List Chain → End → End
 arc_end chains e = if e.first then start_end (chain_with chains e.arc) else finish_end (chain_with chains e.arc)
 
--- the arc of this end borders a face after k steps
+-- after k steps the arc of this end borders a face
 abbrev pub is_border_end : BaseMap → ℕ → End → Bool
 is_border_end m k e = is_border (merged m) k (arc_number m.arcs e.arc)
 
@@ -120,7 +120,7 @@ EndsKeepOrder =
     (m : BaseMap) → IsTrue (is_base m) → IsPartition (base_segments m) → (k : ℕ) → k ≤ length (history_of m)
     → (v : Point) → ends_round v (edge_segments (slice m k).edges) ≢ [] → IsRotation (base_order m k v) (slice_order m k v)
 
--- The spokes of a slice are in that order the ways out by these arc ends, with the faces of the slice that the arc has at its sides.
+-- The spokes of a slice at a node have in their order the faces at their sides that these arc ends have after k steps.
 abbrev pub EndsKeepFaces : Type 0
 EndsKeepFaces =
     (m : BaseMap) → IsTrue (is_base m) → IsPartition (base_segments m) → (k : ℕ) → (v : Point)

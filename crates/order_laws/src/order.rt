@@ -17,7 +17,7 @@ pub fn ends_keep_order()
     ensures { EndsKeepOrder }
 {}
 
-/// The spokes of a slice at a node are in that order those of the arc ends, with the faces of the slice at their sides.
+/// The spokes of a slice at a node have in their order the faces of those arc ends at their sides.
 pub fn ends_keep_faces()
     ensures { EndsKeepFaces }
 {}
