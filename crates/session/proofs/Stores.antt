@@ -1,14 +1,15 @@
 -- What a seat tells before and after it has seen more versions.
-use Rattle.std.proofs.Common.{◌≡◌, ◌∙◌, ℕ, zero, suc, ◌+◌, ◌-◌, ◌^◌, ◌≤◌, ◌<◌, min, List, [], ◌∷◌, map, length, Result, Ok, Err, IfOk, true, false, ap, arith}
-use Rattle.std.specs.Prelude.{slice_index, slice_set, IsOk}
+use Rattle.std.proofs.Common.{◌≡◌, ◌∙◌, ℕ, zero, suc, ◌+◌, ◌-◌, ◌^◌, ◌≤◌, ◌<◌, min, List, [], ◌∷◌, ◌++◌, map, length, Some, slice_get, Result, Ok, Err, IfOk, true, false, sym, ap, arith, length-append}
+use Rattle.std.specs.Prelude.{slice_index, slice_set, IsOk, OnOk}
 use Rattle.std.proofs.lemmas.List.{map-append, length-map, get_or-set_same}
 use Rattle.tgap_model.specs.declared.machine.Holds as Held
 use Rattle.plain_io.specs.Faults.{Rose}
 use Rattle.map_version.specs.declared.version.Version.{Version}
 use Rattle.version_store.specs.declared.name.StoreName as Named
 use Rattle.version_store.specs.declared.seat.SeatOf.{SeatOf}
-use Rattle.version_store.specs.Growth.{IsPrefix}
+use Rattle.version_store.specs.Growth.{IsPrefix, IsList}
 use Rattle.version_store.specs.Store.{seat_versions, seat_limit, tellings, raised}
+use Rattle.version_store.proofs.Prefixes.{get_last}
 use Rattle.session.specs.Versions.{Continues, Extends, seen_of}
 
 -- the maps of a longer list of versions
@@ -58,6 +59,36 @@ module _ {N P : Type 0} {held : Held.Ghosts Version} {named : Named.Ghosts N} wh
 -- there are as many maps as versions
 pub map_count : (xs ys : List Version) → xs ≡ ys → length (map (λ (v : Version). v.built) xs) ≡ length ys
 map_count xs ys same = length-map xs (λ (v : Version). v.built) ∙ ap length same
+
+-- a version that was published has the next number, so that those before it were as many
+module _ (before after : List Version) (version : Version) (named limit : ℕ) where
+  counted : after ≡ before ++ version ∷ [] → IsList (λ (v : Version). v.number) limit after → version.number ≡ named + 1
+      → length before ≡ named + 1
+  counted is listed number =
+      sym (listed.numbered (length before) version (ap (λ (vs : List Version). slice_get vs (length before)) is ∙ get_last before version)) ∙ number
+
+  -- it is the last one that the seat has seen
+  pub published_last : {T E : Type 0} (r : Result T E) (seen : List Version) → OnOk r (after ≡ before ++ version ∷ []) → OnOk r (seen ≡ after)
+      → IsList (λ (v : Version). v.number) limit after → version.number ≡ named + 1
+      → OnOk r (slice_get (map (λ (v : Version). v.built) seen) (named + 1) ≡ Some version.built)
+  published_last (Ok x) seen is same listed number =
+      ap (λ (vs : List Version). slice_get (map (λ (v : Version). v.built) vs) (named + 1)) (same ∙ is)
+      ∙ (ap (λ ms. slice_get ms (named + 1)) (map-append (λ (v : Version). v.built) before (version ∷ []))
+      ∙ (ap (λ n. slice_get (map (λ (v : Version). v.built) before ++ version.built ∷ []) n)
+      (sym (counted is listed number) ∙ sym (length-map before (λ (v : Version). v.built)))
+      ∙ get_last (map (λ (v : Version). v.built) before) version.built))
+  published_last (Err e) seen is same listed number = tt
+
+  -- the seat had seen no more than those before it
+  pub published_next : {T E : Type 0} (r : Result T E) (old : List Version) → OnOk r (after ≡ before ++ version ∷ []) → IsPrefix old before
+      → IsList (λ (v : Version). v.number) limit after → version.number ≡ named + 1
+      → OnOk r (length (map (λ (v : Version). v.built) old) ≤ named + 1)
+  published_next (Ok x) old is front listed number =
+      let all = counted is listed number in
+      let many : length before ≡ length old + length front.0 = ap length front.1 ∙ length-append old front.0 in
+      let maps = length-map old (λ (v : Version). v.built) in
+      omega (arith, all, many, maps)
+  published_next (Err e) old is front listed number = tt
 
 -- what two clauses on an answer give together
 pub all_taken : {T E : Type 0} (r : Result T E) (P Q S : T → Type 0) → ((x : T) → P x → Q x → S x) → IfOk r P → IfOk r Q → IfOk r S

@@ -1,5 +1,5 @@
 -- The list of edges before the first step, after the joins of a step, and after its removal.
-use Rattle.std.proofs.Common.{◌≡◌, inl, inr, ℕ, ◌-◌, ◌<◌, ◌≤◌, true, List, length, get_or, All, sym, ap, ◌∙◌, subst, arith}
+use Rattle.std.proofs.Common.{◌≡◌, inl, inr, ℕ, ◌-◌, ◌<◌, ◌≤◌, Bool, true, List, length, get_or, All, sym, ap, ◌∙◌, subst, arith}
 use Rattle.std.specs.List.{range_with_len}
 use Rattle.std.proofs.lemmas.Bool.{cases_lt}
 use Rattle.tgap_model.specs.declared.slice.Edge.{Edge}
@@ -73,18 +73,28 @@ module _ (f : EdgeForest) (w : IsForest f) (k : ℕ) (up_to : k ≤ f.made) (rem
     }
 
 -- a forest in which vertices were removed
-same_forest : (f g : EdgeForest) → IsForest f → g.base ≡ f.base → g.made ≡ f.made → g.edges ≡ f.edges → IsForest g
-same_forest f g w base made same = by g.base g.made g.edges base made same
+same_forest : (f g : EdgeForest) → IsForest f → g.base ≡ f.base → g.made ≡ f.made → g.closed ≡ f.closed → g.edges ≡ f.edges → IsForest g
+same_forest f g w base made closed same = by g.base g.made g.closed g.edges base made closed same
   where
-    by : (b : BaseMap) (n : ℕ) (es : List ForestEdge) → b ≡ f.base → n ≡ f.made → es ≡ f.edges → IsForest (record { base = b; made = n; closed = g.closed; edges = es; removed = g.removed })
-    by b n es eb en ee = rw (eb, en, ee) (record { base = w.base; partition = w.partition; steps = w.steps; edges = w.edges; low = w.low; chains = w.chains })
+    by : (b : BaseMap) (n : ℕ) (c : Bool) (es : List ForestEdge) → b ≡ f.base → n ≡ f.made → c ≡ f.closed → es ≡ f.edges
+        → IsForest (record { base = b; made = n; closed = c; edges = es; removed = g.removed })
+    by b n c es eb en ec ee = rw (eb, en, ec, ee) (record {
+      base = w.base;
+      partition = w.partition;
+      steps = w.steps;
+      edges = w.edges;
+      low = w.low;
+      ranges = λ i l. let r = w.ranges i l in record { order = r.order; growing = r.growing; done = r.done; last = r.last };
+      once = w.once;
+      chains = w.chains;
+    })
 
 -- vertices were taken out
 pub running_less : (f g : EdgeForest) (k : ℕ) (removals removals' : List Removal) (edges edges' : List Edge) (numbers numbers' : List ℕ)
-    → IsForest f → g.base ≡ f.base → g.made ≡ f.made → g.edges ≡ f.edges → numbers' ≡ numbers → edges' ≡ edges_of (merged f.base) k removals' (chains_at (merged f.base) k)
+    → IsForest f → g.base ≡ f.base → g.made ≡ f.made → g.closed ≡ f.closed → g.edges ≡ f.edges → numbers' ≡ numbers → edges' ≡ edges_of (merged f.base) k removals' (chains_at (merged f.base) k)
     → AreRunning f k removals edges numbers → AreRunning g k removals' edges' numbers'
-running_less f g k removals removals' edges edges' numbers numbers' w base made same kept is r = rw kept (record {
-  forest = same_forest f g w base made same;
+running_less f g k removals removals' edges edges' numbers numbers' w base made closed same kept is r = rw kept (record {
+  forest = same_forest f g w base made closed same;
   edges = is ∙ ap (λ (m : BaseMap). edges_of (merged m) k removals' (chains_at (merged m) k)) (sym base);
   room = r.room ∙ ap (λ (m : BaseMap). length m.arcs) (sym base);
   numbers = λ i l a.

@@ -138,7 +138,7 @@ returns-clause-running c =
     let is = list_is f k base planar c.requires.some within c.requires.removed c.args.live.now.edges live _ _ _ removals c.requires.ratio (ap (λ (s : MergeStep). s.made) c.requires.step) area told in
     let edges = c.in_ok-remove.ensures.edges ∙ ap (edges_less removals) live ∙ taken_is f.base base planar k c.requires.some within removals is in
     running_less f c.remove.new.self k (removals_to (merged f.base) (k - 1)) (removals_to (merged f.base) k) c.args.live.now.edges c.remove-2.new.self.edges
-    c.args.live.now.numbers.items c.remove-2.new.self.numbers.items c.requires.running.forest c.remove.ensures.base c.remove.ensures.made c.remove.ensures.edges
+    c.args.live.now.numbers.items c.remove-2.new.self.numbers.items c.requires.running.forest c.remove.ensures.base c.remove.ensures.made c.remove.ensures.closed c.remove.ensures.edges
     (ap (λ (v : Vec ℕ). v.items) c.in_ok-remove.ensures.numbers) edges c.requires.running
 
 pub mends_of-requires-clause-edges : goal.mends_of-requires-clause-edges

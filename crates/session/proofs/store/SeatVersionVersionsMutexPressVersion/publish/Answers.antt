@@ -1,8 +1,18 @@
 -- The seat has heard of the press's list.
 use Rattle.std.proofs.Common.{◌∙◌, sym}
 use Rattle.version_store.proofs.Lists.{one_limit}
-use Rattle.session.proofs.Stores.{sees_on, map_count}
+use Rattle.session.proofs.Stores.{sees_on, map_count, published_last, published_next}
 use Rattle.session.proofs.store.SeatVersionVersionsMutexPressVersion.publish.Goals as goal
+
+pub returns-clause-last : goal.returns-clause-last
+returns-clause-last g c =
+    let e = c.publish.ensures in
+    published_last _ _ _ c.args.named _ c.publish.result _ e.appended e.seen e.listed c.requires.number
+
+pub returns-clause-newest : goal.returns-clause-newest
+returns-clause-newest g c =
+    let e = c.publish.ensures in
+    published_next _ _ _ c.args.named _ c.publish.result _ e.appended e.front e.listed c.requires.number
 
 pub returns-clause-stale : goal.returns-clause-stale
 returns-clause-stale g c n is =
