@@ -1,7 +1,7 @@
 -- Each outcome of a connection is one step of the machine of versions.
-use Rattle.std.proofs.Common.{◌≡◌, ℕ, zero, suc, ◌+◌, ◌-◌, ◌<◌, ◌≤◌, ◌==◌, not, max, Bool, true, false, cond, if◌then◌else◌, List, [], ◌∷◌, ◌++◌, length, take, get_or, Option, Some, None, slice_get, refl, sym, ap, ◌∙◌, subst, arith}
-use Rattle.std.proofs.lemmas.List.{length-take-le}
-use Rattle.std.proofs.lemmas.Option.{slice_get_within}
+use Rattle.std.proofs.Common.{◌≡◌, ◌≢◌, ℕ, ◌+◌, ◌-◌, ◌<◌, ◌≤◌, ◌==◌, not, max, Bool, true, false, cond, if◌then◌else◌, List, [], ◌∷◌, ◌++◌, length, take, get_or, Option, Some, None, slice_get, refl, sym, ap, ◌∙◌, subst, arith}
+use Rattle.std.proofs.lemmas.List.{length-take-le, take_more}
+use Rattle.std.proofs.lemmas.Option.{slice_get_within, get_or_from_slice_get}
 use Rattle.std.proofs.lemmas.Bool.{eq-eqb, ne_eqb}
 use Rattle.tgap_model.specs.Base.{BaseMap}
 use Rattle.tgap_model.specs.declared.machine.Event.TheVariants as event
@@ -18,14 +18,13 @@ use Rattle.connection_laws.specs.Steps.{machine_at, IsStep, AreSteps, OutcomesAr
 
 -- one more, the one of that place
 cut_more : {X : Type 0} (n : ℕ) (xs : List X) (x : X) → slice_get xs n ≡ Some x → take (n + 1) xs ≡ take n xs ++ x ∷ []
-cut_more n [] x e = absurd cc
-cut_more zero (y ∷ xs) x e = let same : y ≡ x = cc in ap (λ z. z ∷ []) same
-cut_more (suc n) (y ∷ xs) x e = ap (λ zs. y ∷ zs) (cut_more n xs x e)
+cut_more n xs x e =
+    take_more xs n x (slice_get_within xs n x e) ∙ ap (λ z. take n xs ++ z ∷ []) (get_or_from_slice_get xs n x x e)
 
 -- ---- commits of the machine
 
 module _ (limit count pin : ℕ) (history : List BaseMap) (made : BaseMap) (there : count ≤ length history) where
-  here : Versions
+  abbrev here : Versions
   here = machine_at limit history count pin
 
   long : length (take count history) ≡ count
@@ -61,7 +60,7 @@ pinned_step limit n pin history there =
 
 module _ (limit : ℕ) (history : List BaseMap) (s : Standing) (item : Item) (n : ℕ) (room : length history ≤ limit) (known : s.pin ≤ s.known)
     (there : s.known < length history) where
-  turn : Row → Turn
+  abbrev turn : Row → Turn
   turn row = record { item = item; number = n; row = row }
 
   one_step : (row : Row) → Holds row limit history s (asked_of item) n → IsStep limit history s (turn row)
