@@ -1,5 +1,5 @@
 -- Each outcome of a connection is one step of the machine of versions.
-use Rattle.std.proofs.Common.{◌≡◌, ◌≢◌, ℕ, ◌+◌, ◌-◌, ◌<◌, ◌≤◌, ◌==◌, not, max, Bool, true, false, cond, if◌then◌else◌, List, [], ◌∷◌, ◌++◌, length, take, get_or, Option, Some, None, slice_get, refl, sym, ap, ◌∙◌, subst, arith}
+use Rattle.std.proofs.Common.{◌≡◌, ◌≢◌, ℕ, ◌+◌, ◌-◌, ◌<◌, ◌≤◌, max, List, [], ◌∷◌, ◌++◌, length, take, Some, slice_get, refl, sym, ap, ◌∙◌, arith}
 use Rattle.std.proofs.lemmas.List.{length-take-le, take_more}
 use Rattle.std.proofs.lemmas.Option.{slice_get_within, get_or_from_slice_get}
 use Rattle.std.proofs.lemmas.Bool.{eq-eqb, ne_eqb}
@@ -10,9 +10,9 @@ use Rattle.tgap_model.specs.Machine.{Versions, commit, step}
 use Rattle.session.specs.declared.row.Row.{Row}
 use Rattle.session.specs.declared.row.Row.TheVariants.{Read, Pinned, SeenPinned, Behind, Refused, Published, Stale, Full, NoMemory}
 use Rattle.session.specs.Items.{Item, asked_of}
-use Rattle.session.specs.Outcomes.{Standing, Turn, next, Holds, Outcomes}
+use Rattle.session.specs.Outcomes.{Standing, Turn, next, Holds}
 use Rattle.session.proofs.Talks.{known_within}
-use Rattle.connection_laws.specs.Steps.{machine_at, IsStep, AreSteps, OutcomesAreSteps}
+use Rattle.connection_laws.specs.Steps.{machine_at, IsStep, OutcomesAreSteps}
 
 -- ---- a list that is cut
 
