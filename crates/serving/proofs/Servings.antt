@@ -18,7 +18,7 @@ use Rattle.map_workers.specs.Seats.{newest_of, ServedRight}
 use Rattle.commands.specs.declared.outcome.Outcome.{Outcome}
 use Rattle.commands.specs.declared.outcome.Outcome.TheVariants.{OutOfMemory, PortFault}
 use Rattle.commands.specs.Outcomes.{status_of, text_of, TakesMemory}
-use Rattle.commands.specs.Delivery.{Delivers, PutsWhole}
+use Rattle.commands.specs.Delivery.{Delivers}
 use Rattle.plain_io.specs.declared.files.Which.{Which}
 use Rattle.plain_io.specs.Loads.{Told}
 use Rattle.commands.specs.Command.{Source, Check}
@@ -172,9 +172,7 @@ module _ {D : Type 0} (first : List ℕ) (Back : List D → Type 0) (Served : Ty
     other = λ a b c. absurd (b d.0);
     front = λ e. inl (
       back,
-      o,
-      elim port [ inl p ↦ inl (p.2, p.1) | inr p ↦ inr (p.0, rises_rose count count' p.1) ],
-      d.1,
+      (o, elim port [ inl p ↦ inl (p.2, p.1) | inr p ↦ inr (p.0, rises_rose count count' p.1) ], d.1),
     );
     sink_fault = λ e. d.2;
     sink_kept = λ n. absurd (n d.0);
@@ -188,7 +186,7 @@ module _ {D : Type 0} (first : List ℕ) (Back : List D → Type 0) (Served : Ty
     port_fault = λ e. elim port [ inl p ↦ absurd (p.0 (sym d.0 ∙ e)) | inr p ↦ rises_rose count count' p.1 ];
     sound = λ n m. elim port [ inl p ↦ p.1 | inr p ↦ absurd (m (d.0 ∙ ap status_of p.0)) ];
     doors = ([], back);
-    other = λ a b c. elim port [ inl p ↦ (o, p.2, d.0, d.1) | inr p ↦ absurd (c (d.0 ∙ ap status_of p.0)) ];
+    other = λ a b c. elim port [ inl p ↦ (o, p.2, (d.0, d.1)) | inr p ↦ absurd (c (d.0 ∙ ap status_of p.0)) ];
     front = λ e. absurd (not_six (sym d.0 ∙ e));
     sink_fault = λ e. absurd (not_six (sym d.0 ∙ e));
     sink_kept = λ n. d.2;
@@ -225,11 +223,9 @@ serves_on first first' Back Back' Served Served' count before count' told told' 
   doors = (s.doors.0, on s.doors.0 s.doors.1);
   other = λ a b c. let h = s.other a b c in (h.0, make h.0 h.1, h.2);
   front = λ e. elim (s.front e) [
-    | inl p ↦ inl (
-      on [] p.0,
-      p.1,
-      elim p.2 [ inl r ↦ inl (make p.1 r.0, r.1 ∙ same) | inr r ↦ inr (r.0, subst (λ n. Rose n count') same r.1) ],
-      p.3,
+    | inl (back, (o, why, front)) ↦ inl (
+      on [] back,
+      (o, elim why [ inl r ↦ inl (make o r.0, r.1 ∙ same) | inr r ↦ inr (r.0, subst (λ n. Rose n count') same r.1) ], front),
     )
     | inr (inl p) ↦ inr (inl (p.0 ∙ same, subst (AppendsFront told told') line p.1))
     | inr (inr p) ↦ inr (inr (
@@ -293,7 +289,7 @@ after_line first Back Served count count' told middle told' sunk between sunk' s
   sound = λ a b. absurd (a d.0);
   doors = (doors, back);
   other = λ a b c. absurd (b d.0);
-  front = λ e. inr (inr (rose, served, middle, line, d.1));
+  front = λ e. inr (inr (rose, served, (middle, line, d.1)));
   sink_fault = λ e. subst (λ k. Rises k sunk') same d.2;
   sink_kept = λ a. absurd (a d.0);
 }
