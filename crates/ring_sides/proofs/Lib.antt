@@ -6,3 +6,6 @@ pub mod TakenSides
 pub mod TakenFaces
 pub mod BasedIsBase
 pub mod Read
+pub mod Takings
+pub mod FaceRings
+pub mod RingSides
