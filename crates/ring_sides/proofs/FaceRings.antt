@@ -1,5 +1,5 @@
 -- The rings of a topology, one after the other: what they take, or the first that comes to a fault.
-use Rattle.std.proofs.Common.{◌≡◌, inl, inr, ℕ, suc, ◌+◌, ◌-◌, ◌^◌, ◌<◌, ◌≤◌, Bool, true, false, cond, not, List, [], ◌∷◌, ◌++◌, length, get_or, map, filter, All, MatchResult, Option, Some, None, Result, Ok, ℤ, pos, int_eq, refl, sym, ap, ◌∙◌, subst, true≢false, append_assoc, append-nil, arith}
+use Rattle.std.proofs.Common.{◌≡◌, inl, inr, ℕ, suc, ◌+◌, ◌-◌, ◌^◌, ◌<◌, ◌≤◌, Bool, true, false, cond, not, List, [], ◌∷◌, ◌++◌, length, get_or, map, filter, MatchResult, Option, Some, None, Result, Ok, ℤ, pos, int_eq, refl, sym, ap, ◌∙◌, subst, true≢false, append_assoc, append-nil, arith}
 use Rattle.std.specs.List.{list_all}
 use Rattle.std.proofs.lemmas.Bool.{and_parts, cases_eq, cond-true, cond-false, lt-ltb, le-ltb}
 use Rattle.std.proofs.lemmas.Bool.Decides.{Decides-int_eq}
@@ -17,7 +17,9 @@ use Rattle.tgap_model.specs.Json.{ensured, try_fold}
 use Rattle.tgap_model.specs.Rings.{start_named, end_named, open_from, open_place, closed, is_collapsed, ring_area, Taken, index_taken, ring_taken, holes_taken, class_named, with_face, face_taken, polygon_taken, is_raw_ring}
 use Rattle.tgap_model.proofs.Points.{same_point-true, same_point-from}
 use Rattle.ring_sides.specs.Arcs.{index_after}
-use Rattle.ring_sides.specs.Sides.{has_exterior, is_face, FaceRing, holes_of, rings_of, rings_from, IsJoined, IsClosed, IsWhole, is_on_left, ring_takes, rings_take, IsFaultAmong}
+use Rattle.ring_sides.specs.FaceRings.{has_exterior, is_face, IsJoined, IsClosed, IsWhole, is_on_left}
+use Rattle.ring_sides.specs.Places.{FaceRing, holes_of, rings_of, rings_from, ring_takes, rings_take}
+use Rattle.ring_sides.specs.RingFaults.{AreWhole, IsFaultAmong}
 use Rattle.ring_sides.proofs.RawArcs.{ring_few}
 use Rattle.ring_sides.proofs.Takings.{in_turn, so, Holds, IsAgain, places_step}
 
@@ -90,7 +92,7 @@ gap_of arcs (i ∷ ring) few = gap_from arcs (i ∷ ring) few 0 (i ∷ ring) (re
 
 -- what is taken after these rings, which are whole
 pub record Follows (arcs : List (List Point)) (classes : List ℕ) (rings : List FaceRing) (taken : Taken) : Type 0 where
-  pub whole : All (IsWhole arcs) rings
+  pub whole : AreWhole arcs rings
   pub sides : Holds (length arcs) classes (rings_take arcs rings) taken
 
 -- a fault is among these rings where more follow
@@ -112,7 +114,7 @@ take_push arcs rings ring = flat_map-append (ring_takes arcs) rings (ring ∷ []
 module _ (arcs : List (List Point)) (classes : List ℕ) where
   module _ (before : List FaceRing) (ring : FaceRing) (taken : Taken) (h : Follows arcs classes before taken) where
     -- a place that takes a side again is a fault of the ring
-    twice : IsWhole arcs ring → (fault : MapFault) → IsAgain (rings_take arcs before) (ring_takes arcs ring) fault → IsFaultAmong arcs (before ++ ring ∷ []) fault
+    twice : IsWhole arcs ring.indexes → (fault : MapFault) → IsAgain (rings_take arcs before) (ring_takes arcs ring) fault → IsFaultAmong arcs (before ++ ring ∷ []) fault
     twice whole fault again =
         subst (IsFaultAmong arcs (before ++ ring ∷ [])) (sym again.is) (record {
           before = before;
@@ -139,7 +141,7 @@ module _ (arcs : List (List Point)) (classes : List ℕ) where
     ring_step few some = by (open_place arcs ring.indexes) (gap_of arcs ring.indexes few)
       where
         walk : Result Taken MapFault
-        walk = try_fold (index_taken arcs (is_on_left arcs ring) ring.face) taken ring.indexes
+        walk = try_fold (index_taken arcs (is_on_left arcs ring.exterior ring.indexes) ring.face) taken ring.indexes
 
         by_area : IsClosed arcs ring.indexes → (flat : Bool) → int_eq (ring_area arcs ring.indexes) (pos 0) ≡ flat
             → MatchResult (ensured (not flat) (RingFlat ring.number) >>= λ wide. walk) (Follows arcs classes (before ++ ring ∷ [])) (IsFaultAmong arcs (before ++ ring ∷ []))
@@ -153,14 +155,14 @@ module _ (arcs : List (List Point)) (classes : List ℕ) where
           wrong = record { number = refl; closed = shut; flat = (Decides-int_eq (ring_area arcs ring.indexes) (pos 0)).0 e };
         }
         by_area shut false e =
-            let whole : IsWhole arcs ring = record {
+            let whole : IsWhole arcs ring.indexes = record {
               closed = shut;
               wide = λ flat. true≢false (sym ((Decides-int_eq (ring_area arcs ring.indexes) (pos 0)).1 flat) ∙ e);
             } in
             so (Holds (length arcs) classes (rings_take arcs before ++ ring_takes arcs ring)) (Follows arcs classes (before ++ ring ∷ []))
             (IsAgain (rings_take arcs before) (ring_takes arcs ring)) (IsFaultAmong arcs (before ++ ring ∷ [])) walk
             (λ u now. record {
-              whole = All-push (IsWhole arcs) before ring h.whole whole;
+              whole = All-push (λ (w : FaceRing). IsWhole arcs w.indexes) before ring h.whole whole;
               sides = subst (λ ts. Holds (length arcs) classes ts u) (sym (take_push arcs before ring)) now;
             })
             (twice whole) (places_step arcs ring some classes ring.indexes (rings_take arcs before) taken h.sides)
@@ -266,8 +268,8 @@ module _ (arcs : List (List Point)) (named : NamedRules) where
       by true face same =
           subst (λ (cs : List ℕ). Follows arcs cs (before ++ []) taken) (sym (append-nil classes)) (subst (λ rings. Follows arcs classes rings taken) (sym (append-nil before)) h)
       by false face same =
-          let parts = and_parts _ _ formed in
           let some : 1 ≤ f = omega arith in
+          let parts = and_parts _ _ formed in
           subst (λ (g : ℕ). MatchResult (ring_taken arcs true g r exterior made >>= holes_taken arcs g (next_number r) holes)
           (Follows arcs (classes ++ k ∷ []) (before ++ (ring ∷ rest))) (IsFaultAmong arcs (before ++ (ring ∷ rest)))) (sym same)
           (ring_then arcs (classes ++ k ∷ []) before ring made rest (holes_taken arcs f (next_number r) holes) (ring_few (length arcs) exterior parts.0) some with_one

@@ -8,4 +8,7 @@ pub mod BasedIsBase
 pub mod Read
 pub mod Takings
 pub mod FaceRings
+pub mod RingTakings
 pub mod RingSides
+pub mod OneBase
+mod Examples

@@ -1,5 +1,5 @@
 -- What the rings so far took, step by step, is what the list of their takings tells.
-use Rattle.std.proofs.Common.{◌≡◌, ◌≢◌, inl, inr, ℕ, ◌<◌, ◌≤◌, ◌==◌, nat_lt, Bool, true, false, cond, not, List, [], ◌∷◌, ◌++◌, length, get_or, set, Contains, MatchResult, flat_map, Result, Ok, Err, ℤ, refl, sym, ap, ◌∙◌, subst, true≢false, append_assoc, append-nil, arith}
+use Rattle.std.proofs.Common.{◌≡◌, ◌≢◌, inl, inr, ℕ, ◌<◌, ◌≤◌, ◌==◌, nat_lt, Bool, true, false, cond, List, [], ◌∷◌, ◌++◌, length, get_or, set, Contains, MatchResult, flat_map, Result, Ok, Err, ℤ, refl, sym, ap, ◌∙◌, subst, true≢false, append_assoc, append-nil, arith}
 use Rattle.std.proofs.lemmas.Bool.{ltb-false, eqb-true, eqb-false}
 use Rattle.std.proofs.lemmas.List.{length-set, get_or_default, get_or-set_same, get_or-set_other}
 use Rattle.std.proofs.lemmas.List.Elements.{Contains-append_left, Contains-push, Contains-push_cases}
@@ -9,8 +9,9 @@ use Rattle.tgap_model.specs.declared.fault.MapFault.{MapFault}
 use Rattle.tgap_model.specs.declared.fault.MapFault.TheVariants.{SideTaken}
 use Rattle.tgap_model.specs.Lines.{◌>>=◌}
 use Rattle.tgap_model.specs.Json.{ensured, try_fold}
-use Rattle.tgap_model.specs.Rings.{arc_named, is_reversed, points_named, Taken, side_taken, index_taken}
-use Rattle.ring_sides.specs.Sides.{FaceRing, Taking, is_on_left, index_takes, Takes, AreApart, AreTakenOnce}
+use Rattle.tgap_model.specs.Rings.{arc_named, points_named, Taken, side_taken, index_taken}
+use Rattle.ring_sides.specs.FaceRings.{is_on_left, is_left_of}
+use Rattle.ring_sides.specs.Places.{FaceRing, Taking, index_takes, Takes, AreApart, AreTakenOnce}
 use Rattle.ring_sides.proofs.TakenSides.{after_set, named_below}
 
 -- ---- a step that may come to a fault
@@ -193,11 +194,11 @@ module _ (n : ℕ) (classes : List ℕ) (takings : List Taking) (taken : Taken) 
 module _ (arcs : List (List Point)) (ring : FaceRing) (some : 1 ≤ ring.face) (classes : List ℕ) where
   -- the next place
   index_step : (i : ℤ) (takings : List Taking) (taken : Taken) → Holds (length arcs) classes takings taken
-      → MatchResult (index_taken arcs (is_on_left arcs ring) ring.face taken i) (Holds (length arcs) classes (takings ++ index_takes arcs ring i)) (IsAgain takings (index_takes arcs ring i))
+      → MatchResult (index_taken arcs (is_on_left arcs ring.exterior ring.indexes) ring.face taken i) (Holds (length arcs) classes (takings ++ index_takes arcs ring i)) (IsAgain takings (index_takes arcs ring i))
   index_step i takings taken h = by (nat_lt (length (points_named arcs i)) 2) refl
     where
       side : Bool
-      side = cond (is_reversed i) (not (is_on_left arcs ring)) (is_on_left arcs ring)
+      side = is_left_of arcs ring.exterior ring.indexes i
 
       takes : Bool → List Taking
       takes short = cond short [] (taking (arc_named i) side ring.face ∷ [])
@@ -211,16 +212,16 @@ module _ (arcs : List (List Point)) (ring : FaceRing) (some : 1 ≤ ring.face) (
 
   -- all of them
   pub places_step : (indexes : List ℤ) (takings : List Taking) (taken : Taken) → Holds (length arcs) classes takings taken
-      → MatchResult (try_fold (index_taken arcs (is_on_left arcs ring) ring.face) taken indexes)
+      → MatchResult (try_fold (index_taken arcs (is_on_left arcs ring.exterior ring.indexes) ring.face) taken indexes)
       (Holds (length arcs) classes (takings ++ flat_map (index_takes arcs ring) indexes)) (IsAgain takings (flat_map (index_takes arcs ring) indexes))
   places_step [] takings taken h = subst (λ ts. Holds (length arcs) classes ts taken) (sym (append-nil takings)) h
   places_step (i ∷ indexes) takings taken h =
       let first : List Taking = index_takes arcs ring i in
       let rest : List Taking = flat_map (index_takes arcs ring) indexes in
       in_turn (Holds (length arcs) classes (takings ++ first)) (IsAgain takings first) (Holds (length arcs) classes (takings ++ (first ++ rest))) (IsAgain takings (first ++ rest))
-      (index_taken arcs (is_on_left arcs ring) ring.face taken i) (λ next. try_fold (index_taken arcs (is_on_left arcs ring) ring.face) next indexes) (index_step i takings taken h)
+      (index_taken arcs (is_on_left arcs ring.exterior ring.indexes) ring.face taken i) (λ next. try_fold (index_taken arcs (is_on_left arcs ring.exterior ring.indexes) ring.face) next indexes) (index_step i takings taken h)
       (again_more takings first rest)
       (λ next now. so (Holds (length arcs) classes ((takings ++ first) ++ rest)) (Holds (length arcs) classes (takings ++ (first ++ rest)))
-      (IsAgain (takings ++ first) rest) (IsAgain takings (first ++ rest)) (try_fold (index_taken arcs (is_on_left arcs ring) ring.face) next indexes)
+      (IsAgain (takings ++ first) rest) (IsAgain takings (first ++ rest)) (try_fold (index_taken arcs (is_on_left arcs ring.exterior ring.indexes) ring.face) next indexes)
       (λ u. subst (λ ts. Holds (length arcs) classes ts u) (append_assoc takings first rest)) (again_before takings first rest)
       (places_step indexes (takings ++ first) next now))

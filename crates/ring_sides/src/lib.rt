@@ -5,11 +5,12 @@
 ghost use Rattle.std.specs.Prelude.{◌≡◌, Err, IfOk, IsTrue};
 ghost use Rattle.tgap_model.specs.declared.failure.Or.TheVariants.{Fault};
 ghost use Rattle.tgap_model.specs.declared.fault.MapFault.{MapFault};
-ghost use Rattle.tgap_model.specs.Base.{is_transform};
+ghost use Rattle.tgap_model.specs.Base.{BaseMap, is_transform};
 ghost use Rattle.tgap_model.specs.RulesFile.{is_named_rules};
 ghost use Rattle.tgap_model.specs.Rings.{is_raw_map, based};
 ghost use Rattle.plain_io.specs.Taking.{GivesWhole};
-ghost use Rattle.ring_sides.specs.Sides.{HasRingSides, IsRingFault};
+ghost use Rattle.ring_sides.specs.Sides.{HasRingSides};
+ghost use Rattle.ring_sides.specs.RingFaults.{IsRingFault};
 
 mod arcs;
 mod face;
@@ -63,6 +64,9 @@ pub fn to_base(alloc: Global, raw: &RawMap, named: &NamedRules) -> Result<Base, 
     ensures exact { GivesWhole result (based raw.now named.now) }
     // The base map, told of the rings: each side of an arc has the face that takes it, and the arcs are those with a face.
     ensures sides { IfOk result (λ base. HasRingSides raw.now named.now base) }
+    // No other base map has these sides; where there is a fault, none has.
+    ensures only { (other : BaseMap) → HasRingSides raw.now named.now other → IfOk result (λ base. base ≡ other) }
+    ensures refused { (base : BaseMap) → HasRingSides raw.now named.now base → (f : MapFault) → ¬ (result ≡ Err (Fault f)) }
     // What the fault names is wrong there, and nothing before it is.
     ensures shown { (f : MapFault) → result ≡ Err (Fault f) → IsRingFault raw.now f }
 {

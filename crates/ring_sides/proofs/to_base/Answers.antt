@@ -8,6 +8,7 @@ use Rattle.tgap_model.specs.Rings.{nothing_taken, polygon_taken, sided_from, bas
 use Rattle.ring_sides.specs.Taking.{HasSides}
 use Rattle.ring_sides.proofs.Read.{raw_map_facts, rings_formed, made_some}
 use Rattle.ring_sides.proofs.RingSides.{sides_told, fault_shown}
+use Rattle.ring_sides.proofs.OneBase.{only_told, refused_told}
 use Rattle.ring_sides.proofs.to_base.Goals as goal
 
 pub of-requires : goal.of-requires
@@ -51,3 +52,15 @@ returns-in_err-sided-clause-shown c = fault_shown c.args.raw.now c.args.named.no
 pub returns-clause-sides : goal.returns-clause-sides
 unfolding based
 returns-clause-sides c = sides_told c.args.raw.now c.args.named.now (Ok c.unwrap.result) c.requires.raw (search rules)
+
+pub returns-clause-only : goal.returns-clause-only
+unfolding based
+returns-clause-only c = only_told c.args.raw.now c.args.named.now (Ok c.unwrap.result) c.requires.raw (search rules)
+
+pub returns-in_err-taken-clause-refused : goal.returns-in_err-taken-clause-refused
+unfolding based
+returns-in_err-taken-clause-refused c = refused_told c.args.raw.now c.args.named.now c.from_residual-in_err-taken.result c.requires.raw (search rules)
+
+pub returns-in_err-sided-clause-refused : goal.returns-in_err-sided-clause-refused
+unfolding based
+returns-in_err-sided-clause-refused c = refused_told c.args.raw.now c.args.named.now c.from_residual-in_err-sided.result c.requires.raw (search rules)
