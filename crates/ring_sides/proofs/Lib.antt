@@ -11,4 +11,5 @@ pub mod FaceRings
 pub mod RingTakings
 pub mod RingSides
 pub mod OneBase
+pub mod TurnedRings
 mod Examples
