@@ -51,7 +51,7 @@ pub record TakenFacts (arcs : List (List Point)) (classes faces sided : ℕ) (ta
 -- ---- one side is taken
 
 -- an entry after a write is the one that was written, or as it was
-after_set : (xs : List ℕ) (a f b : ℕ) → ((b ≡ a) × (get_or (set xs a f) b 0 ≡ f)) ⊎ (get_or (set xs a f) b 0 ≡ get_or xs b 0)
+pub after_set : (xs : List ℕ) (a f b : ℕ) → ((b ≡ a) × (get_or (set xs a f) b 0 ≡ f)) ⊎ (get_or (set xs a f) b 0 ≡ get_or xs b 0)
 after_set [] a f b = inr refl
 after_set (x ∷ xs) zero f zero = inl (refl, refl)
 after_set (x ∷ xs) zero f (suc b) = inr refl
@@ -150,7 +150,7 @@ module _ (arcs : List (List Point)) (f : ℕ) where
   })
 
   -- an index whose arc has two points names an arc
-  named_below : (i : ℤ) → 2 ≤ length (points_named arcs i) → arc_named i < length arcs
+  pub named_below : (i : ℤ) → 2 ≤ length (points_named arcs i) → arc_named i < length arcs
   named_below i long = elim (cases_lt (arc_named i) (length arcs)) [
     | inl below ↦ below
     | inr past ↦ (let none : length (points_named arcs i) ≡ 0 = ap length (get_or_past arcs (arc_named i) [] past) in absurd (omega arith))

@@ -1,2 +1,6 @@
 pub mod Arcs
+pub mod FaceRings
+pub mod Places
+pub mod Sides
+pub mod RingFaults
 pub mod Taking

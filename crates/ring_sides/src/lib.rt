@@ -2,11 +2,15 @@
 //! topology and its rules make, or what the first fault of the rings is.
 #![tactic(auto)]
 
-ghost use Rattle.std.specs.Prelude.{◌≡◌, IsTrue};
-ghost use Rattle.tgap_model.specs.Base.{is_transform};
+ghost use Rattle.std.specs.Prelude.{◌≡◌, Err, IfOk, IsTrue};
+ghost use Rattle.tgap_model.specs.declared.failure.Or.TheVariants.{Fault};
+ghost use Rattle.tgap_model.specs.declared.fault.MapFault.{MapFault};
+ghost use Rattle.tgap_model.specs.Base.{BaseMap, is_transform};
 ghost use Rattle.tgap_model.specs.RulesFile.{is_named_rules};
 ghost use Rattle.tgap_model.specs.Rings.{is_raw_map, based};
 ghost use Rattle.plain_io.specs.Taking.{GivesWhole};
+ghost use Rattle.ring_sides.specs.Sides.{HasRingSides};
+ghost use Rattle.ring_sides.specs.RingFaults.{IsRingFault};
 
 mod arcs;
 mod face;
@@ -58,6 +62,13 @@ pub fn to_base(alloc: Global, raw: &RawMap, named: &NamedRules) -> Result<Base, 
     requires named { IsTrue (is_named_rules named.now) }
     // The base map, or the first fault, by the function that computes on small maps.
     ensures exact { GivesWhole result (based raw.now named.now) }
+    // The base map, told of the rings: each side of an arc has the face that takes it, and the arcs are those with a face.
+    ensures sides { IfOk result (λ base. HasRingSides raw.now named.now base) }
+    // No other base map has these sides; where there is a fault, none has.
+    ensures only { (other : BaseMap) → HasRingSides raw.now named.now other → IfOk result (λ base. base ≡ other) }
+    ensures refused { (base : BaseMap) → HasRingSides raw.now named.now base → (f : MapFault) → ¬ (result ≡ Err (Fault f)) }
+    // What the fault names is wrong there, and nothing before it is.
+    ensures shown { (f : MapFault) → result ≡ Err (Fault f) → IsRingFault raw.now f }
 {
     let arcs = Arcs::of(alloc, raw.arcs.as_slice())?;
     let taken = take_polygons(alloc, &arcs, named, raw.polygons.as_slice())?;

@@ -1,12 +1,14 @@
 -- What was read has its form, and so has what is made of it.
-use Rattle.std.proofs.Common.{◌≡◌, ◌∙◌, ap, sym, subst, Ok, List, length}
+use Rattle.std.proofs.Common.{◌≡◌, ◌∙◌, ap, sym, subst, Ok, List, length, rules}
 use Rattle.tgap_model.specs.declared.geometry.Point.{Point}
 use Rattle.tgap_model.specs.declared.topology.RawPolygon.{RawPolygon}
 use Rattle.tgap_model.specs.Base.{BaseMap}
 use Rattle.tgap_model.specs.Json.{try_fold}
-use Rattle.tgap_model.specs.Rings.{nothing_taken, polygon_taken, sided_from}
+use Rattle.tgap_model.specs.Rings.{nothing_taken, polygon_taken, sided_from, based}
 use Rattle.ring_sides.specs.Taking.{HasSides}
 use Rattle.ring_sides.proofs.Read.{raw_map_facts, rings_formed, made_some}
+use Rattle.ring_sides.proofs.RingSides.{sides_told, fault_shown}
+use Rattle.ring_sides.proofs.OneBase.{only_told, refused_told}
 use Rattle.ring_sides.proofs.to_base.Goals as goal
 
 pub of-requires : goal.of-requires
@@ -38,3 +40,27 @@ unwrap-requires c =
     sym (ap (λ (a : List (List Point)). sided_from 0 a taken.left taken.right) c.as_slice-3.ensures) ∙ c.in_ok-sided.ensures in
     made_some raw named taken m c.new.result c.requires.raw c.requires.named c.read_transform-transform.ensures.words took sided
     c.read_transform-transform.ensures.same c.in_ok-rules.ensures c.into_classes.ensures c.new.ensures
+
+pub returns-in_err-taken-clause-shown : goal.returns-in_err-taken-clause-shown
+unfolding based
+returns-in_err-taken-clause-shown c = fault_shown c.args.raw.now c.args.named.now c.from_residual-in_err-taken.result c.requires.raw (search rules)
+
+pub returns-in_err-sided-clause-shown : goal.returns-in_err-sided-clause-shown
+unfolding based
+returns-in_err-sided-clause-shown c = fault_shown c.args.raw.now c.args.named.now c.from_residual-in_err-sided.result c.requires.raw (search rules)
+
+pub returns-clause-sides : goal.returns-clause-sides
+unfolding based
+returns-clause-sides c = sides_told c.args.raw.now c.args.named.now (Ok c.unwrap.result) c.requires.raw (search rules)
+
+pub returns-clause-only : goal.returns-clause-only
+unfolding based
+returns-clause-only c = only_told c.args.raw.now c.args.named.now (Ok c.unwrap.result) c.requires.raw (search rules)
+
+pub returns-in_err-taken-clause-refused : goal.returns-in_err-taken-clause-refused
+unfolding based
+returns-in_err-taken-clause-refused c = refused_told c.args.raw.now c.args.named.now c.from_residual-in_err-taken.result c.requires.raw (search rules)
+
+pub returns-in_err-sided-clause-refused : goal.returns-in_err-sided-clause-refused
+unfolding based
+returns-in_err-sided-clause-refused c = refused_told c.args.raw.now c.args.named.now c.from_residual-in_err-sided.result c.requires.raw (search rules)
