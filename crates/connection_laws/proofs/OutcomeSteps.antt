@@ -42,8 +42,10 @@ module _ (limit count pin : ℕ) (history : List BaseMap) (made : BaseMap) (ther
   commit_published : pin + 1 ≡ count → count < limit → commit here 0 pin made
       ≡ (record { history = take count history ++ made ∷ []; limit = limit; pins = Some count ∷ [] }, outcome.Published count)
   commit_published newest room =
-      rw (eq-eqb pin (length (take count history) - 1) (omega (arith, newest, long)),
-        ne_eqb (length (take count history)) limit (λ e. omega (arith, e, long, room)))
+      rw (
+        eq-eqb pin (length (take count history) - 1) (omega (arith, newest, long)),
+        ne_eqb (length (take count history)) limit (λ e. omega (arith, e, long, room)),
+      )
       (ap (λ n. (record { history = take count history ++ made ∷ []; limit = limit; pins = Some n ∷ [] }, outcome.Published n)) long)
 
 -- ---- one outcome

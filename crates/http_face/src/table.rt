@@ -46,7 +46,11 @@ fn filled(alloc: Global) -> Result<Router<Resource>, Memory>
     put_in(&mut router, "/pin/{seen}", Resource::PinSeen)?;
     put_in(&mut router, "/slice/{step}", Resource::Slice)?;
     put_in(&mut router, "/packet/{from}/{to}", Resource::Packet)?;
-    put_in(&mut router, "/window/{step}/{x0}/{y0}/{x1}/{y1}", Resource::Window)?;
+    put_in(
+        &mut router,
+        "/window/{step}/{x0}/{y0}/{x1}/{y1}",
+        Resource::Window,
+    )?;
     put_in(&mut router, "/edit", Resource::Edit)?;
     Ok(router)
 }

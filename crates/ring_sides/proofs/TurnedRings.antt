@@ -6,19 +6,8 @@ use Rattle.tgap_model.specs.declared.geometry.Point.{Point}
 use Rattle.tgap_model.specs.Point.{shoelace}
 use Rattle.tgap_model.specs.Rings.{points_named, shoelace_named, ring_area}
 use Rattle.ring_sides.specs.FaceRings.{is_on_left, is_left_of}
-use Rattle.ring_sides.specs.Places.{FaceRing, Taking, index_takes}
-
--- the same arc in the other direction, and a ring the other way round
-abbrev pub turned_index : ℤ → ℤ
-turned_index (pos n) = negsuc n
-turned_index (negsuc n) = pos n
-
-abbrev pub turned : List ℤ → List ℤ
-turned [] = []
-turned (i ∷ ring) = turned ring ++ turned_index i ∷ []
-
-abbrev pub turned_ring : FaceRing → FaceRing
-turned_ring ring = record { face = ring.face; number = ring.number; exterior = ring.exterior; indexes = turned ring.indexes }
+use Rattle.ring_sides.specs.Places.{Taking}
+use Rattle.ring_sides.specs.Turned.{turned_index, turned, TurnedRingsTakeTheSame}
 
 turned_shoelace : (arcs : List (List Point)) (i : ℤ) → shoelace_named arcs (turned_index i) ≡ neg_ℤ (shoelace_named arcs i)
 turned_shoelace arcs (pos n) = refl
@@ -58,6 +47,6 @@ abbrev side_of : List Point → ℕ → ℕ → Bool → List Taking
 side_of points a f left = cond (nat_lt (length points) 2) [] (record { arc = a; left = left; face = f } ∷ [])
 
 -- a place of the ring takes what it took
-pub turned_takes : (arcs : List (List Point)) (ring : FaceRing) (i : ℤ) → ring_area arcs ring.indexes ≢ pos 0 → index_takes arcs (turned_ring ring) (turned_index i) ≡ index_takes arcs ring i
+pub turned_takes : TurnedRingsTakeTheSame
 turned_takes arcs ring (pos n) wide = ap (side_of (points_named arcs (pos n)) n ring.face) (turned_left_of arcs ring.exterior ring.indexes (pos n) wide)
 turned_takes arcs ring (negsuc n) wide = ap (side_of (points_named arcs (negsuc n)) n ring.face) (turned_left_of arcs ring.exterior ring.indexes (negsuc n) wide)

@@ -1,5 +1,5 @@
 //! From the rings of a topology to the sides of its arcs. It stands on `tgap_model`, whose `Rings` says which base map a
-//! topology and its rules make, or what the first fault of the rings is.
+//! topology and its rules make, or what the first fault of the rings is. One function does nothing: its contract is a law of rings.
 #![tactic(auto)]
 
 ghost use Rattle.std.specs.Prelude.{◌≡◌, Err, IfOk, IsTrue};
@@ -18,12 +18,14 @@ mod measure;
 mod side;
 mod sided;
 mod taken;
+mod turned;
 
 use arcs::Arcs;
 use face::take_polygons;
 use sided::{copied_rules, sided_arcs};
 use std::alloc::Global;
 use tgap_model::{Base, MapFault, NamedRules, Or, RawMap, Transform};
+pub use turned::turned_rings_take_the_same;
 
 /// The same transform. Its numbers are read, so that it is known of each that it has 32 bits.
 fn read_transform(transform: Transform) -> Transform
