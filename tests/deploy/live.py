@@ -206,6 +206,8 @@ def kept_batches(tests, program, front):
     x, y = next(line for line in front.ask("GET", "/map/slice/0").text.decode().splitlines() if line.startswith("edge ")).split()[5:7]
     for batch in [f"move {x} {y} {int(x) + 1} {y}\n".encode(), b"no line\n", b"class 2 2\n"]:
         front.edit(batch)
+    # A line of the log is written when its reply was sent.
+    until(lambda: len(kept(front)) >= 2, AT_ONCE)
     lines = kept(front)
     tests.same("which edits are kept", [(line["version"], line["editor"]) for line in lines], [("1", "anna"), ("2", "anna")])
     batch = "".join(line["batch"] for line in lines)
