@@ -53,24 +53,68 @@ def comb(teeth):
     return 1, 1, 4 * teeth + 1, [(1, 0, list(points()))]
 
 
+def rim(reach, place):
+    """The points of a square round (0, 0), in counter-clockwise order."""
+    side, along = divmod(place % (8 * reach), 2 * reach)
+    x, y = reach, along - reach
+    for _ in range(side):
+        x, y = -y, x
+    return x, y
+
+
 def star(reach):
     """Arcs that leave one node for the points of the square round it, in counter-clockwise order; a face lies between
     each two, and an arc of the square closes it."""
     count = 8 * reach
 
-    def rim(place):
-        side, along = divmod(place % count, 2 * reach)
-        x, y = reach, along - reach
-        for _ in range(side):
-            x, y = -y, x
-        return x, y
+    def arcs():
+        for place in range(count):
+            yield place + 1, (place - 1) % count + 1, [(0, 0), rim(reach, place)]
+            yield place + 1, 0, [rim(reach, place), rim(reach, place + 1)]
+
+    return count, 2 * count, 4 * count, arcs()
+
+
+def stripes(side):
+    """Square cells, side by side, of which each row is of another class than the next."""
+    return cells(side)
+
+
+def hub(reach):
+    """A square, the last face, and round it a ring of faces, one at each unit of its border, of another class."""
+    count = 8 * reach
+
+    def outer(place):
+        x, y = rim(reach, place)
+        return 2 * x, 2 * y
 
     def arcs():
         for place in range(count):
-            yield place + 1, (place - 1) % count + 1, [(0, 0), rim(place)]
-            yield place + 1, 0, [rim(place), rim(place + 1)]
+            yield count + 1, place + 1, [rim(reach, place), rim(reach, place + 1)]
+            yield place + 1, (place - 1) % count + 1, [rim(reach, place), outer(place)]
+            yield place + 1, 0, [outer(place), outer(place + 1)]
 
-    return count, 2 * count, 4 * count, arcs()
+    return count + 1, 3 * count, 6 * count, arcs()
+
+
+# Of the shapes with two classes that never go to each other: the class of a face, counted from 0, and how many faces are
+# left at the last step. Of the others all faces are of one class, and one face is left.
+BARRED = {
+    stripes: (lambda side, face: face // side % 2, lambda side: side),
+    hub: (lambda reach, face: face // (8 * reach), lambda reach: 2),
+}
+
+
+def faces_left(shape, size):
+    """How many faces a map has at its last step."""
+    return BARRED[shape][1](size) if shape in BARRED else 1
+
+
+def classes_of(shape, size, faces):
+    """The compatibilities of its classes, and the class of each face."""
+    if shape not in BARRED:
+        return [[1]], [0] * faces
+    return [[1, 0], [0, 1]], [BARRED[shape][0](size, face) for face in range(faces)]
 
 
 # Each shape with its ratio, and with sizes that about double the points, up to what a map may have: 131,072 points,
@@ -81,6 +125,8 @@ SHAPES = {
     "one long arc": (saw, 0, [1024, 2048, 4096, 8192, 16384, 32768, 65534]),
     "comb": (comb, 0, [512, 1024, 2048, 4096, 8192, 16384, 32767]),
     "star": (star, 0, [64, 128, 256, 512, 1024, 2048, 4096]),
+    "stripes": (stripes, 0, [22, 32, 45, 64, 90, 128, 180]),
+    "barred hub": (hub, 0, [42, 85, 170, 341, 682, 1365, 2730]),
 }
 
 
@@ -109,12 +155,13 @@ def write_topology(path, shape, size, ratio=0):
     """Writes the same map as a topology, path.json, with its object 'cells', and its rules, path.rules.json."""
     faces, _, _, arcs = shape(size)
     arcs = list(arcs)
-    geometries = [{"type": "Polygon", "arcs": [ring], "properties": {"kind": "cell"}} for ring in rings_of(faces, arcs)]
+    compat, kinds = classes_of(shape, size, faces)
+    geometries = [{"type": "Polygon", "arcs": [ring], "properties": {"kind": str(kind)}} for ring, kind in zip(rings_of(faces, arcs), kinds)]
     with open(f"{path}.json", "w", encoding="ascii") as file:
         json.dump({"type": "Topology", "transform": {"scale": [1, 1], "translate": [0, 0]}, "objects": {"cells": {"type": "GeometryCollection", "geometries": geometries}},
                    "arcs": [steps_of(points) for _, _, points in arcs]}, file, separators=(",", ":"))
     with open(f"{path}.rules.json", "w", encoding="ascii") as file:
-        json.dump({"property": "kind", "classes": [["cell", 1]], "default": 0, "compat": [[1]], "ratio": ratio}, file)
+        json.dump({"property": "kind", "classes": [[str(kind), 1] for kind in range(len(compat))], "default": 0, "compat": compat, "ratio": ratio}, file)
 
 
 def write_longest(path):
@@ -128,5 +175,8 @@ def write_longest(path):
 def write(path, shape, size, ratio=0):
     """Writes the listing of a map to a file. With a ratio above 0 vertices of it are removed."""
     faces, count, _, arcs = shape(size)
+    compat, kinds = classes_of(shape, size, faces)
+    rows = [" ".join(str(number) for number in [1, *row]) for row in compat]
     with open(path, "w", encoding="ascii") as file:
-        file.writelines(listing_lines(faces, count, (arc_text(*arc) for arc in arcs), ratio=ratio))
+        file.writelines(listing_lines(faces, count, (arc_text(*arc) for arc in arcs), ratio=ratio, classes=rows,
+                                      class_of={face: kind for face, kind in enumerate(kinds, 1) if kind}))

@@ -34,6 +34,7 @@ BORDERS = [
     ("borders four_squares 1", 0, borders(1, "0 5 0", "1 5 0", "2 4 0", "3 3 0", "5 5 4", "6 4 3", "7 3 5")),
     ("borders four_squares 2", 0, borders(2, "0 5 0", "1 5 0", "2 6 0", "3 6 0", "5 5 6", "7 6 5")),
     ("borders four_squares 3", 0, borders(3, "0 7 0", "1 7 0", "2 7 0", "3 7 0")),
+    ("borders two_roots 2", 0, borders(2, "0 5 0", "1 6 0", "2 6 0", "3 5 0", "4 5 6", "6 6 5")),
     ("borders corner 0", 0, borders(0, "0 1 0", "1 2 0")),
     ("borders hole_with_face 0", 0, borders(0, "0 1 0", "1 2 1")),
     ("borders hole_with_face 1", 0, borders(1, "0 3 0")),
@@ -51,6 +52,8 @@ BORDERS = [
     ("borders three_squares 3", 5, "step too high 2\n"),
     ("borders four_squares 4", 5, "step too high 3\n"),
     ("borders spike 2", 5, "step too high 1\n"),
+    ("borders barred_squares 1", 5, "step too high 0\n"),
+    ("borders two_roots 3", 5, "step too high 2\n"),
 ]
 
 CHECK = [
@@ -98,6 +101,14 @@ SLICE = [
     ("slice two_squares_ratio_0 2", 5, "step too high 1\n"),
     ("slice two_squares_ratio_0 4294967295", 5, "step too high 1\n"),
     ("slice four_squares 4", 5, "step too high 3\n"),
+    # A compatibility of 0 forbids a merge.
+    ("slice barred_squares 1", 5, "step too high 0\n"),
+    ("slice one_way_squares 0", 0, text_of("slice 0", "faces 2", "face 1 1", "face 2 0", "edges 3", "edge 0 1 0 4 10 10 0 10 0 0 10 0",
+                                           "edge 1 2 0 4 10 0 20 0 20 10 10 10", "edge 2 1 2 2 10 0 10 10")),
+    ("slice one_way_squares 1", 0, text_of("slice 1", "faces 1", "face 3 1", "edges 1", "edge 0 3 0 6 10 10 0 10 0 0 20 0 20 10 10 10")),
+    ("slice one_way_squares 2", 5, "step too high 1\n"),
+    ("slice two_roots 2", 0, text_of("slice 2", "faces 2", "face 5 0", "face 6 1", "edges 3", "edge 0 5 0 5 10 20 0 20 0 10 0 0 10 0",
+                                     "edge 1 6 0 5 10 0 20 0 20 10 20 20 10 20", "edge 4 5 6 3 10 0 10 10 10 20")),
     # The ratio is told before a step that is too high, and after a fault of the map.
     ("slice crossing 0", 4, "refused 15 meets 0 1 125 125 50\n"),
     ("slice exchanged_sides 0", 4, "refused 16 node 10 0 0 1 2 1\n"),

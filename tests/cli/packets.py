@@ -71,6 +71,8 @@ CASES += [
     ("packet one_square 0 0", 0, packet(0, 0)),
     ("packet hole_with_face 1 0", 0, HOLE_PACKET),
     ("packet triangles 1 0", 0, TRIANGLES_PACKET),
+    ("packet one_way_squares 1 0", 0, packet(1, 0, "step 1 2 0 1 1 3 1 1", *TWO_ROWS[1:])),
+    ("packet barred_squares 1 0", 5, "step too high 0\n"),
     (["packet", "topology_0", "1", "0", "land", "rules_0"], 0, packet(1, 0, "step 1 1 0 2 1 3 1 1", *TWO_ROWS[1:])),
     *((f"packet four_squares {first} {last}", 0, four_packet(first, last)) for first in range(4) for last in range(first + 1)),
     # A step to go to that is above the other is told before one that is too high, and both after a fault of the map.

@@ -7,7 +7,7 @@ from topology import read_topology
 
 ROWS = 24
 DESCRIPTION = """Tells how many steps a map has, and after which of them how many faces, which least area and how many points are left.
-The least area is that of the faces which have a neighbour, in square units of the source; a point that two edges
+The least area is that of the faces which a later step merges, in square units of the source; a point that two edges
 share counts for both, as it is sent for both."""
 ENDING = """status: 0 done, 2 words, 3 a file cannot be read, 4 the map is refused, 5 no step suits
 
@@ -36,7 +36,7 @@ class History:
     def __init__(self, first, steps, areas, unit):
         self.steps, self.unit = steps, unit
         self.areas = dict(areas)
-        # A face that has a neighbour takes part in a later step; one without a neighbour never gets one.
+        # The faces that a step merges; the others stay to the end, as they have no neighbour, or none that may go to the other.
         self.later = {face for step in steps for face in (step.loser, step.winner)}
         for step in steps:
             self.areas[step.made] = self.areas[step.loser] + self.areas[step.winner]
@@ -51,8 +51,8 @@ class History:
             yield self.row(step.number)
 
     def row(self, number):
-        with_neighbour = self.live & self.later or self.live
-        least = min((self.areas[face] for face in with_neighbour), default=0)
+        going = self.live & self.later or self.live
+        least = min((self.areas[face] for face in going), default=0)
         return number, len(self.live), least * self.unit, self.points
 
 

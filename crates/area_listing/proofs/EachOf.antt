@@ -4,7 +4,7 @@ use Rattle.std.specs.List.{fold, concat, list_all}
 use Rattle.std.proofs.lemmas.Bool.{and_from}
 use Rattle.std.proofs.lemmas.Option.{option_and_then_some}
 use Rattle.std.proofs.lemmas.List.{at_drop_more, at_drop_all, append-nil}
-use Rattle.tgap_model.specs.Json.{each_of}
+use Rattle.line_forms.specs.Json.{each_of}
 
 -- what is made of what is read
 pub mapped_some : {A B : Type 0} (f : A → B) (read : Option A) (y : B) → option_map f read ≡ Some y → (x : A) × (read ≡ Some x) × (f x ≡ y)

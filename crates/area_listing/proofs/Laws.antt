@@ -14,11 +14,11 @@ use Rattle.tgap_model.specs.declared.fault.MapFault.TheVariants.{BadLine}
 use Rattle.tgap_model.specs.declared.limits.TheConstants.{MAX_WEIGHT, MAX_COMPATIBILITY, MAX_RATIO, MAX_CLASSES, MAX_FACES, MAX_ARCS, MAX_POINTS}
 use Rattle.tgap_model.specs.Base.{BaseMap, is_rules, is_arc, count_points, is_base, all_faces_bordered, checked}
 use Rattle.tgap_model.proofs.BaseFacts.{RulesFacts, BaseFacts, rules_facts, base_facts}
-use Rattle.tgap_model.specs.Texts.{rows_of}
-use Rattle.tgap_model.specs.Words.{Row, read_words}
-use Rattle.tgap_model.specs.Lines.{◌>>=◌, Lines, all_lines, next_number, read_line, is_over}
-use Rattle.tgap_model.specs.ListingLines.{read_transform, read_count}
-use Rattle.tgap_model.specs.Listing.{transform_words, count_words, class_rows, face_rows, arc_words, listing_rows, IsListing, count_line, classes_at, rules_at, all_faces_at, all_arcs_at, map_at, bordered, end_at, listing}
+use Rattle.line_forms.specs.Texts.{rows_of}
+use Rattle.line_forms.specs.Words.{Row, read_words}
+use Rattle.line_forms.specs.Lines.{◌>>=◌, Lines, all_lines, next_number, read_line, is_over}
+use Rattle.line_forms.specs.ListingLines.{read_transform, read_count}
+use Rattle.map_forms.specs.Listing.{transform_words, count_words, class_rows, face_rows, arc_words, listing_rows, IsListing, count_line, classes_at, rules_at, all_faces_at, all_arcs_at, map_at, bordered, end_at, listing}
 use Rattle.tgap_model.specs.declared.failure.Or.{Or}
 use Rattle.tgap_model.specs.declared.failure.Or.TheVariants.{Fault, Memory}
 use Rattle.plain_io.specs.Taking.{GivesWhole, Refuses}

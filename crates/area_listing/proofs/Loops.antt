@@ -10,10 +10,10 @@ use Rattle.tgap_model.specs.declared.fault.MapFault.TheVariants.{BadLine}
 use Rattle.tgap_model.specs.declared.limits.TheConstants.{MAX_WEIGHT, MAX_COMPATIBILITY}
 use Rattle.tgap_model.specs.declared.failure.Or.{Or}
 use Rattle.tgap_model.specs.declared.failure.Or.TheVariants.{Fault, Memory}
-use Rattle.tgap_model.specs.Words.{Row, ◌>>=◌, natural_at, after_word, after_count, ended}
-use Rattle.tgap_model.specs.Lines.{Lines, line_at, read_line, ◌>>=◌ as ◌or>>=◌}
-use Rattle.tgap_model.specs.ListingLines.{coordinate_at, naturals_at, points_at, read_class, read_face}
-use Rattle.tgap_model.specs.Listing.{arc_at, classes_at, faces_at, arcs_at}
+use Rattle.line_forms.specs.Words.{Row, ◌>>=◌, natural_at, after_word, after_count, ended}
+use Rattle.line_forms.specs.Lines.{Lines, line_at, read_line, ◌>>=◌ as ◌or>>=◌}
+use Rattle.line_forms.specs.ListingLines.{coordinate_at, naturals_at, points_at, read_class, read_face}
+use Rattle.map_forms.specs.Listing.{arc_at, classes_at, faces_at, arcs_at}
 use Rattle.plain_io.specs.Taking.{Refuses}
 use Rattle.plain_io.specs.Fronts.{with_front, in_front}
 use Rattle.plain_io.proofs.Loops.{one_left, none_left, with_front_more, with_front_stop, with_front_done, in_front_more, in_front_stop, in_front_done}

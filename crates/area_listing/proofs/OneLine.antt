@@ -11,9 +11,9 @@ use Rattle.tgap_model.specs.declared.geometry.Point.{Point}
 use Rattle.tgap_model.specs.declared.base.Transform.{Transform}
 use Rattle.tgap_model.specs.declared.limits.TheConstants.{MAX_COORDINATE, MAX_WEIGHT, MAX_COMPATIBILITY}
 use Rattle.tgap_model.specs.Base.{within, is_word, is_transform, in_limits, no_repeat}
-use Rattle.tgap_model.specs.Words.{Row, after_word, natural_at, after_count, ended}
-use Rattle.tgap_model.specs.ListingLines.{word_at, coordinate_at, read_transform, read_count, naturals_at, read_class, read_face, points_at, head_at, read_points}
-use Rattle.tgap_model.specs.Listing.{transform_words, count_words, point_words}
+use Rattle.line_forms.specs.Words.{Row, after_word, natural_at, after_count, ended}
+use Rattle.line_forms.specs.ListingLines.{word_at, coordinate_at, read_transform, read_count, naturals_at, read_class, read_face, points_at, head_at, read_points}
+use Rattle.map_forms.specs.Listing.{transform_words, count_words, point_words}
 use Rattle.plain_io.proofs.Steps.{after_word_is, number_at_is, natural_at_is, after_count_is, ended_is, after_word_again, number_at_again, natural_at_again, after_count_again}
 
 -- ---- what is read is spelled so

@@ -8,7 +8,7 @@ use Rattle.tgap_model.specs.declared.base.Transform.{Transform}
 use Rattle.tgap_model.specs.declared.base.BaseArc.{BaseArc}
 use Rattle.tgap_model.specs.declared.limits.TheConstants.{MAX_COORDINATE, MAX_WEIGHT, MAX_COMPATIBILITY}
 use Rattle.tgap_model.specs.Base.{within, is_word, is_transform, in_limits, is_arc, count_points}
-use Rattle.tgap_model.specs.Listing.{transform_words, count_words, class_rows, face_rows, point_words, arc_words}
+use Rattle.map_forms.specs.Listing.{transform_words, count_words, class_rows, face_rows, point_words, arc_words}
 use Rattle.tgap_model.proofs.BaseFacts.{arc_facts}
 use Rattle.std.proofs.lemmas.List.Sums.{sum_by-cons}
 use Rattle.plain_io.proofs.Words.{is_plain_word, decimal_plain, signed_plain}

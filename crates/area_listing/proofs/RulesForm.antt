@@ -16,9 +16,9 @@ use Rattle.tgap_model.specs.declared.fault.MapFault.{MapFault}
 use Rattle.tgap_model.specs.declared.fault.MapFault.TheVariants.{BadRules}
 use Rattle.tgap_model.specs.declared.limits.TheConstants.{MAX_CLASSES, MAX_WEIGHT, MAX_COMPATIBILITY, MAX_RATIO}
 use Rattle.tgap_model.specs.Base.{is_rules}
-use Rattle.tgap_model.specs.Json.{tree, ensured, items_of, each_of, text_at, natural_in}
-use Rattle.tgap_model.specs.Listing.{within_limit}
-use Rattle.tgap_model.specs.RulesFile.{named_weight, class_of, exactly, classes_of, compat_of, named_rules, rules_of, is_named_rules}
+use Rattle.line_forms.specs.Json.{tree, ensured, items_of, each_of, text_at, natural_in}
+use Rattle.map_forms.specs.Listing.{within_limit}
+use Rattle.map_forms.specs.RulesFile.{named_weight, class_of, exactly, classes_of, compat_of, named_rules, rules_of, is_named_rules}
 use Rattle.plain_io.specs.Taking.{GivesWhole}
 use Rattle.plain_io.proofs.Steps.{bound, ok_or_is}
 use Rattle.area_listing.proofs.EachOf.{mapped_some, where_some, each_of_length, each_of_all}

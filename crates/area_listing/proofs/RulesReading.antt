@@ -14,10 +14,10 @@ use Rattle.tgap_model.specs.declared.fault.MapFault.TheVariants.{Limit, BadRules
 use Rattle.tgap_model.specs.declared.limits.TheConstants.{MAX_CLASSES, MAX_COMPATIBILITY, MAX_RATIO}
 use Rattle.tgap_model.specs.declared.failure.Or.{Or}
 use Rattle.tgap_model.specs.declared.failure.Or.TheVariants.{Fault, Memory}
-use Rattle.tgap_model.specs.Json.{ensured, items_of, each_of, text_at, natural_in}
-use Rattle.tgap_model.specs.Lines.{◌>>=◌}
-use Rattle.tgap_model.specs.Listing.{within_limit}
-use Rattle.tgap_model.specs.RulesFile.{class_of, classes_of, exactly, compat_of, named_rules}
+use Rattle.line_forms.specs.Json.{ensured, items_of, each_of, text_at, natural_in}
+use Rattle.line_forms.specs.Lines.{◌>>=◌}
+use Rattle.map_forms.specs.Listing.{within_limit}
+use Rattle.map_forms.specs.RulesFile.{class_of, classes_of, exactly, compat_of, named_rules}
 use Rattle.plain_io.specs.Taking.{Refuses}
 use Rattle.plain_io.proofs.Loops.{refused}
 use Rattle.plain_io.proofs.Steps.{bound}

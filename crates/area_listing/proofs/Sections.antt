@@ -13,10 +13,10 @@ use Rattle.tgap_model.specs.declared.fault.MapFault.TheVariants.{BadLine, Limit}
 use Rattle.tgap_model.specs.declared.limits.TheConstants.{MAX_WEIGHT, MAX_COMPATIBILITY, MAX_POINTS}
 use Rattle.tgap_model.specs.Limits.{limit_of, limit_word}
 use Rattle.tgap_model.specs.Base.{is_arc, count_points}
-use Rattle.tgap_model.specs.Words.{Row}
-use Rattle.tgap_model.specs.Lines.{Lines, next_number, line_at, read_line}
-use Rattle.tgap_model.specs.ListingLines.{read_count, read_class, read_face, head_at, read_points}
-use Rattle.tgap_model.specs.Listing.{count_words, class_rows, face_rows, point_words, arc_words, within_limit, count_line, classes_at, faces_at, arc_at, arcs_at}
+use Rattle.line_forms.specs.Words.{Row}
+use Rattle.line_forms.specs.Lines.{Lines, next_number, line_at, read_line}
+use Rattle.line_forms.specs.ListingLines.{read_count, read_class, read_face, head_at, read_points}
+use Rattle.map_forms.specs.Listing.{count_words, class_rows, face_rows, point_words, arc_words, within_limit, count_line, classes_at, faces_at, arc_at, arcs_at}
 use Rattle.tgap_model.proofs.BaseFacts.{arc_facts}
 use Rattle.plain_io.proofs.Steps.{bound, ok_or_is, line_at_is, line_at_again, read_line_is, read_line_again, number_after, lines_from, some_rows}
 use Rattle.area_listing.proofs.Loops.{Classes}

@@ -5,9 +5,9 @@ use Rattle.std.specs.Fmt.{signed_decimal}
 use Rattle.tgap_model.specs.declared.base.Transform.{Transform}
 use Rattle.tgap_model.specs.declared.base.BaseArc.{BaseArc}
 use Rattle.tgap_model.specs.Base.{BaseMap, is_base}
-use Rattle.tgap_model.specs.Texts.{line, lines}
-use Rattle.tgap_model.specs.Words.{Row}
-use Rattle.tgap_model.specs.Listing.{transform_words, class_rows, point_words, arc_words, listing_rows, listing_text, listing}
+use Rattle.line_forms.specs.Texts.{line, lines}
+use Rattle.line_forms.specs.Words.{Row}
+use Rattle.map_forms.specs.Listing.{transform_words, class_rows, point_words, arc_words, listing_rows, listing_text, listing}
 use Rattle.plain_io.specs.Fields.{fields}
 use Rattle.plain_io.proofs.Fields.{word_put, field_put, fields_put, line_put, lines_put, line_after}
 use Rattle.area_listing.specs.Written.{rules_rows, all_face_rows, all_arc_rows}

@@ -4,9 +4,9 @@ use Rattle.tgap_model.specs.declared.fault.MapFault.{MapFault}
 use Rattle.tgap_model.specs.declared.failure.Or.{Or}
 use Rattle.tgap_model.specs.declared.geometry.Point.{Point}
 use Rattle.tgap_model.specs.Base.{BaseMap}
-use Rattle.tgap_model.specs.Words.{Row, ◌>>=◌}
-use Rattle.tgap_model.specs.Lines.{Lines}
-use Rattle.tgap_model.specs.ListingLines.{coordinate_at}
+use Rattle.line_forms.specs.Words.{Row, ◌>>=◌}
+use Rattle.line_forms.specs.Lines.{Lines}
+use Rattle.line_forms.specs.ListingLines.{coordinate_at}
 use Rattle.plain_io.specs.Taking.{Refuses}
 use Rattle.area_listing.specs.declared.row.ArcHead.{ArcHead}
 use Rattle.area_listing.specs.declared.MapParts.{MapParts}

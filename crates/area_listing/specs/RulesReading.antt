@@ -5,9 +5,9 @@ use Rattle.serde_json.specs.Data.{Data}
 use Rattle.tgap_model.specs.declared.fault.LimitKind.TheVariants.{Classes}
 use Rattle.tgap_model.specs.declared.fault.MapFault.{MapFault}
 use Rattle.tgap_model.specs.declared.fault.MapFault.TheVariants.{BadRules}
-use Rattle.tgap_model.specs.Json.{items_of}
-use Rattle.tgap_model.specs.Lines.{◌>>=◌}
-use Rattle.tgap_model.specs.Listing.{within_limit}
+use Rattle.line_forms.specs.Json.{items_of}
+use Rattle.line_forms.specs.Lines.{◌>>=◌}
+use Rattle.map_forms.specs.Listing.{within_limit}
 
 -- the items of an array, where there are n
 abbrev pub so_many : ℕ → Data → Option (List Data)

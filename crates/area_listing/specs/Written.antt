@@ -2,8 +2,8 @@
 use Rattle.std.specs.Prelude.{ℕ, List, ◌∷◌, map, length, codes}
 use Rattle.tgap_model.specs.declared.base.Rules.{Rules}
 use Rattle.tgap_model.specs.declared.base.BaseArc.{BaseArc}
-use Rattle.tgap_model.specs.Words.{Row}
-use Rattle.tgap_model.specs.Listing.{count_words, class_rows, face_rows, arc_words}
+use Rattle.line_forms.specs.Words.{Row}
+use Rattle.map_forms.specs.Listing.{count_words, class_rows, face_rows, arc_words}
 
 -- the ratio and the classes
 abbrev pub rules_rows : Rules → List Row

@@ -6,7 +6,7 @@
 ghost use Rattle.std.specs.Prelude.{◌≡◌, IfOk, Ok, Err};
 ghost use Rattle.tgap_model.specs.Base.{BaseMap};
 ghost use Rattle.tgap_model.specs.declared.fault.MapFault.{MapFault as Fault};
-ghost use Rattle.tgap_model.specs.Listing.{IsListing, listing, map_at};
+ghost use Rattle.map_forms.specs.Listing.{IsListing, listing, map_at};
 ghost use Rattle.plain_io.specs.Taking.{GivesWhole};
 ghost use Rattle.area_listing.specs.Reading.{GivesParts};
 
@@ -45,7 +45,7 @@ pub fn read_listing(alloc: Global, bytes: &[u8]) -> Result<Base, Or<MapFault>>
 
 /// The base map that the bytes list, or their first fault. Only the border of each face is left to be asked for before
 /// the last line: all else of a base map is asked line by line.
-#[tactic(auto, unfolding(tgap_model::specs::Listing::listing))]
+#[tactic(auto, unfolding(map_forms::specs::Listing::listing))]
 fn read_checked(alloc: Global, bytes: &[u8]) -> Result<Base, Or<MapFault>>
     ensures { GivesWhole result (listing bytes.now) }
 {
@@ -69,7 +69,7 @@ struct MapParts {
 }
 
 /// The parts of the map that is listed, up to the last line.
-#[tactic(auto, unfolding(tgap_model::specs::Listing::map_at))]
+#[tactic(auto, unfolding(map_forms::specs::Listing::map_at))]
 fn read_map(alloc: Global, lines: &mut Lines) -> Result<MapParts, Or<MapFault>>
     ensures { GivesParts result lines.new (map_at lines.old) }
 {

@@ -2,7 +2,7 @@
 
 ghost use Rattle.std.specs.Prelude.{◌≤◌, IfOk};
 ghost use Rattle.tgap_model.specs.Limits.{limit_of};
-ghost use Rattle.tgap_model.specs.Listing.{within_limit};
+ghost use Rattle.map_forms.specs.Listing.{within_limit};
 ghost use Rattle.plain_io.specs.Taking.{GivesWhole};
 
 use tgap_model::{LimitKind, MapFault, Or};

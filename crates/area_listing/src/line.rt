@@ -4,10 +4,10 @@ ghost use Rattle.std.specs.Prelude.{◌≡◌, ◌≤◌, ◌∷◌, [], codes, 
 ghost use Rattle.std.specs.Option.{ok_or};
 ghost use Rattle.tgap_model.specs.declared.fault.MapFault.TheVariants.{BadLine};
 ghost use Rattle.tgap_model.specs.Limits.{limit_of};
-ghost use Rattle.tgap_model.specs.Words.{read_words};
-ghost use Rattle.tgap_model.specs.Lines.{read_row, read_line};
-ghost use Rattle.tgap_model.specs.ListingLines.{read_transform, read_count, read_class, read_face};
-ghost use Rattle.tgap_model.specs.Listing.{count_line, arc_at, end_at};
+ghost use Rattle.line_forms.specs.Words.{read_words};
+ghost use Rattle.line_forms.specs.Lines.{read_row, read_line};
+ghost use Rattle.line_forms.specs.ListingLines.{read_transform, read_count, read_class, read_face};
+ghost use Rattle.map_forms.specs.Listing.{count_line, arc_at, end_at};
 ghost use Rattle.plain_io.specs.Taking.{Reads, Gives, GivesWith, GivesWhole};
 ghost use Rattle.area_listing.specs.Reading.{class_onto};
 
@@ -28,7 +28,7 @@ pub fn read_heading(lines: &mut Lines) -> Option<()>
 }
 
 /// The transform of the map.
-#[tactic(auto, unfolding(tgap_model::specs::ListingLines::read_transform))]
+#[tactic(auto, unfolding(line_forms::specs::ListingLines::read_transform))]
 pub fn read_transform(lines: &mut Lines) -> Option<Transform>
     ensures { Reads result lines.new (read_row read_transform lines.old) }
 {
@@ -42,7 +42,7 @@ pub fn read_transform(lines: &mut Lines) -> Option<Transform>
 }
 
 /// A line of this keyword and a number from `least` to `most`.
-#[tactic(auto, unfolding(tgap_model::specs::ListingLines::read_count))]
+#[tactic(auto, unfolding(line_forms::specs::ListingLines::read_count))]
 pub fn read_count(lines: &mut Lines, keyword: &[u8], least: u32, most: u32) -> Option<u32>
     ensures { Reads result lines.new (read_row (read_count keyword.now least most) lines.old) }
 {
@@ -53,7 +53,7 @@ pub fn read_count(lines: &mut Lines, keyword: &[u8], least: u32, most: u32) -> O
 }
 
 /// A line of the name of what is counted, and the count, from `least` on and within its limit.
-#[tactic(auto, unfolding(tgap_model::specs::Listing::count_line))]
+#[tactic(auto, unfolding(map_forms::specs::Listing::count_line))]
 pub fn count_line(lines: &mut Lines, which: LimitKind, least: u32) -> Result<u32, Or<MapFault>>
     ensures read { Gives result lines.new (count_line which least lines.old) }
     ensures few { IfOk result (λ count. count ≤ limit_of which) }
@@ -65,7 +65,7 @@ pub fn count_line(lines: &mut Lines, which: LimitKind, least: u32) -> Result<u32
 }
 
 /// The weight of this class, of so many in all. Its compatibilities are put after those of `compat`.
-#[tactic(auto, unfolding(tgap_model::specs::ListingLines::read_class))]
+#[tactic(auto, unfolding(line_forms::specs::ListingLines::read_class))]
 pub fn read_class(
     lines: &mut Lines,
     classes: u32,
@@ -85,7 +85,7 @@ pub fn read_class(
 }
 
 /// The class of this face, where there are so many classes.
-#[tactic(auto, unfolding(tgap_model::specs::ListingLines::read_face))]
+#[tactic(auto, unfolding(line_forms::specs::ListingLines::read_face))]
 pub fn read_face(lines: &mut Lines, classes: u32, face: u32) -> Option<u32>
     ensures { Reads result lines.new (read_row (read_face classes face) lines.old) }
 {
@@ -97,7 +97,7 @@ pub fn read_face(lines: &mut Lines, classes: u32, face: u32) -> Option<u32>
 }
 
 /// An arc of a map with so many faces, after arcs with so many points.
-#[tactic(auto, unfolding(tgap_model::specs::Listing::arc_at))]
+#[tactic(auto, unfolding(map_forms::specs::Listing::arc_at))]
 pub fn read_arc(
     alloc: Global,
     lines: &mut Lines,
@@ -120,7 +120,7 @@ pub fn read_arc(
 }
 
 /// The last line, and nothing after it.
-#[tactic(auto, unfolding(tgap_model::specs::Listing::end_at))]
+#[tactic(auto, unfolding(map_forms::specs::Listing::end_at))]
 pub fn read_end(lines: &mut Lines) -> Result<(), Or<MapFault>>
     ensures { GivesWhole result (end_at lines.old) }
 {

@@ -2,7 +2,7 @@
 
 ghost use Rattle.std.specs.Prelude.{◌≡◌};
 ghost use Rattle.std.specs.Option.{ok_or};
-ghost use Rattle.tgap_model.specs.ListingLines.{word_at, coordinate_at, naturals_at, points_at, head_at, read_points};
+ghost use Rattle.line_forms.specs.ListingLines.{word_at, coordinate_at, naturals_at, points_at, head_at, read_points};
 ghost use Rattle.tgap_model.specs.declared.fault.MapFault.TheVariants.{BadLine};
 ghost use Rattle.plain_io.specs.Taking.{Takes, Reads, Gives, GivesOnto, GivesWhole};
 ghost use Rattle.plain_io.specs.Fronts.{with_front};
@@ -47,7 +47,7 @@ pub struct ArcHead {
 }
 
 /// The head of an arc of a map with so many faces.
-#[tactic(auto, unfolding(tgap_model::specs::ListingLines::head_at))]
+#[tactic(auto, unfolding(line_forms::specs::ListingLines::head_at))]
 pub fn head_at(words: &mut Pieces, faces: u32) -> Option<ArcHead>
     ensures { ReadsHead result words.new (head_at faces words.old) }
 {
@@ -97,7 +97,7 @@ fn points_at(
 }
 
 /// The `n` points to the end of the line with this number, no two in a row equal.
-#[tactic(auto, unfolding(tgap_model::specs::ListingLines::read_points))]
+#[tactic(auto, unfolding(line_forms::specs::ListingLines::read_points))]
 pub fn read_points(
     alloc: Global,
     words: &mut Pieces,

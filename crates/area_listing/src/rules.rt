@@ -7,8 +7,8 @@ ghost use Rattle.serde_json.specs.View.{view};
 ghost use Rattle.serde_json.specs.Find.{get, as_object};
 ghost use Rattle.tgap_model.specs.declared.failure.Or.TheVariants.{Fault};
 ghost use Rattle.tgap_model.specs.declared.fault.MapFault.TheVariants.{BadRules};
-ghost use Rattle.tgap_model.specs.Json.{ensured, each_of, text_at, natural_in};
-ghost use Rattle.tgap_model.specs.RulesFile.{class_of, exactly, compat_of, classes_of, named_rules, rules_of, is_named_rules};
+ghost use Rattle.line_forms.specs.Json.{ensured, each_of, text_at, natural_in};
+ghost use Rattle.map_forms.specs.RulesFile.{class_of, exactly, compat_of, classes_of, named_rules, rules_of, is_named_rules};
 ghost use Rattle.plain_io.specs.Taking.{GivesWhole, LeavesWhole};
 ghost use Rattle.area_listing.specs.RulesReading.{so_many, names_and_weights};
 
@@ -67,7 +67,7 @@ fn at_place<T>(place: u8, found: Option<T>) -> Result<T, Or<MapFault>>
 }
 
 /// The rules that a JSON value tells.
-#[tactic(auto, unfolding(tgap_model::specs::RulesFile::named_rules))]
+#[tactic(auto, unfolding(map_forms::specs::RulesFile::named_rules))]
 fn named_rules(alloc: Global, tree: &Value) -> Result<NamedRules, Or<MapFault>>
     ensures exact { GivesWhole result (named_rules (view tree.now)) }
     ensures utf8 { IfOk result (λ named. IsUtf8 named.property) }

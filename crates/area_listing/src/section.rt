@@ -1,7 +1,7 @@
 //! The sections of a listing: its rules, its faces and its arcs, each with its count before it.
 
 ghost use Rattle.std.specs.Prelude.{◌≡◌, ◌≤◌};
-ghost use Rattle.tgap_model.specs.Listing.{classes_at, faces_at, arcs_at, rules_at, all_faces_at, all_arcs_at};
+ghost use Rattle.map_forms.specs.Listing.{classes_at, faces_at, arcs_at, rules_at, all_faces_at, all_arcs_at};
 ghost use Rattle.plain_io.specs.Taking.{Gives};
 
 use crate::line::{count_line, read_arc, read_class, read_count, read_face};
@@ -10,7 +10,7 @@ use std::alloc::Global;
 use tgap_model::{BaseArc, LimitKind, List, MAX_CLASSES, MAX_RATIO, MapFault, Or, Rules};
 
 /// The line of the ratio, and the classes.
-#[tactic(auto, unfolding(tgap_model::specs::Listing::rules_at))]
+#[tactic(auto, unfolding(map_forms::specs::Listing::rules_at))]
 pub fn read_rules(alloc: Global, lines: &mut Lines) -> Result<Rules, Or<MapFault>>
     ensures { Gives result lines.new (rules_at lines.old) }
 {
@@ -25,7 +25,7 @@ pub fn read_rules(alloc: Global, lines: &mut Lines) -> Result<Rules, Or<MapFault
 }
 
 /// The number of the faces, and the class of each, where there are so many classes.
-#[tactic(auto, unfolding(tgap_model::specs::Listing::all_faces_at))]
+#[tactic(auto, unfolding(map_forms::specs::Listing::all_faces_at))]
 pub fn read_faces(alloc: Global, lines: &mut Lines, classes: u32) -> Result<List<u32>, Or<MapFault>>
     ensures { Gives result lines.new (all_faces_at classes lines.old) }
 {
@@ -34,7 +34,7 @@ pub fn read_faces(alloc: Global, lines: &mut Lines, classes: u32) -> Result<List
 }
 
 /// The number of the arcs, and each arc, of a map with so many faces.
-#[tactic(auto, unfolding(tgap_model::specs::Listing::all_arcs_at))]
+#[tactic(auto, unfolding(map_forms::specs::Listing::all_arcs_at))]
 pub fn read_arcs(
     alloc: Global,
     lines: &mut Lines,

@@ -3,8 +3,8 @@
 ghost use Rattle.std.specs.Prelude.{◌≡◌, ◌*◌, ◌∷◌, ◌++◌, [], map, flat_map, length, codes, decimal, IfOk, OnOk, IsTrue, Ok};
 ghost use Rattle.std.specs.Fmt.{signed_decimal};
 ghost use Rattle.tgap_model.specs.Base.{is_rules};
-ghost use Rattle.tgap_model.specs.Texts.{line, lines};
-ghost use Rattle.tgap_model.specs.Listing.{transform_words, count_words, class_rows, face_rows, point_words, arc_words, listing_text, listing};
+ghost use Rattle.line_forms.specs.Texts.{line, lines};
+ghost use Rattle.map_forms.specs.Listing.{transform_words, count_words, class_rows, face_rows, point_words, arc_words, listing_text, listing};
 ghost use Rattle.plain_io.specs.Fields.{fields};
 ghost use Rattle.area_listing.specs.Written.{rules_rows, all_face_rows, all_arc_rows};
 

@@ -10,7 +10,7 @@ use Rattle.tgap_model.specs.declared.fault.MapFault.{MapFault}
 use Rattle.tgap_model.specs.Base.{BaseMap, is_arc, is_base}
 use Rattle.tgap_model.specs.Partition.{AreApart, AgreesAtNodes, path_segments, arc_segments, base_segments, node_fault, nodes, or_else, meeting_fault, ring_fault_of, stack_fault_of, arc_fault, map_fault}
 use Rattle.tgap_model.specs.declared.geometry.Fraction.{Fraction}
-use Rattle.tgap_model.specs.Evidence.{IsFirstMeeting}
+use Rattle.grid_geo.specs.Evidence.{IsFirstMeeting}
 use Rattle.std.proofs.lemmas.Option.{slice_get_within, get_or_from_slice_get}
 use Rattle.tgap_model.proofs.BaseFacts.{arc_facts, base_facts}
 use Rattle.tgap_model.proofs.Proper.{no_segment}

@@ -10,7 +10,7 @@ use Rattle.tgap_model.specs.declared.fault.MapFault.{MapFault}
 use Rattle.tgap_model.specs.declared.fault.MapFault.TheVariants.{NodeDisagrees}
 use Rattle.tgap_model.specs.Segment.{point_before}
 use Rattle.tgap_model.specs.Partition.{Spoke, spokes_at, ring_fault, node_fault, nodes, first_fault}
-use Rattle.tgap_model.specs.Evidence.{next_spoke, AgreesAtSpoke, IsFirstNodeGap}
+use Rattle.grid_geo.specs.Evidence.{next_spoke, AgreesAtSpoke, IsFirstNodeGap}
 use Rattle.tgap_model.proofs.FirstFault.{first_found}
 use Rattle.grid_geo.proofs.PointOrder.{points}
 use Rattle.base_check.proofs.Nodes.{nodes_sorted}

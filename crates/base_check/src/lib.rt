@@ -7,7 +7,7 @@ ghost use Rattle.std.specs.Prelude.{◌≡◌, IfOk, Ok, Err, Some, None, option
 ghost use Rattle.tgap_model.specs.declared.geometry.Point.{Point as Place};
 ghost use Rattle.tgap_model.specs.declared.failure.Or.TheVariants.{Fault};
 ghost use Rattle.tgap_model.specs.Partition.{AreApart, AgreesAtNodes, base_segments, node_fault, ring_fault_of, arc_fault, map_fault, IsPartition};
-ghost use Rattle.tgap_model.specs.Evidence.{IsFirstNodeGap, IsShownBy};
+ghost use Rattle.grid_geo.specs.Evidence.{IsFirstNodeGap, IsShownBy};
 ghost use Rattle.base_check.specs.Spokes.{disagrees};
 
 mod ring;

@@ -18,7 +18,7 @@ use Rattle.tgap_model.specs.declared.slice.Slice.{Slice}
 use Rattle.tgap_model.specs.declared.record.Mend.{Mend}
 use Rattle.tgap_model.specs.declared.record.StepRecord.{StepRecord}
 use Rattle.tgap_model.specs.Records.{undo, refined, edge_before, face_before, has_face, edge_with, puts_fit, ends_with_place, starts_after_zero, fits_keys, fits_faces}
-use Rattle.tgap_model.specs.SliceForms.{is_number, is_slice_row, is_record_row, is_face_row, is_edge_row, is_mend_row, segment_count, record_load, replay_load, has_room}
+use Rattle.slice_forms.specs.SliceForms.{is_number, is_slice_row, is_record_row, is_face_row, is_edge_row, is_mend_row, segment_count, record_load, replay_load, has_room}
 use Rattle.client_replay.specs.Coming.{faces_before, lowered, pieces_of}
 use Rattle.client_replay.specs.Rules.{are_in_order, has_made, mend_puts_fit, mend_pieces_fit, reaches_end}
 use Rattle.client_replay.proofs.Found.{ascend_by, find_at}

@@ -17,7 +17,7 @@ use Rattle.lemmas.proofs.Sorting.{sorted_tail, sorted_next, sorted_front, sorted
 use Rattle.tgap_model.specs.declared.geometry.Point.{Point}
 use Rattle.tgap_model.specs.declared.record.Put.{Put}
 use Rattle.tgap_model.specs.Base.{in_limits, no_repeat, same_point}
-use Rattle.tgap_model.specs.SliceForms.{is_number, is_put_row}
+use Rattle.slice_forms.specs.SliceForms.{is_number, is_put_row}
 use Rattle.tgap_model.specs.Records.{put_in, puts_fit, differs_there}
 
 abbrev pub apart : Point → Point → Bool

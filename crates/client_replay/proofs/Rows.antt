@@ -16,7 +16,7 @@ use Rattle.tgap_model.specs.declared.record.Mend.{Mend}
 use Rattle.tgap_model.specs.declared.record.StepRecord.{StepRecord}
 use Rattle.tgap_model.specs.Base.{in_limits, no_repeat}
 use Rattle.tgap_model.specs.Records.{edge_before, in_place_of, cut_piece, cut_pieces, put_in, puts_fit, ends_with_place, starts_after_zero}
-use Rattle.tgap_model.specs.SliceForms.{is_number, is_edge_row, is_piece_row, is_mend_row, is_put_row, segment_count}
+use Rattle.slice_forms.specs.SliceForms.{is_number, is_edge_row, is_piece_row, is_mend_row, is_put_row, segment_count}
 use Rattle.client_replay.specs.Coming.{pieces_of, lowered}
 use Rattle.client_replay.proofs.Found.{above_first}
 use Rattle.client_replay.proofs.Points.{IsWhole, put_in-whole, part_whole, turned_whole}

@@ -18,7 +18,7 @@ use crate::pieces::cut_pieces;
 use crate::puts::put_in;
 use crate::working::Working;
 use std::alloc::Global;
-use tgap_model::{Edge, List, Memory, Mend, StepRecord};
+use tgap_model::{Edge, List, Memory, Mend, StepRecord, copied_edge};
 
 /// The edge of a line, without its points. It takes no memory.
 fn edge_without_points(alloc: Global, working: &Working, key: u32, line: &Line) -> Edge
@@ -68,24 +68,12 @@ fn add_mended(
     Ok(())
 }
 
-/// A copy of an edge.
-fn copy_edge(alloc: Global, edge: &Edge) -> Result<Edge, Memory>
-    ensures { IfOk result (λ copy. copy ≡ edge.now) }
-{
-    Ok(Edge {
-        key: edge.key,
-        left: edge.left,
-        right: edge.right,
-        points: List::from(Vec::from_slice(alloc, edge.points.as_slice())?),
-    })
-}
-
 /// Appends copies of these edges.
 pub fn add_copies(alloc: Global, copied: &[Edge], edges: &mut Vec<Edge>) -> Result<(), Memory>
     ensures { OnOk result (edges.new.items ≡ edges.old.items ++ copied.now) }
 {
     for edge in copied {
-        edges.push(copy_edge(alloc, edge)?)?;
+        edges.push(copied_edge(alloc, edge)?)?;
     }
     Ok(())
 }

@@ -2,7 +2,7 @@
 
 ghost use Rattle.std.specs.Prelude.{◌≡◌, true, IfOk, OnOk, IsTrue};
 ghost use Rattle.std.specs.List.{list_all};
-ghost use Rattle.tgap_model.specs.SliceForms.{is_slice_row, is_record_row, is_packet_row, has_room};
+ghost use Rattle.slice_forms.specs.SliceForms.{is_slice_row, is_record_row, is_packet_row, has_room};
 ghost use Rattle.tgap_model.specs.Records.{replayed};
 ghost use Rattle.client_replay.specs.Replaying.{undone, outcome, Leaves, IsPartWay, OnMemory};
 ghost use Rattle.client_replay.specs.Working.{slice_of, IsSound};

@@ -3,7 +3,7 @@
 ghost use Rattle.std.specs.Prelude.{◌≡◌, ◌&&◌, ℕ, true, not, Some, None, Ok, Err, IfOk, OnOk, OnErr, IsTrue, IsPermutation, [], ◌∷◌, ◌⊎◌};
 ghost use Rattle.std.specs.List.{list_any};
 ghost use Rattle.tgap_model.specs.declared.failure.Or.TheVariants.{Fault, Memory as WantOfMemory};
-ghost use Rattle.tgap_model.specs.SliceForms.{is_slice_row, is_record_row, has_room};
+ghost use Rattle.slice_forms.specs.SliceForms.{is_slice_row, is_record_row, has_room};
 ghost use Rattle.tgap_model.specs.Records.{broken_rule, undo};
 ghost use Rattle.client_replay.specs.Coming.{coming, stays};
 ghost use Rattle.client_replay.specs.Rules.{are_in_order, broken_before};

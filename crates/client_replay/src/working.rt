@@ -3,7 +3,7 @@
 ghost use Rattle.std.specs.Prelude.{◌≡◌, ◌==◌, map, find, IfOk, IsTrue};
 ghost use Rattle.std.specs.Option.{option_map};
 ghost use Rattle.std.specs.List.{list_any};
-ghost use Rattle.tgap_model.specs.SliceForms.{is_slice_row};
+ghost use Rattle.slice_forms.specs.SliceForms.{is_slice_row};
 ghost use Rattle.client_replay.specs.Working.{edge_of, edges_of, slice_of, IsSound};
 
 use crate::coming::add_copies;

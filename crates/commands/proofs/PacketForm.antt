@@ -22,7 +22,7 @@ use Rattle.tgap_model.specs.Chains.{Chain, chain_points, key, chains_at}
 use Rattle.tgap_model.specs.Removals.{edge_of, edges_of, has_side, is_removed, removals_to, without}
 use Rattle.tgap_model.specs.Slice.{left_of, right_of}
 use Rattle.tgap_model.specs.Records.{puts_from, runs, pieces_from, is_needed, is_edge_between, step_record, has_step, records_down, packet_of, ends_with_place}
-use Rattle.tgap_model.specs.SliceForms.{is_put_row, is_piece_row, is_mend_row, is_edge_row, is_record_row, goes_down, is_packet_row}
+use Rattle.slice_forms.specs.SliceForms.{is_put_row, is_piece_row, is_mend_row, is_edge_row, is_record_row, goes_down, is_packet_row}
 use Rattle.tgap_model.proofs.BaseFacts.{base_facts}
 use Rattle.map_laws.proofs.ChainMembers.{Among, all_among}
 use Rattle.map_laws.proofs.Lists.{members_all, all_from, kept_among, map_among, among_map}

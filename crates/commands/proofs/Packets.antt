@@ -10,12 +10,12 @@ use Rattle.tgap_model.specs.Base.{BaseMap, is_base}
 use Rattle.tgap_model.specs.History.{history_of}
 use Rattle.tgap_model.specs.Merged.{merged}
 use Rattle.tgap_model.specs.Partition.{IsPartition, base_segments, map_fault}
-use Rattle.tgap_model.specs.Evidence.{IsShownBy}
+use Rattle.grid_geo.specs.Evidence.{IsShownBy}
 use Rattle.tgap_model.specs.Records.{packet_of, replayed}
 use Rattle.tgap_model.specs.Slice.{slice}
-use Rattle.tgap_model.specs.SliceForms.{is_packet_row}
-use Rattle.tgap_model.specs.SliceTexts.{packet_text, slice_text}
-use Rattle.tgap_model.specs.SliceReading.{IsPacketText}
+use Rattle.slice_forms.specs.SliceForms.{is_packet_row}
+use Rattle.wire_text.specs.SliceTexts.{packet_text, slice_text}
+use Rattle.wire_text.specs.SliceReading.{IsPacketText}
 use Rattle.face_merge.proofs.Steps.{history_is}
 use Rattle.record_laws.specs.PacketLaws.{each_fits}
 use Rattle.refine_packets.specs.declared.fail.PacketFail.{PacketFail}

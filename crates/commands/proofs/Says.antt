@@ -8,13 +8,13 @@ use Rattle.tgap_model.specs.declared.failure.Or.{Or}
 use Rattle.tgap_model.specs.declared.failure.Or.TheVariants.{Fault, Memory}
 use Rattle.tgap_model.specs.declared.fault.MapFault.{MapFault}
 use Rattle.tgap_model.specs.Base.{BaseMap}
-use Rattle.tgap_model.specs.Border.{border_by}
+use Rattle.commands.specs.Border.{border_by}
 use Rattle.tgap_model.specs.History.{IsHistory, label_after, history_of}
 use Rattle.tgap_model.specs.Partition.{IsPartition, base_segments, map_fault}
-use Rattle.tgap_model.specs.Evidence.{IsShownBy}
-use Rattle.tgap_model.specs.Texts.{borders_text}
+use Rattle.grid_geo.specs.Evidence.{IsShownBy}
+use Rattle.line_forms.specs.Texts.{borders_text}
 use Rattle.tgap_model.specs.Slice.{slice}
-use Rattle.tgap_model.specs.SliceTexts.{slice_text}
+use Rattle.wire_text.specs.SliceTexts.{slice_text}
 use Rattle.face_merge.proofs.Steps.{history_is}
 use Rattle.slice_read.specs.declared.fail.ReadFail.{ReadFail}
 use Rattle.slice_read.specs.declared.fail.ReadFail.TheVariants as fail

@@ -3,7 +3,7 @@ use Rattle.std.proofs.Common.{◌≡◌, ℕ, ◌+◌, ◌<◌, ◌≤◌, All, 
 use Rattle.std.specs.List.{AllByRecursion}
 use Rattle.std.proofs.lemmas.List.Elements.{All-weaker}
 use Rattle.tgap_model.specs.declared.base.BaseArc.{BaseArc}
-use Rattle.tgap_model.specs.Border.{border_by}
+use Rattle.commands.specs.Border.{border_by}
 use Rattle.tgap_model.proofs.BaseFacts.{ArcFacts}
 
 -- labels that agree on the faces of all arcs give the same border

@@ -20,7 +20,7 @@ use Rattle.tgap_model.specs.Chains.{Chain, arc_number, key, chains_at}
 use Rattle.tgap_model.specs.Removals.{edge_of, edges_of, removals_to}
 use Rattle.tgap_model.specs.Records.{edge_before}
 use Rattle.tgap_model.specs.Slice.{face_row, slice}
-use Rattle.tgap_model.specs.SliceForms.{is_number, is_face_row, is_edge_row, is_slice_row}
+use Rattle.slice_forms.specs.SliceForms.{is_number, is_face_row, is_edge_row, is_slice_row}
 use Rattle.tgap_model.proofs.BaseFacts.{base_facts, rules_facts}
 use Rattle.map_laws.specs.ChainLaws.{has_base_faces}
 use Rattle.map_laws.proofs.ChainLinks.{chains_sorted}

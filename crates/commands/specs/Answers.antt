@@ -3,7 +3,7 @@ use Rattle.std.specs.Prelude.{◌≡◌, ◌⊎◌, ◌<◌, ◌≤◌, ℕ, Lis
 use Rattle.tgap_model.specs.declared.fault.MapFault.{MapFault}
 use Rattle.tgap_model.specs.declared.fault.MapFault.TheVariants.{InputLong}
 use Rattle.tgap_model.specs.Base.{BaseMap}
-use Rattle.tgap_model.specs.Listing.{IsListing, listing}
+use Rattle.map_forms.specs.Listing.{IsListing, listing}
 use Rattle.plain_io.specs.declared.files.Which.{Which}
 use Rattle.plain_io.specs.Faults.{Rose}
 use Rattle.plain_io.specs.Loads.{Told, Missing, Holds, OfFile}
@@ -14,7 +14,7 @@ use Rattle.commands.specs.declared.outcome.Outcome.{Outcome}
 use Rattle.commands.specs.declared.outcome.Outcome.TheVariants.{Done, Usage, LoadFault, Refused, OutOfMemory, Unfit}
 use Rattle.commands.specs.Outcomes.{text_of, IsOfFiles}
 use Rattle.commands.specs.Command.{Command, Source}
-use Rattle.tgap_model.specs.Rings.{topology_base}
+use Rattle.topology_forms.specs.Rings.{topology_base}
 use Rattle.commands.specs.MapFile.{Contents, FileName, files_of_map, IsTopologyOf, IsMapFile, IsRefusedFile, read_map}
 use Rattle.commands.specs.Commands.{command, files_of, Says, outcome_of}
 

@@ -2,9 +2,9 @@
 use Rattle.std.specs.Prelude.{◌≡◌, ◌<◌, ◌≤◌, ℕ, nat_lt, List, [], ◌∷◌, length, take, Option, None, option_map, if◌then◌else◌}
 use Rattle.tgap_model.specs.declared.merge.MergeStep.{MergeStep}
 use Rattle.tgap_model.specs.Base.{BaseMap}
-use Rattle.tgap_model.specs.Border.{border_by, border}
+use Rattle.commands.specs.Border.{border_by, border}
 use Rattle.tgap_model.specs.History.{IsHistory, label_after, history_of}
-use Rattle.tgap_model.specs.Texts.{borders_text}
+use Rattle.line_forms.specs.Texts.{borders_text}
 use Rattle.commands.specs.declared.outcome.Outcome.{Outcome}
 use Rattle.commands.specs.declared.outcome.Outcome.TheVariants.{Done, StepTooHigh}
 use Rattle.commands.specs.Command.{Command, Listing, Borders, step_of}

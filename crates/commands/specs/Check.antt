@@ -3,8 +3,8 @@ use Rattle.std.specs.Prelude.{◌≡◌, ℕ, List, ◌∷◌, Option, Some, Non
 use Rattle.tgap_model.specs.declared.fault.MapFault.{MapFault}
 use Rattle.tgap_model.specs.Base.{BaseMap}
 use Rattle.tgap_model.specs.Partition.{IsPartition, base_segments, map_fault}
-use Rattle.tgap_model.specs.Evidence.{IsShownBy}
-use Rattle.tgap_model.specs.Texts.{ok_text}
+use Rattle.grid_geo.specs.Evidence.{IsShownBy}
+use Rattle.line_forms.specs.Texts.{ok_text}
 use Rattle.commands.specs.declared.outcome.Outcome.{Outcome}
 use Rattle.commands.specs.declared.outcome.Outcome.TheVariants.{Done, Refused}
 use Rattle.commands.specs.Command.{Command, source_named, Check}

@@ -1,6 +1,6 @@
 -- The commands: what the words of a command line ask for.
 use Rattle.std.specs.Prelude.{ℕ, ◌-◌, ◌^◌, pos, unsigned_abs, List, [], ◌∷◌, Option, Some, None}
-use Rattle.tgap_model.specs.Texts.{number_of}
+use Rattle.line_forms.specs.Texts.{number_of}
 
 -- Where a map is read from: the listing in a file of this name; or the topology in a file of the first name, with the object of
 -- the second, and the rules in a file of the third.

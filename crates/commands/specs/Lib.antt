@@ -10,3 +10,4 @@ pub mod Replay
 pub mod Packet
 pub mod Commands
 pub mod Answers
+pub mod Border

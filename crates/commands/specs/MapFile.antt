@@ -6,10 +6,10 @@ use Rattle.tgap_model.specs.declared.fault.MapFault.TheVariants.{InputLong}
 use Rattle.tgap_model.specs.Base.{BaseMap}
 use Rattle.tgap_model.specs.declared.topology.NamedRules.{NamedRules}
 use Rattle.tgap_model.specs.declared.topology.RawMap.{RawMap}
-use Rattle.tgap_model.specs.Listing.{IsListing, listing}
-use Rattle.tgap_model.specs.RulesFile.{rules_of}
-use Rattle.tgap_model.specs.Topology.{topology}
-use Rattle.tgap_model.specs.Rings.{based, topology_base}
+use Rattle.map_forms.specs.Listing.{IsListing, listing}
+use Rattle.map_forms.specs.RulesFile.{rules_of}
+use Rattle.topology_forms.specs.Topology.{topology}
+use Rattle.topology_forms.specs.Rings.{based, topology_base}
 use Rattle.plain_io.specs.declared.files.Which.{Which}
 use Rattle.plain_io.specs.declared.files.Which.TheVariants.{Map, Rules}
 use Rattle.commands.specs.declared.outcome.Outcome.{Outcome}

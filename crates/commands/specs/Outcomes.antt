@@ -3,7 +3,7 @@ use Rattle.std.specs.Prelude.{ℕ, List, [], ◌∷◌, ◌++◌, codes, decimal
 use Rattle.tgap_model.specs.declared.fault.MapFault.{MapFault}
 use Rattle.tgap_model.specs.declared.failure.Or.{Or}
 use Rattle.tgap_model.specs.declared.failure.Or.TheVariants.{Fault, Memory}
-use Rattle.tgap_model.specs.Texts.{line, fault_text, step_too_high_text}
+use Rattle.line_forms.specs.Texts.{line, fault_text, step_too_high_text}
 use Rattle.client_replay.specs.declared.unfit.Unfit.{Unfit as Misfitting}
 use Rattle.slice_read.specs.declared.fail.ReadFail.{ReadFail}
 use Rattle.slice_read.specs.declared.fail.ReadFail.TheVariants as fail

@@ -8,8 +8,8 @@ use Rattle.tgap_model.specs.History.{IsHistory, history_of}
 use Rattle.tgap_model.specs.Merged.{merged}
 use Rattle.tgap_model.specs.Slice.{slice}
 use Rattle.tgap_model.specs.Records.{packet_of, replayed}
-use Rattle.tgap_model.specs.SliceTexts.{packet_text, slice_text}
-use Rattle.tgap_model.specs.SliceReading.{IsPacketText}
+use Rattle.wire_text.specs.SliceTexts.{packet_text, slice_text}
+use Rattle.wire_text.specs.SliceReading.{IsPacketText}
 use Rattle.record_laws.specs.PacketLaws.{each_fits}
 use Rattle.commands.specs.declared.outcome.Outcome.{Outcome}
 use Rattle.commands.specs.declared.outcome.Outcome.TheVariants.{Done, Refused, StepTooHigh, NotCoarser}

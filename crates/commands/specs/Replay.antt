@@ -6,8 +6,8 @@ use Rattle.tgap_model.specs.declared.slice.Slice.{Slice}
 use Rattle.tgap_model.specs.declared.record.StepRecord.{StepRecord}
 use Rattle.tgap_model.specs.declared.record.Packet.{Packet}
 use Rattle.tgap_model.specs.Records.{broken_rule, undo, replayed}
-use Rattle.tgap_model.specs.SliceTexts.{slice_text}
-use Rattle.tgap_model.specs.SliceReading.{IsSliceText, IsPacketText, slice_of_text, packet_of_text}
+use Rattle.wire_text.specs.SliceTexts.{slice_text}
+use Rattle.wire_text.specs.SliceReading.{IsSliceText, IsPacketText, slice_of_text, packet_of_text}
 use Rattle.plain_io.specs.declared.files.Which.TheVariants as kind
 use Rattle.wire_text.specs.declared.row_reading.BadText.{BadText}
 use Rattle.wire_text.specs.Reading.{bad_text}

@@ -8,7 +8,7 @@ use Rattle.tgap_model.specs.History.{IsHistory, history_of}
 use Rattle.tgap_model.specs.Merged.{merged}
 use Rattle.tgap_model.specs.Removals.{removals_to}
 use Rattle.tgap_model.specs.Slice.{IsSlice, slice}
-use Rattle.tgap_model.specs.SliceTexts.{slice_text}
+use Rattle.wire_text.specs.SliceTexts.{slice_text}
 use Rattle.step_laws.specs.StepLaws.{ArePlanar}
 use Rattle.slice_read.specs.Reading.{HasAdjacentFaces, HasUnions}
 use Rattle.commands.specs.declared.outcome.Outcome.{Outcome}

@@ -2,7 +2,7 @@
 
 ghost use Rattle.std.specs.Prelude.{◌≡◌, ◌≤◌, ◌<◌, ◌^◌, length, slice_index, take, All, IfOk};
 ghost use Rattle.tgap_model.specs.History.{IsHistory, label_after};
-ghost use Rattle.tgap_model.specs.Border.{border_by};
+ghost use Rattle.commands.specs.Border.{border_by};
 
 use face_tree::FaceTree;
 use std::alloc::Global;

@@ -1,8 +1,8 @@
 //! The command that replays a packet on a slice.
 
 ghost use Rattle.std.specs.Prelude.{◌≡◌, ◌*◌, ◌≤◌, string_bytes, map, length, sum_by, IfOk};
-ghost use Rattle.tgap_model.specs.SliceForms.{segment_count, record_load};
-ghost use Rattle.tgap_model.specs.SliceReading.{IsSliceText, IsPacketText, slice_of_text, packet_of_text};
+ghost use Rattle.slice_forms.specs.SliceForms.{segment_count, record_load};
+ghost use Rattle.wire_text.specs.SliceReading.{IsSliceText, IsPacketText, slice_of_text, packet_of_text};
 ghost use Rattle.wire_text.specs.Reading.{bad_text};
 ghost use Rattle.commands.specs.declared.outcome.Outcome.TheVariants as outcome;
 ghost use Rattle.commands.specs.declared.outcome.Misfit.TheVariants as misfit;

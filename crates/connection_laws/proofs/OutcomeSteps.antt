@@ -4,9 +4,9 @@ use Rattle.std.proofs.lemmas.List.{length-take-le, take_more}
 use Rattle.std.proofs.lemmas.Option.{slice_get_within, get_or_from_slice_get}
 use Rattle.std.proofs.lemmas.Bool.{eq-eqb, ne_eqb}
 use Rattle.tgap_model.specs.Base.{BaseMap}
-use Rattle.tgap_model.specs.declared.machine.Event.TheVariants as event
-use Rattle.tgap_model.specs.declared.machine.Outcome.TheVariants as outcome
-use Rattle.tgap_model.specs.Machine.{Versions, commit, step}
+use Rattle.version_store.specs.declared.event.Event.TheVariants as event
+use Rattle.version_store.specs.declared.event.Outcome.TheVariants as outcome
+use Rattle.version_store.specs.Machine.{Versions, commit, step}
 use Rattle.session.specs.declared.row.Row.{Row}
 use Rattle.session.specs.declared.row.Row.TheVariants.{Read, Pinned, SeenPinned, Behind, Refused, Published, Stale, Full, NoMemory}
 use Rattle.session.specs.Items.{Item, asked_of}

@@ -1,11 +1,11 @@
 -- A connection as the one actor of a machine of versions, in which others publish between its steps.
 use Rattle.std.specs.Prelude.{◌≡◌, ℕ, ◌+◌, ◌<◌, ◌≤◌, List, [], ◌∷◌, length, take, Some, ⊤}
 use Rattle.tgap_model.specs.Base.{BaseMap}
-use Rattle.tgap_model.specs.declared.machine.Event.{Event}
-use Rattle.tgap_model.specs.declared.machine.Event.TheVariants as event
-use Rattle.tgap_model.specs.declared.machine.Outcome.{Outcome}
-use Rattle.tgap_model.specs.declared.machine.Outcome.TheVariants as outcome
-use Rattle.tgap_model.specs.Machine.{Versions, step}
+use Rattle.version_store.specs.declared.event.Event.{Event}
+use Rattle.version_store.specs.declared.event.Event.TheVariants as event
+use Rattle.version_store.specs.declared.event.Outcome.{Outcome}
+use Rattle.version_store.specs.declared.event.Outcome.TheVariants as outcome
+use Rattle.version_store.specs.Machine.{Versions, step}
 use Rattle.session.specs.declared.row.Row.{Row}
 use Rattle.session.specs.declared.row.Row.TheVariants.{Read, Pinned, SeenPinned, Behind, Refused, Published, Stale, Full, NoMemory}
 use Rattle.session.specs.Items.{Asked, asked_of}

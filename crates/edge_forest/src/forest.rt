@@ -6,7 +6,7 @@ ghost use Rattle.std.specs.Vec.{vec_len};
 ghost use Rattle.tgap_model.specs.Base.{same_point};
 ghost use Rattle.tgap_model.specs.Merged.{merged, step_number};
 ghost use Rattle.tgap_model.specs.Chains.{chain_points, chains_at};
-ghost use Rattle.edge_forest.specs.Edges.{IsForestEdge, edge_at, chain_of, alive_edges};
+ghost use Rattle.edge_forest.specs.Edges.{IsForestEdge, edge_at, chain_of, is_alive, alive_edges};
 ghost use Rattle.edge_forest.specs.Beside.{AreBeside};
 ghost use Rattle.edge_forest.specs.Forest.{IsForest, IsRange, last_step, never, is_gone};
 ghost use Rattle.edge_forest.specs.Continued.{AreContinued};
@@ -192,6 +192,15 @@ impl Forest {
         ensures range { IsRange self.now (edge_at self.now.edges id) }
     {
         &self.growth.edges[id as usize]
+    }
+
+    /// Whether the range of an edge holds k.
+    pub fn is_alive(&self, id: u32, k: u32) -> bool
+        requires { id < length self.now.edges }
+        ensures { result ≡ is_alive k (edge_at self.now.edges id) }
+    {
+        let edge = self.edge(id);
+        edge.low <= k && k < edge.high
     }
 
     /// The arcs of an edge, from its start to its end.

@@ -2,7 +2,7 @@
 
 ghost use Rattle.std.specs.Prelude.{◌≡◌, ◌≢◌, ◌<◌, ◌≤◌, ◌+◌, ◌-◌, ◌*◌, ◌++◌, ℕ, [], Some, None, get_or, set, length, count_by};
 ghost use Rattle.std.specs.Vec.{vec_capacity, vec_len};
-ghost use Rattle.tgap_model.specs.History.{history_of, relabel};
+ghost use Rattle.tgap_model.specs.History.{history_of};
 ghost use Rattle.tgap_model.specs.Merged.{merged, step_number};
 ghost use Rattle.edge_forest.specs.declared.net.Current.{Current};
 ghost use Rattle.edge_forest.specs.Forest.{never};
@@ -53,17 +53,6 @@ fn is_ending(net: &Net, step: &MergeStep, key: u32) -> bool
     }
 }
 
-/// The label that a label becomes by the step.
-fn label_after(step: &MergeStep, label: u32) -> u32
-    ensures { result ≡ relabel step.now label }
-{
-    if label == step.loser || label == step.winner {
-        step.made
-    } else {
-        label
-    }
-}
-
 /// Gives the edge with this key its labels after the step.
 fn relabel(net: &mut Net, step: &MergeStep, key: u32, row: Current)
     requires { get_or net.old.rows.items key None ≡ Some row }
@@ -72,8 +61,8 @@ fn relabel(net: &mut Net, step: &MergeStep, key: u32, row: Current)
     ensures counts { net.new.counts ≡ net.old.counts }
 {
     net.rows[key as usize] = Some(Current {
-        left: label_after(step, row.left),
-        right: label_after(step, row.right),
+        left: step.label_after(row.left),
+        right: step.label_after(row.right),
         ..row
     });
 }

@@ -2,10 +2,10 @@
 use Rattle.std.proofs.Common.{◌≡◌, ℕ, Bool, true, false, List, [], ◌∷◌, codes, bytes_eq, if◌then◌else◌, Option, Some, None, Result, Ok, Err, IsTrue, refl, subst}
 use Rattle.std.specs.Option.{ok_or}
 use Rattle.tgap_model.specs.Base.{BaseMap, is_base}
-use Rattle.tgap_model.specs.Texts.{rows_of}
-use Rattle.tgap_model.specs.Words.{Row, ◌>>=◌ as ◌then◌, ended}
-use Rattle.tgap_model.specs.Lines.{◌>>=◌, next_number, is_over}
-use Rattle.tgap_model.specs.Edits.{Edit, Class, Move, Add, Drop, decimal_at, point_at, read_class, read_move, read_add, read_drop, read_edit, apply, apply_line, at_line, edit_rows}
+use Rattle.line_forms.specs.Texts.{rows_of}
+use Rattle.line_forms.specs.Words.{Row, ◌>>=◌ as ◌then◌, ended}
+use Rattle.line_forms.specs.Lines.{◌>>=◌, next_number, is_over}
+use Rattle.edit_laws.specs.Edits.{Edit, Class, Move, Add, Drop, decimal_at, point_at, read_class, read_move, read_add, read_drop, read_edit, apply, apply_line, at_line, edit_rows}
 use Rattle.edit_laws.specs.EditLaws.{FitsLimits, BatchesKeepMaps}
 use Rattle.edit_laws.proofs.Numbers.{then_gives, ended_gives, point_within}
 use Rattle.edit_laws.proofs.EditsKeep.{classes_keep, moves_keep, adds_keep, drops_keep}

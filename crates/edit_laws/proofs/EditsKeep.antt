@@ -6,10 +6,10 @@ use Rattle.std.proofs.lemmas.Bool.{ltb-true}
 use Rattle.tgap_model.specs.declared.base.BaseArc.{BaseArc}
 use Rattle.tgap_model.specs.declared.limits.TheConstants.{MAX_POINTS}
 use Rattle.tgap_model.specs.Base.{BaseMap, is_base, count_points}
-use Rattle.tgap_model.specs.Json.{ensured}
+use Rattle.line_forms.specs.Json.{ensured}
 use Rattle.tgap_model.proofs.BaseFacts.{base_facts, rules_facts}
-use Rattle.tgap_model.specs.Lines.{◌>>=◌}
-use Rattle.tgap_model.specs.Edits.{named, set_class, has_point, is_node, move_all, put_between, take_out, change_first, turns_back, move_point, add_point, drop_point}
+use Rattle.line_forms.specs.Lines.{◌>>=◌}
+use Rattle.edit_laws.specs.Edits.{named, set_class, has_point, is_node, move_all, put_between, take_out, change_first, turns_back, move_point, add_point, drop_point}
 use Rattle.edit_laws.specs.EditLaws.{ClassesKeepMaps, MovesKeepMaps, AddsKeepMaps, DropsKeepMaps}
 use Rattle.edit_laws.proofs.Numbers.{named_most}
 use Rattle.edit_laws.proofs.Laws.{classes_again, move_again, add_again, drop_again}

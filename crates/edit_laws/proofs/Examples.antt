@@ -6,8 +6,8 @@ use Rattle.tgap_model.specs.declared.geometry.Point.{Point}
 use Rattle.tgap_model.specs.declared.base.BaseArc.{BaseArc}
 use Rattle.tgap_model.specs.declared.limits.TheConstants.{MAX_POINTS}
 use Rattle.tgap_model.specs.Base.{BaseMap, count_points}
-use Rattle.tgap_model.specs.Texts.{number_of}
-use Rattle.tgap_model.specs.Edits.{has_point, put_between, change_first, set_class, move_point, add_point, drop_point, edited}
+use Rattle.line_forms.specs.Texts.{number_of}
+use Rattle.edit_laws.specs.Edits.{has_point, put_between, change_first, set_class, move_point, add_point, drop_point, edited}
 
 -- an arc from the numbers of its line
 abbrev points_of : List ℕ → List Point

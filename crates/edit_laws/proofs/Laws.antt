@@ -9,7 +9,7 @@ use Rattle.tgap_model.specs.declared.base.BaseArc.{BaseArc}
 use Rattle.tgap_model.specs.declared.limits.TheConstants.{MAX_POINTS}
 use Rattle.tgap_model.specs.Base.{BaseMap, same_point, in_limits, no_repeat, is_arc, is_base, borders_face, count_points}
 use Rattle.tgap_model.specs.Chains.{first_point}
-use Rattle.tgap_model.specs.Edits.{has_point, moved, move_all, with_points, are_ends, put_between, take_out, neighbours, first_found, change_first, turns_back}
+use Rattle.edit_laws.specs.Edits.{has_point, moved, move_all, with_points, are_ends, put_between, take_out, neighbours, first_found, change_first, turns_back}
 use Rattle.tgap_model.proofs.BaseFacts.{BaseFacts, base_facts, arc_facts}
 use Rattle.tgap_model.proofs.Points.{same_point-true, same_point-from}
 use Rattle.edit_laws.proofs.Cases.{by_test, by_option, passed, stopped, apart_turned}

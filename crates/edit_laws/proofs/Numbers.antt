@@ -7,10 +7,10 @@ use Rattle.lemmas.proofs.Signs.{Decides-int_le}
 use Rattle.tgap_model.specs.declared.geometry.Point.{Point}
 use Rattle.tgap_model.specs.declared.limits.TheConstants.{MAX_COORDINATE}
 use Rattle.tgap_model.specs.Base.{within, in_limits}
-use Rattle.tgap_model.specs.Texts.{word_value, number_of}
-use Rattle.tgap_model.specs.Words.{Row, ◌>>=◌ as ◌then◌, ended}
-use Rattle.tgap_model.specs.ListingLines.{coordinate_at}
-use Rattle.tgap_model.specs.Edits.{named, point_at}
+use Rattle.line_forms.specs.Texts.{word_value, number_of}
+use Rattle.line_forms.specs.Words.{Row, ◌>>=◌ as ◌then◌, ended}
+use Rattle.line_forms.specs.ListingLines.{coordinate_at}
+use Rattle.edit_laws.specs.Edits.{named, point_at}
 use Rattle.edit_laws.proofs.Cases.{by_test, by_option, passed, stopped}
 
 -- a number that is read is in its range

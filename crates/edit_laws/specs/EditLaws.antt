@@ -2,7 +2,7 @@
 use Rattle.std.specs.Prelude.{◌≡◌, ℕ, List, IsTrue, Ok}
 use Rattle.tgap_model.specs.declared.geometry.Point.{Point}
 use Rattle.tgap_model.specs.Base.{BaseMap, in_limits, is_base}
-use Rattle.tgap_model.specs.Edits.{Edit, Class, Move, Add, Drop, set_class, move_point, add_point, drop_point, edited}
+use Rattle.edit_laws.specs.Edits.{Edit, Class, Move, Add, Drop, set_class, move_point, add_point, drop_point, edited}
 
 -- the new point of an edit is within the limits
 abbrev pub FitsLimits : Edit → Type 0

@@ -16,7 +16,11 @@ pub mod Joined
 pub mod Queued
 pub mod Linking
 pub mod Slots
+pub mod Below
+pub mod Permitted
 pub mod Held
+pub mod Requeued
 pub mod Taken
 pub mod Best
+pub mod Beside
 pub mod Begun

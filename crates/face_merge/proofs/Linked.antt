@@ -1,20 +1,22 @@
 -- The links by slots: what a query finds, and the links of one slot.
-use Rattle.std.proofs.Common.{◌≡◌, ℕ, ◌+◌, Bool, true, false, not, ◌&&◌, ◌==◌, List, [], ◌∷◌, map, Bor, Option, Some, None, refl, sym, ◌∙◌, ap, subst, arith}
+use Rattle.std.proofs.Common.{◌≡◌, ◌≢◌, ℕ, ◌+◌, Bool, true, false, not, ◌&&◌, ◌==◌, List, [], ◌∷◌, map, Some, None, sym, ◌∙◌, ap, subst, arith}
 use Rattle.std.specs.declared.cmp.Ordering.TheVariants.{Less}
 use Rattle.std.specs.declared.ops.Bound.TheVariants.{Included, Excluded}
-use Rattle.std.specs.Ordering.{ordering_then, nat_cmp, is_eq, is_gt, is_le}
-use Rattle.std.specs.List.{All, slice_get}
-use Rattle.std.specs.Map.{lookup}
-use Rattle.std.specs.Bool.{OnTrue, OnFalse}
-use Rattle.std.specs.Option.{option_map, is_some, IsSome, MatchOption}
-use Rattle.std.specs.BTreeMap.{BTreeMap, get, is_at}
+use Rattle.std.specs.Ordering.{ordering_then, nat_cmp, eq_by_cmp, is_eq, is_gt, is_le}
+use Rattle.std.specs.List.{All, AllByRecursion, IsDistinct, slice_get}
+use Rattle.std.specs.Map.{lookup, keys_of}
+use Rattle.std.specs.Option.{option_map}
+use Rattle.std.specs.BTreeMap.{BTreeMap, IsOrdered, get, is_at}
 use Rattle.std.specs.BTreeMap.Range.{entries_between, range_contains, IsEntryInRange}
 use Rattle.std.proofs.lemmas.Bool.Decides.{nat_tests}
 use Rattle.std.proofs.lemmas.Option.{slice_get-map}
-use Rattle.std.proofs.lemmas.List.Elements.{All-map, All-weaker}
+use Rattle.std.proofs.lemmas.List.Elements.{All-map, All-weaker, recursion_from_All}
+use Rattle.std.proofs.lemmas.Bool.{both_ways}
+use Rattle.std.proofs.lemmas.Map.Keys.{IsDistinct-from_sorted}
+use Rattle.std.proofs.lemmas.Map.Made.{IsDistinct-keys_filter}
 use Rattle.std.proofs.lemmas.Map.Entries.{lookup-filter-keys, place_from_lookup}
 use Rattle.face_merge.specs.declared.links.Link.{Link}
-use Rattle.face_merge.specs.Links.{AreLinksOf, pair_cmp}
+use Rattle.face_merge.specs.Links.{AreLinksOf, AreOnce, pair_cmp}
 
 -- a query for a pair finds that pair alone
 pub pair_at : (a b s t : ℕ) → is_eq (ordering_then (nat_cmp a s) (nat_cmp b t)) ≡ ((a == s) && (b == t))
@@ -76,17 +78,28 @@ module _ (m : BTreeMap (ℕ × ℕ) ℕ) (slot : ℕ) where
     all = found;
   }
 
-  -- whether there is one
-  pub any_some : (o : Option (Bor (ℕ × ℕ) × Bor ℕ)) (r rest : List ((ℕ × ℕ) × ℕ)) (b : Bool) → b ≡ is_some o
-      → MatchOption o ((r ≡ []) × (rest ≡ [])) (λ x. r ≡ (x.0.now, x.1.now) ∷ rest) → All (IsEntryInRange pair_cmp (Included (slot, 0)) (Excluded (slot + 1, 0)) m) r
-      → OnTrue b ((t : ℕ) × IsSome (get pair_cmp m (slot, t)))
-  any_some None r rest b e h inside = rw e tt
-  any_some (Some x) r rest b e h inside =
-      let first = (subst (All (IsEntryInRange pair_cmp (Included (slot, 0)) (Excluded (slot + 1, 0)) m)) h inside) 0 (x.0.now, x.1.now) (omega arith) in
-      rw e (x.0.now.1, rw (at_slot (x.0.now, x.1.now) first) refl)
+  -- each leads to another slot
+  once : (es : List ((ℕ × ℕ) × ℕ)) → AllByRecursion (IsEntryInRange pair_cmp (Included (slot, 0)) (Excluded (slot + 1, 0)) m) es → IsDistinct (eq_by_cmp pair_cmp) (keys_of es) → AreOnce (map entry_link es)
+  unfolding IsDistinct
+  once [] inside distinct = tt
+  once (e ∷ es) inside distinct = (others es inside.1 distinct.0, once es inside.1 distinct.1)
+    where
+      own : (x : (ℕ × ℕ) × ℕ) → IsEntryInRange pair_cmp (Included (slot, 0)) (Excluded (slot + 1, 0)) m x → x.0.0 ≡ slot
+      own x p = between_slot slot x.0.0 x.0.1 p.0.0 p.0.1
 
-  pub any_none : (o : Option (Bor (ℕ × ℕ) × Bor ℕ)) (r rest : List ((ℕ × ℕ) × ℕ)) (b : Bool) → b ≡ is_some o
-      → MatchOption o ((r ≡ []) × (rest ≡ [])) (λ x. r ≡ (x.0.now, x.1.now) ∷ rest) → r ≡ entries_at
-      → OnFalse b ((t : ℕ) → get pair_cmp m (slot, t) ≡ None)
-  any_none None r rest b e h is = rw e (none_found (sym is ∙ h.0))
-  any_none (Some x) r rest b e h is = rw e tt
+      same_slot : (a b s t : ℕ) → a ≡ s → b ≡ t → is_eq (ordering_then (nat_cmp a s) (nat_cmp b t)) ≡ true
+      same_slot a b s t p q = grind (arith, nat_tests)
+
+      others : (xs : List ((ℕ × ℕ) × ℕ)) → AllByRecursion (IsEntryInRange pair_cmp (Included (slot, 0)) (Excluded (slot + 1, 0)) m) xs
+          → AllByRecursion (λ k. eq_by_cmp pair_cmp e.0 k ≡ false) (keys_of xs) → AllByRecursion (λ link. link.slot ≢ e.0.1) (map entry_link xs)
+      others [] within apart = tt
+      others (x ∷ xs) within apart = (
+        (λ h. both_ways _ apart.0 (same_slot e.0.0 e.0.1 x.0.0 x.0.1 (own e inside.0 ∙ sym (own x within.0)) (sym h))),
+        others xs within.1 apart.1,
+      )
+
+  pub links_once : All (IsEntryInRange pair_cmp (Included (slot, 0)) (Excluded (slot + 1, 0)) m) entries_at → IsOrdered pair_cmp m → AreOnce (map entry_link entries_at)
+  links_once inside ordered =
+      once entries_at (recursion_from_All (IsEntryInRange pair_cmp (Included (slot, 0)) (Excluded (slot + 1, 0)) m) entries_at inside)
+      (IsDistinct-keys_filter (eq_by_cmp pair_cmp) (λ e. range_contains pair_cmp (Included (slot, 0)) (Excluded (slot + 1, 0)) e.0) m.entries
+      (IsDistinct-from_sorted pair_cmp (keys_of m.entries) ordered))

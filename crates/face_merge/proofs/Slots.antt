@@ -1,16 +1,16 @@
 -- The faces in their slots: what holds of a slot, and of all of them after a step.
-use Rattle.std.proofs.Common.{◌≡◌, ◌≢◌, ◌<◌, ◌≤◌, ◌⊎◌, inl, inr, ℕ, ◌+◌, ◌-◌, ◌^◌, Bool, true, ℤ, pos, ◌+ℤ◌, ◌*ℤ◌, List, [], ◌∷◌, length, map, get_or, slice_index, Option, Some, None, IfSome, IsSome, refl, sym, ◌∙◌, ap, subst, arith}
+use Rattle.std.proofs.Common.{◌≡◌, ◌≢◌, ◌<◌, ◌≤◌, ◌⊎◌, inl, inr, ℕ, ◌+◌, ◌-◌, ◌^◌, true, ℤ, pos, ◌+ℤ◌, ◌*ℤ◌, List, [], ◌∷◌, length, map, get_or, slice_index, Option, Some, None, IfSome, IsSome, refl, sym, ◌∙◌, ap, subst, arith}
 use Rattle.std.specs.List.{AllByRecursion, list_any}
 use Rattle.std.proofs.lemmas.Bool.{and_parts, cases_eq}
 use Rattle.std.proofs.lemmas.List.{length_push, get_or_push, get_or_append_left}
 use Rattle.std.proofs.lemmas.List.Elements.{recursion_from_All}
 use Rattle.tgap_model.specs.declared.merge.LabelledArc.{LabelledArc}
 use Rattle.tgap_model.specs.declared.merge.MergeStep.{MergeStep}
-use Rattle.tgap_model.specs.History.{relabel_arc, is_between, are_neighbours, area_of, class_of, shared_length, IsNextStep, IsNumberedStep}
+use Rattle.tgap_model.specs.History.{relabel_arc, is_between, are_neighbours, area_of, class_of, IsNextStep, IsNumberedStep}
 use Rattle.face_merge.specs.Links.{ArePaired, Fit, plus, joined}
 use Rattle.face_merge.specs.Linking.{link_of}
 use Rattle.face_merge.specs.Merging.{MergeState, IsLabelled, IsMerging, after, importance_of}
-use Rattle.face_merge.specs.Running.{AreInSlots, IsWaiting, number_at}
+use Rattle.face_merge.specs.Running.{AreInSlots, number_at}
 use Rattle.face_merge.proofs.Neighbours.{is_pair}
 use Rattle.face_merge.proofs.Numbers.{any_labels, next_step_numbered, merging_after}
 use Rattle.face_merge.proofs.Relabelled.{area_made, area_kept}
@@ -29,12 +29,6 @@ plus_some : (x y : Option ℕ) → IsSome (plus x y) → IsSome x ⊎ IsSome y
 plus_some None y is = inr is
 plus_some (Some a) y is = inl refl
 
-some_plus : (x y : Option ℕ) → IsSome x ⊎ IsSome y → IsSome (plus x y)
-some_plus None y (inl is) = absurd (let h = is in cc)
-some_plus None y (inr is) = is
-some_plus (Some a) None h = refl
-some_plus (Some a) (Some b) h = refl
-
 plus_turned : (x y : Option ℕ) → plus x y ≡ plus y x
 plus_turned None None = refl
 plus_turned None (Some b) = refl
@@ -42,8 +36,8 @@ plus_turned (Some a) None = refl
 plus_turned (Some a) (Some b) = ap Some (omega arith)
 
 -- the links of faces in slots are paired
-pub slots_paired : (m : MergeState) (numbers : List ℕ) (areas : List ℤ) (w : Lengths) (q : ℤ → ℕ → ℕ → Bool) → AreInSlots m numbers areas w q → ArePaired w
-slots_paired m numbers areas w q known = record {
+pub slots_paired : (m : MergeState) (numbers : List ℕ) (areas : List ℤ) (w : Lengths) → AreInSlots m numbers areas w → ArePaired w
+slots_paired m numbers areas w known = record {
   turned = λ s t. known.linked s t ∙ (link_turned m.arcs (number_at numbers s) (number_at numbers t) ∙ sym (known.linked t s));
   itself = λ s. known.linked s s ∙ link_itself m.arcs (number_at numbers s);
 }
@@ -91,26 +85,6 @@ module _ (m : MergeState) (s : MergeStep) (is : IsMerging m) (next : IsNextStep 
           let some : IsSome (link_of arcs f g) = rw (link_some arcs f g e) refl in
           (g, some_link m.arcs f g (subst (λ (o : Option ℕ). IsSome o) (link_kept (length m.classes) s numbered m.arcs f g apart.0 apart.1 fm other.0 other.1 gm) some))
 
-  -- and the other way round
-  new_neighbour : (f g : ℕ) → f ≢ s.loser → f ≢ s.winner → are_neighbours m.arcs f g ≡ true → (h : ℕ) × (are_neighbours arcs f h ≡ true)
-  new_neighbour f g fl fw e = chosen (cases_eq g s.loser) (cases_eq g s.winner)
-    where
-      fm : f ≢ s.made
-      fm = not_made f (near_below f g e).0
-
-      to_both : IsSome (link_of m.arcs s.loser f) ⊎ IsSome (link_of m.arcs s.winner f) → (h : ℕ) × (are_neighbours arcs f h ≡ true)
-      to_both h =
-          let some : IsSome (link_of arcs s.made f) = rw (link_made (length m.classes) s numbered m.arcs f fl fw fm labels) (some_plus (link_of m.arcs s.loser f) (link_of m.arcs s.winner f) h) in
-          (s.made, turned_near arcs s.made f (some_link arcs s.made f some))
-
-      chosen : (g ≡ s.loser) ⊎ (g ≡ s.loser → ⊥) → (g ≡ s.winner) ⊎ (g ≡ s.winner → ⊥) → (h : ℕ) × (are_neighbours arcs f h ≡ true)
-      chosen (inl a) _ = to_both (inl (rw (link_some m.arcs s.loser f (turned_near m.arcs f s.loser (subst (λ (x : ℕ). are_neighbours m.arcs f x ≡ true) a e))) refl))
-      chosen (inr a) (inl b) = to_both (inr (rw (link_some m.arcs s.winner f (turned_near m.arcs f s.winner (subst (λ (x : ℕ). are_neighbours m.arcs f x ≡ true) b e))) refl))
-      chosen (inr a) (inr b) =
-          let gm = not_made g (near_below f g e).1 in
-          let some : IsSome (link_of arcs f g) = rw (link_kept (length m.classes) s numbered m.arcs f g fl fw fm a b gm, link_some m.arcs f g e) refl in
-          (g, some_link arcs f g some)
-
   -- the importance of the new face, and of any other
   pub importance_made : importance_of (after s m) s.made ≡ (area_of m.arcs s.loser +ℤ area_of m.arcs s.winner) *ℤ pos (slice_index m.rules.weights (class_of m.classes s.winner))
   importance_made =
@@ -119,7 +93,7 @@ module _ (m : MergeState) (s : MergeStep) (is : IsMerging m) (next : IsNextStep 
       ap (λ (z : ℤ). z *ℤ pos (slice_index m.rules.weights (class_of (after s m).classes s.made))) (area_made (length m.classes) s m.arcs numbered labels)
       ∙ ap (λ (k : ℕ). (area_of m.arcs s.loser +ℤ area_of m.arcs s.winner) *ℤ pos (slice_index m.rules.weights k)) class
 
-  importance_kept : (f : ℕ) → f ≢ 0 → f ≤ length m.classes → f ≢ s.loser → f ≢ s.winner → importance_of (after s m) f ≡ importance_of m f
+  pub importance_kept : (f : ℕ) → f ≢ 0 → f ≤ length m.classes → f ≢ s.loser → f ≢ s.winner → importance_of (after s m) f ≡ importance_of m f
   importance_kept f zero below fl fw =
       let inside : f - 1 < length m.classes = omega arith in
       let class : class_of (after s m).classes f ≡ class_of m.classes f =
@@ -127,7 +101,7 @@ module _ (m : MergeState) (s : MergeStep) (is : IsMerging m) (next : IsNextStep 
       ap (λ (z : ℤ). z *ℤ pos (slice_index m.rules.weights (class_of (after s m).classes f))) (area_kept s f m.arcs fl fw (not_made f below))
       ∙ ap (λ (k : ℕ). area_of m.arcs f *ℤ pos (slice_index m.rules.weights k)) class
 
-  module _ (numbers : List ℕ) (areas : List ℤ) (w : Lengths) (q : ℤ → ℕ → ℕ → Bool) (known : AreInSlots m numbers areas w q) (from to : ℕ)
+  module _ (numbers : List ℕ) (areas : List ℤ) (w : Lengths) (known : AreInSlots m numbers areas w) (from to : ℕ)
       (ends : ((number_at numbers from ≡ s.loser) × (number_at numbers to ≡ s.winner)) ⊎ ((number_at numbers from ≡ s.winner) × (number_at numbers to ≡ s.loser)))
     where
       -- the two slots have the two faces, and no other slot has
@@ -148,7 +122,7 @@ module _ (m : MergeState) (s : MergeStep) (is : IsMerging m) (next : IsNextStep 
           chosen (inr e) (inl a) = inr (a ∙ sym e.1)
           chosen (inr e) (inr a) = inl (a ∙ sym e.0)
 
-      other_face : (t : ℕ) → t ≢ from → t ≢ to → number_at numbers t ≢ 0 → (f : ℕ) → (f ≡ s.loser) ⊎ (f ≡ s.winner) → number_at numbers t ≢ f
+      pub other_face : (t : ℕ) → t ≢ from → t ≢ to → number_at numbers t ≢ 0 → (f : ℕ) → (f ≡ s.loser) ⊎ (f ≡ s.winner) → number_at numbers t ≢ f
       other_face t a b live f h e = chosen (face_slot f h)
         where
           chosen : (f ≡ number_at numbers from) ⊎ (f ≡ number_at numbers to) → ⊥
@@ -204,7 +178,7 @@ module _ (m : MergeState) (s : MergeStep) (is : IsMerging m) (next : IsNextStep 
           fits e p = rw e p
 
           paired : ArePaired w
-          paired = slots_paired m numbers areas w q known
+          paired = slots_paired m numbers areas w known
 
           both : {a b d e : Option ℕ} → a ≡ b → d ≡ e → plus a d ≡ plus b e
           both h k = rw (h, k) refl
@@ -212,16 +186,12 @@ module _ (m : MergeState) (s : MergeStep) (is : IsMerging m) (next : IsNextStep 
           after_fits : (f g : ℕ) → IfSome (link_of arcs f g) (λ n. n < 2 ^ 64)
           after_fits f g = let known_after = merging_after m s is next in link_fits arcs f g known_after.measured known_after.few_arcs
 
-      module _ (numbers' : List ℕ) (areas' : List ℤ) (w' : Lengths) (q' : ℤ → ℕ → ℕ → Bool) (count : length areas' ≡ length numbers') (as_many : length numbers' ≡ length numbers)
+      module _ (numbers' : List ℕ) (areas' : List ℤ) (w' : Lengths) (count : length areas' ≡ length numbers') (as_many : length numbers' ≡ length numbers)
           (at_from : number_at numbers' from ≡ 0) (at_to : number_at numbers' to ≡ s.made)
           (at_other : (t : ℕ) → t ≢ from → t ≢ to → number_at numbers' t ≡ number_at numbers t)
           (area_to : get_or areas' to (pos 0) ≡ area_of m.arcs s.loser +ℤ area_of m.arcs s.winner)
           (area_other : (t : ℕ) → t ≢ to → get_or areas' t (pos 0) ≡ get_or areas t (pos 0))
           (lengths : (a b : ℕ) → w' a b ≡ joined w from to a b)
-          (q_kept : (i : ℤ) (f t : ℕ) → q i f t ≡ true → t ≢ from → t ≢ to → q' i f t ≡ true)
-          (q_only : (i : ℤ) (f t : ℕ) → q' i f t ≡ true → ((q i f t ≡ true) × (t ≢ from) × (t ≢ to))
-          ⊎ ((i ≡ importance_of (after s m) s.made) × (f ≡ s.made) × (t ≡ to) × ((u : ℕ) × IsSome (w' to u))))
-          (q_added : (u : ℕ) → IsSome (w' to u) → q' (importance_of (after s m) s.made) s.made to ≡ true)
         where
           -- what holds of the two slots and of the others holds of each
           by_slots : (P : ℕ → Type 0) → P from → P to → ((t : ℕ) → t ≢ from → t ≢ to → P t) → (t : ℕ) → P t
@@ -298,86 +268,13 @@ module _ (m : MergeState) (s : MergeStep) (is : IsMerging m) (next : IsNextStep 
               linked_other
             where
               paired : ArePaired w
-              paired = slots_paired m numbers areas w q known
+              paired = slots_paired m numbers areas w known
 
               both : {a b d e : Option ℕ} → a ≡ b → d ≡ e → plus a d ≡ plus b e
               both h k = rw (h, k) refl
 
-          waiting_after : (i : ℤ) (f t : ℕ) → IsWaiting (after s m) numbers' i f t → q' i f t ≡ true
-          waiting_after i f t h = chosen (cases_eq t from) (cases_eq t to)
-            where
-              at_new : t ≡ to → q' i f t ≡ true
-              at_new e =
-                  let face : f ≡ s.made = sym h.number ∙ (ap (number_at numbers') e ∙ at_to) in
-                  let near : are_neighbours arcs s.made h.mergeable.neighbour.0 ≡ true = subst (λ (x : ℕ). are_neighbours arcs x h.mergeable.neighbour.0 ≡ true) face (h.mergeable.neighbour.1) in
-                  let place = covered_after h.mergeable.neighbour.0 s.made (turned_near arcs s.made h.mergeable.neighbour.0 near) in
-                  let link : w' to place.0 ≡ Some (shared_length arcs s.made h.mergeable.neighbour.0) =
-                  linked_after to place.0 ∙ (ap (λ (x : ℕ). link_of arcs x (number_at numbers' place.0)) at_to ∙ (ap (link_of arcs s.made) place.1 ∙ link_some arcs s.made h.mergeable.neighbour.0 near)) in
-                  let some : IsSome (w' to place.0) = subst (λ (o : Option ℕ). IsSome o) (sym link) refl in
-                  let importance : i ≡ importance_of (after s m) s.made = h.mergeable.importance ∙ ap (importance_of (after s m)) face in
-                  subst (λ (x : ℤ). q' x f t ≡ true) (sym importance)
-                  (subst (λ (x : ℕ). q' (importance_of (after s m) s.made) x t ≡ true) (sym face)
-                  (subst (λ (x : ℕ). q' (importance_of (after s m) s.made) s.made x ≡ true) (sym e) (q_added place.0 some)))
-
-              elsewhere : t ≢ from → t ≢ to → q' i f t ≡ true
-              elsewhere a b =
-                  let face : number_at numbers t ≡ f = sym (at_other t a b) ∙ h.number in
-                  let zero : f ≢ 0 = λ z. zero_near arcs h.mergeable.neighbour.0 (subst (λ (x : ℕ). are_neighbours arcs x h.mergeable.neighbour.0 ≡ true) z (h.mergeable.neighbour.1)) in
-                  let live : number_at numbers t ≢ 0 = λ z. zero (sym face ∙ z) in
-                  let fl : f ≢ s.loser = λ x. other_face t a b live s.loser (inl refl) (face ∙ x) in
-                  let fw : f ≢ s.winner = λ x. other_face t a b live s.winner (inr refl) (face ∙ x) in
-                  let below : f ≤ length m.classes = omega (arith, known.numbered t, face) in
-                  q_kept i f t (known.waiting i f t (record {
-                    number = face;
-                    mergeable = record {
-                      importance = h.mergeable.importance ∙ importance_kept f zero below fl fw;
-                      neighbour = old_neighbour f h.mergeable.neighbour.0 (not_made f below) (h.mergeable.neighbour.1);
-                    };
-                  })) a b
-
-              chosen : (t ≡ from) ⊎ (t ≡ from → ⊥) → (t ≡ to) ⊎ (t ≡ to → ⊥) → q' i f t ≡ true
-              chosen (inl a) _ =
-                  let face : f ≡ 0 = sym h.number ∙ (ap (number_at numbers') a ∙ at_from) in
-                  absurd (zero_near arcs h.mergeable.neighbour.0 (subst (λ (x : ℕ). are_neighbours arcs x h.mergeable.neighbour.0 ≡ true) face (h.mergeable.neighbour.1)))
-              chosen (inr a) (inl b) = at_new b
-              chosen (inr a) (inr b) = elsewhere a b
-
-          only_after : (i : ℤ) (f t : ℕ) → q' i f t ≡ true → IsWaiting (after s m) numbers' i f t
-          only_after i f t e = chosen (q_only i f t e)
-            where
-              chosen : ((q i f t ≡ true) × (t ≢ from) × (t ≢ to)) ⊎ ((i ≡ importance_of (after s m) s.made) × (f ≡ s.made) × (t ≡ to) × ((u : ℕ) × IsSome (w' to u)))
-                  → IsWaiting (after s m) numbers' i f t
-              chosen (inl h) =
-                  let was = known.only i f t h.0 in
-                  let zero : f ≢ 0 = λ z. zero_near m.arcs was.mergeable.neighbour.0 (subst (λ (x : ℕ). are_neighbours m.arcs x was.mergeable.neighbour.0 ≡ true) z was.mergeable.neighbour.1) in
-                  let live : number_at numbers t ≢ 0 = λ z. zero (sym was.number ∙ z) in
-                  let fl : f ≢ s.loser = λ x. other_face t h.1 h.2 live s.loser (inl refl) (was.number ∙ x) in
-                  let fw : f ≢ s.winner = λ x. other_face t h.1 h.2 live s.winner (inr refl) (was.number ∙ x) in
-                  let below : f ≤ length m.classes = omega (arith, known.numbered t, was.number) in
-                  record {
-                    number = at_other t h.1 h.2 ∙ was.number;
-                    mergeable = record {
-                      importance = was.mergeable.importance ∙ sym (importance_kept f zero below fl fw);
-                      neighbour = new_neighbour f was.mergeable.neighbour.0 fl fw was.mergeable.neighbour.1;
-                    };
-                  }
-              chosen (inr h) =
-                  let some : IsSome (link_of arcs s.made (number_at numbers' h.3.0)) =
-                  subst (λ (o : Option ℕ). IsSome o) (linked_after to h.3.0 ∙ ap (λ (x : ℕ). link_of arcs x (number_at numbers' h.3.0)) at_to) h.3.1 in
-                  record {
-                    number = ap (number_at numbers') h.2 ∙ (at_to ∙ sym h.1);
-                    mergeable = record {
-                      importance = h.0 ∙ ap (importance_of (after s m)) (sym h.1);
-                      neighbour = (
-                        number_at numbers' h.3.0,
-                        subst (λ (x : ℕ). are_neighbours (map (relabel_arc s) m.arcs) x (number_at numbers' h.3.0) ≡ true) (sym h.1)
-                            (some_link arcs s.made (number_at numbers' h.3.0) some),
-                      );
-                    };
-                  }
-
           -- the faces in their slots are those of the map after the step
-          pub slots_after : AreInSlots (after s m) numbers' areas' w' q'
+          pub slots_after : AreInSlots (after s m) numbers' areas' w'
           slots_after = record {
             known = merging_after m s is next;
             count = count;
@@ -387,6 +284,4 @@ module _ (m : MergeState) (s : MergeStep) (is : IsMerging m) (next : IsNextStep 
             covered = covered_after;
             areas_are = areas_after;
             linked = linked_after;
-            waiting = waiting_after;
-            only = only_after;
           }

@@ -1,8 +1,8 @@
--- The next step: what `next_step` computes is one, there is no other, and there is none only where no faces are neighbours.
+-- The next step: what `next_step` computes is one, there is no other, and there is none only where no face has a permitted neighbour.
 use Rattle.std.proofs.Common.{◌≡◌, ◌<◌, ◌≤◌, inl, inr, ℕ, zero, suc, ◌+◌, Bool, true, false, ◌&&◌, ◌||◌, ◌==◌, List, [], ◌∷◌, length, map, Option, Some, None, cond, refl, sym, ◌∙◌, subst, arith}
 use Rattle.std.specs.Prelude.{count_by}
 use Rattle.std.specs.List.{AllByRecursion, list_any}
-use Rattle.std.proofs.lemmas.Bool.{or_cases, and_parts, false_from_ne_true, both_ways}
+use Rattle.std.proofs.lemmas.Bool.{or_cases, and_parts, and_from, false_from_ne_true, both_ways}
 use Rattle.std.proofs.lemmas.Bool.Decides.{nat_tests}
 use Rattle.std.proofs.lemmas.List.Sums.{sum_by-cons, count_by-le-length}
 use Rattle.std.proofs.lemmas.List.{length-map}
@@ -10,7 +10,7 @@ use Rattle.tgap_model.specs.declared.base.Rules.{Rules}
 use Rattle.tgap_model.specs.declared.merge.MergeStep.{MergeStep}
 use Rattle.tgap_model.specs.declared.merge.LabelledArc.{LabelledArc}
 use Rattle.tgap_model.specs.Base.{BaseMap}
-use Rattle.tgap_model.specs.History.{is_between, are_neighbours, is_shared, mergeable, neighbours_of, relabel_arc, labelled, importance, score, loses_before, wins_before, first_by, step_against, next_step, classes_after, steps_from, history_of, IsNextStep, AreSteps, IsHistory}
+use Rattle.tgap_model.specs.History.{is_between, are_neighbours, is_permitted, is_shared, mergeable, neighbours_of, relabel_arc, labelled, importance, score, loses_before, wins_before, first_by, step_against, next_step, classes_after, steps_from, history_of, IsNextStep, AreSteps, IsHistory}
 use Rattle.face_merge.proofs.Order.{IsOrder, least_first_is, greatest_first_is}
 use Rattle.face_merge.proofs.First.{first_by_member, first_by_first, first_by_none}
 use Rattle.face_merge.proofs.Neighbours.{is_pair, between_shared, mergeable_neighbours, mergeable_has, neighbours_are, neighbours_has}
@@ -23,17 +23,26 @@ losers rules classes arcs = least_first_is (importance rules classes arcs)
 pub winners : (rules : Rules) (classes : List ℕ) (arcs : List LabelledArc) (loser : ℕ) → IsOrder (wins_before rules classes arcs loser)
 winners rules classes arcs loser = greatest_first_is (score rules classes arcs loser)
 
--- what holds of each mergeable face holds of the first of two neighbours
-first_neighbour : (P : ℕ → Type 0) (arcs : List LabelledArc) (f g : ℕ) → AllByRecursion P (mergeable arcs) → are_neighbours arcs f g ≡ true → P f
-first_neighbour P arcs f g ps e =
-    let parts = and_parts (is_pair f g) _ e in
-    mergeable_has P arcs f g ps parts.0 parts.1
+-- what holds of each mergeable face holds of a face with a permitted neighbour
+first_neighbour : (P : ℕ → Type 0) (rules : Rules) (classes : List ℕ) (arcs : List LabelledArc) (f g : ℕ) → AllByRecursion P (mergeable rules classes arcs)
+    → is_permitted rules classes arcs f g ≡ true → P f
+first_neighbour P rules classes arcs f g ps e =
+    let both = and_parts (are_neighbours arcs f g) _ e in
+    let parts = and_parts (is_pair f g) _ both.0 in
+    mergeable_has rules classes P arcs f g ps parts.0 parts.1 both.1
 
--- what holds of each neighbour of a face holds of the second of two neighbours
-second_neighbour : (P : ℕ → Type 0) (arcs : List LabelledArc) (f g : ℕ) → AllByRecursion P (neighbours_of arcs f) → are_neighbours arcs f g ≡ true → P g
-second_neighbour P arcs f g ps e =
-    let parts = and_parts (is_pair f g) _ e in
-    neighbours_has P arcs f g ps parts.0 parts.1
+-- what holds of each listed neighbour of a face holds of a permitted neighbour
+second_neighbour : (P : ℕ → Type 0) (rules : Rules) (classes : List ℕ) (arcs : List LabelledArc) (f g : ℕ) → AllByRecursion P (neighbours_of rules classes arcs f)
+    → is_permitted rules classes arcs f g ≡ true → P g
+second_neighbour P rules classes arcs f g ps e =
+    let both = and_parts (are_neighbours arcs f g) _ e in
+    let parts = and_parts (is_pair f g) _ both.0 in
+    neighbours_has rules classes P arcs f g ps parts.0 parts.1 both.1
+
+-- a step's winner is a permitted neighbour of its loser
+pub step_permitted : (rules : Rules) (classes : List ℕ) (arcs : List LabelledArc) (s : MergeStep) → IsNextStep rules classes arcs s
+    → is_permitted rules classes arcs s.loser s.winner ≡ true
+step_permitted rules classes arcs s is = and_from _ _ is.neighbours is.permitted
 
 -- a step is its three numbers
 pub same_step : (s t : MergeStep) → s.loser ≡ t.loser → s.winner ≡ t.winner → s.made ≡ t.made → s ≡ t
@@ -44,21 +53,26 @@ same_step s t a b d =
 
 module _ (rules : Rules) (classes : List ℕ) (arcs : List LabelledArc) where
   -- the winner, or none, against a loser
-  against : (loser : ℕ) (s : MergeStep) → AllByRecursion (λ f. loses_before rules classes arcs f loser ≡ false) (mergeable arcs)
+  against : (loser : ℕ) (s : MergeStep) → AllByRecursion (λ f. loses_before rules classes arcs f loser ≡ false) (mergeable rules classes arcs)
       → step_against rules classes arcs loser ≡ Some s → IsNextStep rules classes arcs s
-  against loser s least e = chosen (first_by (wins_before rules classes arcs loser) (neighbours_of arcs loser)) refl e
+  against loser s least e = chosen (first_by (wins_before rules classes arcs loser) (neighbours_of rules classes arcs loser)) refl e
     where
-      found : (winner : ℕ) → first_by (wins_before rules classes arcs loser) (neighbours_of arcs loser) ≡ Some winner
+      permitted : (winner : ℕ) → first_by (wins_before rules classes arcs loser) (neighbours_of rules classes arcs loser) ≡ Some winner → is_permitted rules classes arcs loser winner ≡ true
+      permitted winner is =
+          first_by_member _ (λ g. is_permitted rules classes arcs loser g ≡ true) (neighbours_of rules classes arcs loser) winner is (neighbours_are rules classes arcs loser)
+
+      found : (winner : ℕ) → first_by (wins_before rules classes arcs loser) (neighbours_of rules classes arcs loser) ≡ Some winner
           → IsNextStep rules classes arcs (record { loser = loser; winner = winner; made = length classes + 1 })
       found winner is = record {
-        neighbours = first_by_member _ (λ g. are_neighbours arcs loser g ≡ true) (neighbours_of arcs loser) winner is (neighbours_are arcs loser);
-        loser = λ f g e. first_neighbour (λ x. loses_before rules classes arcs x loser ≡ false) arcs f g least e;
-        winner = λ g e. second_neighbour (λ x. wins_before rules classes arcs loser x winner ≡ false) arcs loser g
-            (first_by_first _ (winners rules classes arcs loser) (neighbours_of arcs loser) winner is) e;
+        neighbours = (and_parts (are_neighbours arcs loser winner) _ (permitted winner is)).0;
+        permitted = (and_parts (are_neighbours arcs loser winner) _ (permitted winner is)).1;
+        loser = λ f g e. first_neighbour (λ x. loses_before rules classes arcs x loser ≡ false) rules classes arcs f g least e;
+        winner = λ g e. second_neighbour (λ x. wins_before rules classes arcs loser x winner ≡ false) rules classes arcs loser g
+            (first_by_first _ (winners rules classes arcs loser) (neighbours_of rules classes arcs loser) winner is) e;
         made = refl;
       }
 
-      chosen : (o : Option ℕ) → first_by (wins_before rules classes arcs loser) (neighbours_of arcs loser) ≡ o
+      chosen : (o : Option ℕ) → first_by (wins_before rules classes arcs loser) (neighbours_of rules classes arcs loser) ≡ o
           → elim o [ None ↦ None | Some winner ↦ Some (record { loser = loser; winner = winner; made = length classes + 1 }) ] ≡ Some s
           → IsNextStep rules classes arcs s
       chosen None is e = absurd cc
@@ -69,41 +83,43 @@ module _ (rules : Rules) (classes : List ℕ) (arcs : List LabelledArc) where
   -- what `next_step` gives is the next step
   pub next_step_is : (s : MergeStep) → next_step rules classes arcs ≡ Some s → IsNextStep rules classes arcs s
   unfolding next_step
-  next_step_is s e = chosen (first_by (loses_before rules classes arcs) (mergeable arcs)) refl e
+  next_step_is s e = chosen (first_by (loses_before rules classes arcs) (mergeable rules classes arcs)) refl e
     where
-      chosen : (o : Option ℕ) → first_by (loses_before rules classes arcs) (mergeable arcs) ≡ o
+      chosen : (o : Option ℕ) → first_by (loses_before rules classes arcs) (mergeable rules classes arcs) ≡ o
           → elim o [ None ↦ None | Some loser ↦ step_against rules classes arcs loser ] ≡ Some s → IsNextStep rules classes arcs s
       chosen None is e = absurd cc
-      chosen (Some loser) is e = against loser s (first_by_first _ (losers rules classes arcs) (mergeable arcs) loser is) e
+      chosen (Some loser) is e = against loser s (first_by_first _ (losers rules classes arcs) (mergeable rules classes arcs) loser is) e
 
-  -- a loser that has a neighbour has a winner
-  some_winner : (loser g : ℕ) → are_neighbours arcs loser g ≡ true → step_against rules classes arcs loser ≡ None → ⊥
-  some_winner loser g near e = chosen (first_by (wins_before rules classes arcs loser) (neighbours_of arcs loser)) refl e
+  -- a loser that has a permitted neighbour has a winner
+  some_winner : (loser g : ℕ) → is_permitted rules classes arcs loser g ≡ true → step_against rules classes arcs loser ≡ None → ⊥
+  some_winner loser g near e = chosen (first_by (wins_before rules classes arcs loser) (neighbours_of rules classes arcs loser)) refl e
     where
-      chosen : (o : Option ℕ) → first_by (wins_before rules classes arcs loser) (neighbours_of arcs loser) ≡ o
+      chosen : (o : Option ℕ) → first_by (wins_before rules classes arcs loser) (neighbours_of rules classes arcs loser) ≡ o
           → ◌≡◌ {A = Option MergeStep} (elim o [ None ↦ None | Some winner ↦ Some (record { loser = loser; winner = winner; made = length classes + 1 }) ]) None → ⊥
-      chosen None is e = second_neighbour (λ _. ⊥) arcs loser g (first_by_none _ (λ _. ⊥) (neighbours_of arcs loser) is) near
+      chosen None is e = second_neighbour (λ _. ⊥) rules classes arcs loser g (first_by_none _ (λ _. ⊥) (neighbours_of rules classes arcs loser) is) near
       chosen (Some winner) is e = cc
 
-  -- where it gives none, no two faces are neighbours
-  pub no_next_step : next_step rules classes arcs ≡ None → (f g : ℕ) → are_neighbours arcs f g ≡ false
+  -- where it gives none, no face has a permitted neighbour
+  pub no_next_step : next_step rules classes arcs ≡ None → (f g : ℕ) → is_permitted rules classes arcs f g ≡ false
   unfolding next_step
-  no_next_step e f g = false_from_ne_true _ (λ near. chosen (first_by (loses_before rules classes arcs) (mergeable arcs)) refl e near)
+  no_next_step e f g = false_from_ne_true _ (λ near. chosen (first_by (loses_before rules classes arcs) (mergeable rules classes arcs)) refl e near)
     where
-      chosen : (o : Option ℕ) → first_by (loses_before rules classes arcs) (mergeable arcs) ≡ o
-          → ◌≡◌ {A = Option MergeStep} (elim o [ None ↦ None | Some loser ↦ step_against rules classes arcs loser ]) None → are_neighbours arcs f g ≡ true → ⊥
-      chosen None is e near = first_neighbour (λ _. ⊥) arcs f g (first_by_none _ (λ _. ⊥) (mergeable arcs) is) near
+      chosen : (o : Option ℕ) → first_by (loses_before rules classes arcs) (mergeable rules classes arcs) ≡ o
+          → ◌≡◌ {A = Option MergeStep} (elim o [ None ↦ None | Some loser ↦ step_against rules classes arcs loser ]) None → is_permitted rules classes arcs f g ≡ true → ⊥
+      chosen None is e near = first_neighbour (λ _. ⊥) rules classes arcs f g (first_by_none _ (λ _. ⊥) (mergeable rules classes arcs) is) near
       chosen (Some loser) is e near =
-          let h = first_by_member _ (λ x. (y : ℕ) × (are_neighbours arcs x y ≡ true)) (mergeable arcs) loser is (mergeable_neighbours arcs) in
+          let h = first_by_member _ (λ x. (y : ℕ) × (is_permitted rules classes arcs x y ≡ true)) (mergeable rules classes arcs) loser is (mergeable_neighbours rules classes arcs) in
           some_winner loser h.0 h.1 e
 
   -- there is at most one next step
   pub one_next_step : (s t : MergeStep) → IsNextStep rules classes arcs s → IsNextStep rules classes arcs t → s ≡ t
   one_next_step s t p q =
       let loser : s.loser ≡ t.loser = (losers rules classes arcs).decided s.loser t.loser
-      (q.loser s.loser s.winner p.neighbours) (p.loser t.loser t.winner q.neighbours) in
-      let near : are_neighbours arcs s.loser t.winner ≡ true = subst (λ (f : ℕ). are_neighbours arcs f t.winner ≡ true) (sym loser) q.neighbours in
-      let near' : are_neighbours arcs t.loser s.winner ≡ true = subst (λ (f : ℕ). are_neighbours arcs f s.winner ≡ true) loser p.neighbours in
+      (q.loser s.loser s.winner (step_permitted rules classes arcs s p)) (p.loser t.loser t.winner (step_permitted rules classes arcs t q)) in
+      let near : is_permitted rules classes arcs s.loser t.winner ≡ true =
+      subst (λ (f : ℕ). is_permitted rules classes arcs f t.winner ≡ true) (sym loser) (step_permitted rules classes arcs t q) in
+      let near' : is_permitted rules classes arcs t.loser s.winner ≡ true =
+      subst (λ (f : ℕ). is_permitted rules classes arcs f s.winner ≡ true) loser (step_permitted rules classes arcs s p) in
       let wins : wins_before rules classes arcs s.loser s.winner t.winner ≡ false =
       subst (λ (f : ℕ). wins_before rules classes arcs f s.winner t.winner ≡ false) (sym loser) (q.winner s.winner near') in
       let winner : s.winner ≡ t.winner = (winners rules classes arcs s.loser).decided s.winner t.winner wins (p.winner t.winner near) in
@@ -205,8 +221,8 @@ steps_from_are (suc n) rules classes arcs enough =
 -- no other list holds the steps from here on
 pub one_list_of_steps : (rules : Rules) (classes : List ℕ) (arcs : List LabelledArc) (ss ts : List MergeStep) → AreSteps rules classes arcs ss → AreSteps rules classes arcs ts → ss ≡ ts
 one_list_of_steps rules classes arcs [] [] p q = refl
-one_list_of_steps rules classes arcs [] (t ∷ ts) p q = absurd (both_ways _ (p t.loser t.winner) q.0.neighbours)
-one_list_of_steps rules classes arcs (s ∷ ss) [] p q = absurd (both_ways _ (q s.loser s.winner) p.0.neighbours)
+one_list_of_steps rules classes arcs [] (t ∷ ts) p q = absurd (both_ways _ (p t.loser t.winner) (step_permitted rules classes arcs t q.0))
+one_list_of_steps rules classes arcs (s ∷ ss) [] p q = absurd (both_ways _ (q s.loser s.winner) (step_permitted rules classes arcs s p.0))
 one_list_of_steps rules classes arcs (s ∷ ss) (t ∷ ts) p q =
     let e : s ≡ t = one_next_step rules classes arcs s t p.0 q.0 in
     let later = subst (λ (w : MergeStep). AreSteps rules (classes_after w classes) (map (relabel_arc w) arcs) ts) (sym e) q.1 in

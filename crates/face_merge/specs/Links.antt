@@ -1,8 +1,8 @@
 -- The links between the faces of a map while it is merged: which are neighbours, and the length that they share.
-use Rattle.std.specs.Prelude.{◌≡◌, ◌<◌, ℕ, ◌+◌, ◌^◌, Bool, ◌&&◌, ◌||◌, ◌==◌, List, Option, Some, None, unwrap_or, if◌then◌else◌, IfSome}
+use Rattle.std.specs.Prelude.{◌≡◌, ◌≢◌, ◌<◌, ℕ, ◌+◌, ◌^◌, Bool, ◌&&◌, ◌||◌, ◌==◌, List, [], ◌∷◌, Option, Some, None, unwrap_or, if◌then◌else◌, IfSome}
 use Rattle.std.specs.declared.cmp.Ordering.{Ordering}
 use Rattle.std.specs.Ordering.{ordering_then, nat_cmp}
-use Rattle.std.specs.List.{All, slice_get}
+use Rattle.std.specs.List.{All, AllByRecursion, slice_get}
 use Rattle.std.specs.BTreeMap.{get}
 use Rattle.tgap_model.specs.declared.merge.LabelledArc.{LabelledArc}
 use Rattle.tgap_model.specs.History.{is_shared, is_between}
@@ -54,6 +54,11 @@ joined lengths from to s t =
 pub record AreLinksOf (lengths : ℕ → ℕ → Option ℕ) (slot : ℕ) (links : List Link) : Type 0 where
   pub each : All (λ link. lengths slot link.slot ≡ Some link.length) links
   pub all : (t length : ℕ) → lengths slot t ≡ Some length → (k : ℕ) × (slice_get links k ≡ Some (record { slot = t; length = length }))
+
+-- each of these links leads to another slot
+abbrev pub AreOnce : List Link → Type 0
+AreOnce [] = Unit {0}
+AreOnce (x ∷ xs) = AllByRecursion (λ y. y.slot ≢ x.slot) xs × AreOnce xs
 
 -- two faces share the same length either way round, and none with itself
 pub record ArePaired (lengths : ℕ → ℕ → Option ℕ) : Type 0 where

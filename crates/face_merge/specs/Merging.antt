@@ -1,6 +1,6 @@
 -- A map while it is merged: its rules, the class of each face so far and its arcs, and what is known of them, so that
 -- every number fits.
-use Rattle.std.specs.Prelude.{◌≡◌, ◌<◌, ◌≤◌, ℕ, ◌+◌, ℤ, pos, List, length, map, fold, slice_index_or, count_by, Option, IsTrue}
+use Rattle.std.specs.Prelude.{◌≡◌, ◌<◌, ◌≤◌, ℕ, zero, suc, ◌+◌, Bool, ◌&&◌, not, ◌==◌, ℤ, pos, if◌then◌else◌, List, length, map, fold, slice_index_or, count_by, Option, IsTrue}
 use Rattle.std.specs.List.{All}
 use Rattle.tgap_model.specs.declared.base.Rules.{Rules}
 use Rattle.tgap_model.specs.declared.merge.LabelledArc.{LabelledArc}
@@ -8,7 +8,7 @@ use Rattle.tgap_model.specs.declared.merge.MergeStep.{MergeStep}
 use Rattle.tgap_model.specs.declared.limits.TheConstants.{MAX_ARCS}
 use Rattle.tgap_model.specs.Base.{BaseMap, is_rules}
 use Rattle.tgap_model.specs.Bounds.{max_face}
-use Rattle.tgap_model.specs.History.{labelled, relabel_arc, classes_after, area_of, importance, score, is_shared, next_step}
+use Rattle.tgap_model.specs.History.{labelled, relabel_arc, classes_after, area_of, importance, score, permits, are_neighbours, is_permitted, is_shared, next_step}
 use Rattle.face_merge.specs.Measures.{IsMeasured}
 
 -- A map while it is merged. The list of classes begins with that of face 1 and goes on in order of number.
@@ -40,6 +40,23 @@ importance_of m f = importance m.rules m.classes m.arcs f
 -- the score of a neighbour of the loser
 abbrev pub score_of : MergeState → ℕ → ℕ → ℕ
 score_of m loser g = score m.rules m.classes m.arcs loser g
+
+-- how many of the numbers below n pass a test
+unfoldable pub count_below : (ℕ → Bool) → ℕ → ℕ
+count_below p zero = 0
+count_below p (suc n) = count_below p n + (if p n then 1 else 0)
+
+-- a face of the map permits another as its neighbour
+abbrev pub permits_in : MergeState → ℕ → ℕ → Bool
+permits_in m f g = permits m.rules m.classes f g
+
+-- how many permitted neighbours a face of the map has
+abbrev pub permitted_count : MergeState → ℕ → ℕ
+permitted_count m f = count_below (is_permitted m.rules m.classes m.arcs f) (length m.classes + 1)
+
+-- a neighbour of the loser is one more permitted neighbour of the new face: the winner permits it, and has none of its arcs
+abbrev pub is_gained : MergeState → ℕ → ℕ → Bool
+is_gained m winner g = not (g == winner) && (not (are_neighbours m.arcs winner g) && permits_in m winner g)
 
 -- n is the greatest label
 pub record IsLabelled (n : ℕ) (a : LabelledArc) : Type 0 where

@@ -1,4 +1,5 @@
-//! The merge history of a base map: at each step the face of least importance joins the neighbour that suits it best.
+//! The merge history of a base map: at each step the face of least importance that has a permitted neighbour joins the
+//! one of them that suits it best.
 //! Beside it, the area of the face that each step takes. It stands on `tgap_model`, whose `History` says what a step is.
 #![tactic(auto)]
 
@@ -26,16 +27,17 @@ use tgap_model::{Base, List, Memory, MergeStep};
 /// of its arcs.
 ///
 /// The areas, the neighbours and the lengths that they share are summed once; each step changes those of the two faces
-/// that it merges. The links of the one with fewer of them go to the other, and the faces wait in an ordered queue, so
-/// the cost is near the number of arcs times the square of its logarithm. It is more only where a face with very many
-/// neighbours loses again and again: each step looks at all neighbours of its loser. It fails on want of memory alone.
+/// that it merges, and goes on with the counts of permitted neighbours of those at the loser's side. The links of the one
+/// with fewer of them go to the other, and the faces with a permitted neighbour wait in an ordered queue, so the cost is
+/// near the number of arcs times the square of its logarithm. It is more only where a face with very many neighbours
+/// loses again and again: each step looks at all neighbours of its loser. It fails on want of memory alone.
 pub fn history_of(
     alloc: Global,
     base: &Base,
     measures: &List<Measure>,
 ) -> Result<List<MergeStep>, Memory>
     requires { measures.now ≡ map measure_of base.now.arcs }
-    // Each step is the one that the rules ask for, and the last one leaves no neighbours.
+    // Each step is the one that the rules ask for, and the last one leaves no face with a permitted neighbour.
     ensures steps { IfOk result (λ steps. IsHistory base.now steps) }
     // No other list of steps is the history.
     ensures only { IfOk result (λ steps. (others : List MergeStep) → IsHistory base.now others → others ≡ steps) }
@@ -57,7 +59,7 @@ pub fn history_of(
 /// The points are read once, to measure the arcs; the rest costs what `history_of` costs. It fails on want of memory
 /// alone.
 pub fn history(alloc: Global, base: &Base) -> Result<List<MergeStep>, Memory>
-    // Each step is the one that the rules ask for, and the last one leaves no neighbours.
+    // Each step is the one that the rules ask for, and the last one leaves no face with a permitted neighbour.
     ensures steps { IfOk result (λ steps. IsHistory base.now steps) }
     // No other list of steps is the history.
     ensures only { IfOk result (λ steps. (others : List MergeStep) → IsHistory base.now others → others ≡ steps) }

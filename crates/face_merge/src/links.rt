@@ -1,13 +1,12 @@
 //! The links between faces in slots: which are neighbours, and the length that they share.
 
-ghost use Rattle.std.specs.Prelude.{◌≡◌, ◌≢◌, ◌≤◌, ◌+◌, ◌<◌, ◌^◌, ℕ, None, length, map, unwrap_or, IfOk, IfSome, OnOk, IsSome};
-ghost use Rattle.std.specs.Bool.{OnTrue, OnFalse};
+ghost use Rattle.std.specs.Prelude.{◌≡◌, ◌≢◌, ◌≤◌, ◌+◌, ◌<◌, ◌^◌, ℕ, None, length, map, unwrap_or, IfOk, IfSome, OnOk, is_some};
 ghost use Rattle.std.specs.List.{All};
 ghost use Rattle.tgap_model.specs.declared.limits.TheConstants.{MAX_ARCS};
 ghost use Rattle.tgap_model.specs.History.{is_shared};
 ghost use Rattle.face_merge.specs.Linking.{link_of};
 ghost use Rattle.face_merge.specs.Measures.{IsMeasured};
-ghost use Rattle.face_merge.specs.Links.{AreLinksOf, length_at, has_pair, with_length, without, with_arc, with_more, joined, ArePaired, Fit, IsPassed};
+ghost use Rattle.face_merge.specs.Links.{AreLinksOf, AreOnce, length_at, has_pair, with_length, without, with_arc, with_more, joined, ArePaired, Fit, IsPassed};
 
 use std::alloc::Global;
 use std::collections::BTreeMap;
@@ -122,7 +121,8 @@ impl Links {
     /// The links of a face.
     pub fn of(&self, alloc: Global, slot: u32) -> Result<Vec<Link>, Memory>
         requires { slot + 1 < 2 ^ 32 }
-        ensures { IfOk result (λ links. AreLinksOf (length_at self.now) slot links.items) }
+        ensures links { IfOk result (λ links. AreLinksOf (length_at self.now) slot links.items) }
+        ensures once { IfOk result (λ links. AreOnce links.items) }
     {
         let mut links = Vec::new(alloc);
         for (slots, length) in self.lengths.range((slot, 0)..(slot + 1, 0)) {
@@ -134,16 +134,11 @@ impl Links {
         Ok(links)
     }
 
-    /// Whether a face has a link.
-    pub fn any(&self, slot: u32) -> bool
-        requires { slot + 1 < 2 ^ 32 }
-        ensures some { OnTrue result ((t : ℕ) × IsSome (length_at self.now slot t)) }
-        ensures none { OnFalse result ((t : ℕ) → length_at self.now slot t ≡ None) }
+    /// Whether a face has a link with another.
+    pub fn has(&self, slot: u32, other: u32) -> bool
+        ensures { result ≡ is_some (length_at self.now slot other) }
     {
-        self.lengths
-            .range((slot, 0)..(slot + 1, 0))
-            .next()
-            .is_some()
+        self.lengths.contains_key(&(slot, other))
     }
 
     /// Whether a face has more links than this.

@@ -1,12 +1,14 @@
 //! A map while it is merged. Each live face stands in a slot, at first that of its number; a new face takes the slot of
 //! the loser or the winner. So the links of one of the two stay where they are.
 
-ghost use Rattle.std.specs.Prelude.{◌≡◌, ◌≢◌, ◌≤◌, ◌<◌, ◌*ℤ◌, ◌+ℤ◌, pos, unsigned_abs, length, slice_index, IfOk, MatchOption, None, Some};
+ghost use Rattle.std.specs.Prelude.{◌≡◌, ◌≢◌, ◌≤◌, ◌<◌, ◌*◌, ◌+◌, ◌*ℤ◌, ◌+ℤ◌, pos, unsigned_abs, nat_lt, length, slice_index, IfOk, IsTrue, MatchOption, None, Some};
+ghost use Rattle.tgap_model.specs.Base.{is_rules};
 ghost use Rattle.tgap_model.specs.Bounds.{max_area};
 ghost use Rattle.tgap_model.specs.History.{class_of, area_of};
 ghost use Rattle.face_merge.specs.Merging.{importance_of, next_of};
 ghost use Rattle.face_merge.specs.Running.{IsRunning, IsLive, IsNextPair, state_of, number_in};
 
+mod neighbours;
 mod start;
 mod step;
 mod winner;
@@ -55,6 +57,27 @@ fn importance(rules: &Rules, class: u32, area: i128) -> i128
     area * i128::from(rules.weights.as_slice()[class as usize])
 }
 
+/// The compatibility of a class, the row of the table, with another, the column.
+fn compatibility(rules: &Rules, class: u32, other: u32) -> u32
+    requires rules { IsTrue (is_rules rules.now) }
+    requires class { class < length rules.now.weights }
+    requires other { other < length rules.now.weights }
+    ensures { result ≡ slice_index rules.now.compat (class * length rules.now.weights + other) }
+{
+    let row = class as usize * rules.weights.len();
+    rules.compat.as_slice()[row + other as usize]
+}
+
+/// Whether a face of a class permits a neighbour of another class: their compatibility is above 0.
+fn permits(rules: &Rules, class: u32, other: u32) -> bool
+    requires rules { IsTrue (is_rules rules.now) }
+    requires class { class < length rules.now.weights }
+    requires other { other < length rules.now.weights }
+    ensures { result ≡ nat_lt 0 (slice_index rules.now.compat (class * length rules.now.weights + other)) }
+{
+    compatibility(rules, class, other) > 0
+}
+
 impl<'a> Merging<'a> {
     /// The steps so far.
     pub fn into_steps(self) -> List<MergeStep>
@@ -86,7 +109,7 @@ impl<'a> Merging<'a> {
         }
     }
 
-    /// The next two faces to be merged; none where no two faces are neighbours.
+    /// The next two faces to be merged; none where no face has a permitted neighbour.
     pub fn next_pair(&self, alloc: Global) -> Result<Option<Pair>, Memory>
         requires { IsRunning self.now }
         ensures { IfOk result (λ next. MatchOption next (next_of (state_of self.now) ≡ None) (IsNextPair self.now)) }

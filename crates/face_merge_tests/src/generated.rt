@@ -115,9 +115,11 @@ fn classes(alloc: Global) -> Result<List<u32>, Memory> {
     Ok(classes)
 }
 
-/// Four classes: those that come later weigh more, and each suits itself best.
+/// Four classes: those that come later weigh more. A face of class 0 goes to classes 1 and 3 alone, one of class 1 to
+/// classes 0 and 2, one of class 2 to its own class and to class 3, and one of class 3 to class 0. So at several hundred
+/// steps a neighbour of the loser comes to have a permitted neighbour, or has none any more.
 fn rules(alloc: Global) -> Result<Rules, Memory> {
-    let compat = [4, 1, 1, 1, 1, 4, 1, 1, 1, 1, 4, 1, 1, 1, 1, 4];
+    let compat = [0, 1, 0, 1, 1, 0, 1, 0, 0, 0, 4, 1, 1, 0, 0, 0];
     Ok(Rules {
         ratio: 16,
         weights: List::from(Vec::from_slice(alloc, &[1, 2, 3, 4])?),

@@ -44,7 +44,7 @@ fn is_shared(arc: &Sided) -> bool {
     arc.left != 0 && arc.right != 0 && arc.left != arc.right
 }
 
-/// The neighbour of the face at the arc, or 0.
+/// The neighbour of the face at the arc, permitted or not, or 0.
 fn neighbour(arc: &Sided, face: u32) -> u32 {
     if !is_shared(arc) {
         0
@@ -101,19 +101,37 @@ impl<'a> Plain<'a> {
         let mut best = 0;
         for arc in &self.arcs {
             if is_shared(arc) {
-                best = sooner(importances, best, arc.left);
-                best = sooner(importances, best, arc.right);
+                best = self.sooner_where_permitted(importances, best, arc.left, arc.right);
+                best = self.sooner_where_permitted(importances, best, arc.right, arc.left);
             }
         }
         best
     }
 
-    fn score(&self, lengths: &[i128], loser: u32, face: u32) -> i128 {
+    /// The one of two faces that loses first, where the second permits this neighbour.
+    fn sooner_where_permitted(
+        &self,
+        importances: &[i128],
+        best: u32,
+        face: u32,
+        other: u32,
+    ) -> u32 {
+        if self.suits(face, other) == 0 {
+            return best;
+        }
+        sooner(importances, best, face)
+    }
+
+    /// The compatibility of a face's class with another's.
+    fn suits(&self, face: u32, other: u32) -> u32 {
         let rules = self.base.rules();
-        let row = (self.class(loser) as usize).wrapping_mul(rules.weights.len());
-        let place = row.wrapping_add(self.class(face) as usize);
-        let suits = number_at(rules.compat.as_slice(), place);
-        sum_at(lengths, face).wrapping_mul(i128::from(suits))
+        let row = (self.class(face) as usize).wrapping_mul(rules.weights.len());
+        let place = row.wrapping_add(self.class(other) as usize);
+        number_at(rules.compat.as_slice(), place)
+    }
+
+    fn score(&self, lengths: &[i128], loser: u32, face: u32) -> i128 {
+        sum_at(lengths, face).wrapping_mul(i128::from(self.suits(loser, face)))
     }
 
     /// The one of two neighbours that wins. Face 0 is none.
@@ -129,19 +147,19 @@ impl<'a> Plain<'a> {
         }
     }
 
-    /// The neighbour that takes the loser, or 0.
+    /// The permitted neighbour that takes the loser, or 0.
     fn winner(&self, lengths: &[i128], loser: u32) -> u32 {
         let mut best = 0;
         for arc in &self.arcs {
             let face = neighbour(arc, loser);
-            if face != 0 {
+            if face != 0 && self.suits(loser, face) != 0 {
                 best = self.better(lengths, loser, best, face);
             }
         }
         best
     }
 
-    /// The next step, if two faces are neighbours.
+    /// The next step, if a face has a permitted neighbour.
     fn next(&self, alloc: Global) -> Result<Option<MergeStep>, Memory> {
         let loser = self.loser(&self.importances(alloc)?);
         if loser == 0 {
@@ -184,18 +202,10 @@ fn sooner(importances: &[i128], best: u32, face: u32) -> u32 {
     }
 }
 
-fn label_after(step: &MergeStep, label: u32) -> u32 {
-    if label == step.loser || label == step.winner {
-        step.made
-    } else {
-        label
-    }
-}
-
 fn relabelled(step: &MergeStep, arc: &Sided) -> Sided {
     Sided {
-        left: label_after(step, arc.left),
-        right: label_after(step, arc.right),
+        left: step.label_after(arc.left),
+        right: step.label_after(arc.right),
         measure: arc.measure,
     }
 }

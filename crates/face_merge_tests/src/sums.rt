@@ -11,7 +11,7 @@ fn sums_kept_from_step_to_step(rt: HostRuntime) -> Result<(), Fail> {
     let base = generated(alloc)?.ok_or("no map")?;
     let steps = history(alloc, &base)?;
     assert_eq!(rt; base.classes().len(), 1600);
-    assert_eq!(rt; steps.len(), 1599);
+    assert_eq!(rt; steps.len(), 1100);
     let plain = plain_history(alloc, &base)?;
     assert_eq!(rt; steps.as_slice(), plain.as_slice());
     Ok(())

@@ -2,3 +2,4 @@ pub mod Sizes
 pub mod Within
 pub mod Directions
 pub mod Heights
+pub mod Evidence

@@ -9,37 +9,7 @@ ghost use Rattle.grid_index.specs.Merged.{in_order, IsFront};
 
 use crate::keys::is_among;
 use std::alloc::Global;
-use tgap_model::{Edge, List, Memory, Point};
-
-/// A copy of some points.
-fn copied_points(alloc: Global, points: &[Point]) -> Result<List<Point>, Memory>
-    ensures { IfOk result (λ copy. copy ≡ points.now) }
-{
-    Ok(List::from(points.to_vec(alloc)?))
-}
-
-/// A copy of an edge.
-fn copied_edge(alloc: Global, edge: &Edge) -> Result<Edge, Memory>
-    ensures { IfOk result (λ copy. copy ≡ edge.now) }
-{
-    Ok(Edge {
-        key: edge.key,
-        left: edge.left,
-        right: edge.right,
-        points: copied_points(alloc, edge.points.as_slice())?,
-    })
-}
-
-/// A copy of some edges.
-pub fn copied_edges(alloc: Global, edges: &[Edge]) -> Result<List<Edge>, Memory>
-    ensures { IfOk result (λ copy. copy ≡ edges.now) }
-{
-    let mut copy = List::with_capacity(alloc, edges.len())?;
-    for edge in edges {
-        copy.push(copied_edge(alloc, edge)?)?;
-    }
-    Ok(copy)
-}
+use tgap_model::{Edge, List, Memory};
 
 /// The edges, ascending by key.
 pub fn by_key(edges: List<Edge>) -> Vec<Edge>

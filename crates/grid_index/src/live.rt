@@ -4,14 +4,14 @@ ghost use Rattle.std.specs.Prelude.{◌≡◌, ◌≢◌, ◌++◌, Contains, Is
 ghost use Rattle.grid_index.specs.Live.{near_segments, keys, without_keys, AreLive, IsLiveEdge};
 
 use crate::changes::{changed, keys_without, room_for};
-use crate::edges::{by_key, copied_edges, keys_of};
+use crate::edges::{by_key, keys_of};
 use crate::entries::{boxes_of_keys, entries_laid, entries_of};
 use crate::keys::ascending;
 use crate::slots::Slots;
 use std::alloc::Global;
 use std::marker::Model;
 use std::mem;
-use tgap_model::{Edge, List, Memory, Window};
+use tgap_model::{Edge, List, Memory, Window, copied_edges};
 
 /// A segment of an edge: the key of the edge, and the place of the segment in it, from 0.
 #[derive(Clone, Copy, Debug, PartialEq, Eq)]

@@ -5,7 +5,7 @@ use Rattle.httparse.specs.Grammar.{RequestHead, crlf, print_request, trim_ows}
 use Rattle.std.specs.Fmt.{digits}
 use Rattle.std.specs.Str.{is_utf8, chars}
 use lib.Utf8.{encode}
-use Rattle.tgap_model.specs.Texts.{number_of}
+use Rattle.line_forms.specs.Texts.{number_of}
 use Rattle.http_face.specs.declared.head.HeadEnds.TheVariants.{Whole}
 use Rattle.http_face.specs.declared.request.Allow.TheVariants.{Get, Post}
 use Rattle.http_face.specs.declared.request.Route.TheVariants as route

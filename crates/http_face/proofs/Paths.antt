@@ -2,7 +2,7 @@
 use Rattle.std.proofs.Common.{◌≡◌, ◌≢◌, ℕ, suc, ◌+◌, ◌-◌, ◌<◌, ◌==◌, Bool, true, false, nat_lt, List, ◌∷◌, length, take, get_or, slice_range, refl, sym, ap, ◌∙◌, arith, ne_eqb, eq-eqb, IsUtf8}
 use Rattle.std.proofs.lemmas.List.{take_all}
 use Rattle.std.proofs.lemmas.List.Sums.{position_or_len_is}
-use Rattle.tgap_model.specs.Words.{Row}
+use Rattle.line_forms.specs.Words.{Row}
 use Rattle.std.specs.Str.{is_utf8}
 use Rattle.std.proofs.lemmas.Str.{is_utf8-from_IsUtf8, IsUtf8-from_is_utf8}
 use Rattle.http_face.specs.declared.request.Route.TheVariants.{NoRoute}

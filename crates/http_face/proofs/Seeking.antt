@@ -7,7 +7,7 @@ use Rattle.std.proofs.lemmas.Bool.Decides.{nat_tests}
 use Rattle.matchit.specs.Rows.{RowsOf}
 use Rattle.matchit.specs.Seek.{seek, step, own, param_step, segment, has_slash, cuts}
 use Rattle.matchit.specs.Level.{IsText}
-use Rattle.tgap_model.specs.Words.{Row}
+use Rattle.line_forms.specs.Words.{Row}
 use Rattle.http_face.specs.Routes.{are_parameters}
 
 -- ---- no rows

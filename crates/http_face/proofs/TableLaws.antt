@@ -8,7 +8,7 @@ use Rattle.matchit.specs.Router.{RouteOf}
 use Rattle.matchit.specs.Seek.{first}
 use Rattle.matchit.specs.Level.{IsText}
 use Rattle.matchit.proofs.OnLiterals.{matchit_on_literals}
-use Rattle.tgap_model.specs.Words.{Row, ◌>>=◌, after_word}
+use Rattle.line_forms.specs.Words.{Row, ◌>>=◌, after_word}
 use Rattle.plain_io.proofs.Steps.{bind_some, after_word_is}
 use Rattle.http_face.specs.declared.request.Resource.{Resource}
 use Rattle.http_face.specs.declared.request.Resource.TheVariants as resource

@@ -4,8 +4,8 @@ use Rattle.std.specs.List.{slice_split, before_first}
 use Rattle.std.specs.Int.Signed.{le_z}
 use Rattle.std.specs.Str.{is_utf8}
 use Rattle.tgap_model.specs.declared.geometry.Window.{Window}
-use Rattle.tgap_model.specs.Words.{Row, ◌>>=◌, after_word, count_at}
-use Rattle.tgap_model.specs.ListingLines.{coordinate_at}
+use Rattle.line_forms.specs.Words.{Row, ◌>>=◌, after_word, count_at}
+use Rattle.line_forms.specs.ListingLines.{coordinate_at}
 use Rattle.http_face.specs.declared.request.Allow.{Allow}
 use Rattle.http_face.specs.declared.request.Allow.TheVariants.{Get, Post}
 use Rattle.http_face.specs.declared.request.Resource.{Resource}

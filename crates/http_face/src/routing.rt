@@ -2,7 +2,7 @@
 
 ghost use Rattle.std.specs.Prelude.{◌≡◌};
 ghost use Rattle.http_face.specs.Routes.{route_of, route_of_path, path_of, segments_of, parameters_of, are_parameters, find_in, resources, read_parameters, request_of};
-ghost use Rattle.tgap_model.specs.ListingLines.{coordinate_at};
+ghost use Rattle.line_forms.specs.ListingLines.{coordinate_at};
 ghost use Rattle.plain_io.specs.Taking.{Takes};
 ghost use Rattle.http_face.specs.declared.request.Resource.TheVariants.{Window as WindowResource};
 

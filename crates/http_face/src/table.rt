@@ -1,7 +1,7 @@
 //! The table of routes, by which a path is looked up.
 
 ghost use Rattle.std.specs.Prelude.{◌≡◌, Some, IfOk, OnOk};
-ghost use Rattle.tgap_model.specs.Words.{Row};
+ghost use Rattle.line_forms.specs.Words.{Row};
 ghost use Rattle.http_face.specs.Routes.{find_in, resources, segments_of};
 ghost use Rattle.http_face.specs.Table.{HasPlace, the_rows, with_row};
 

@@ -1,15 +1,11 @@
--- Worked maps, computed from the definitions: two squares, four squares round one node, and a square with a hole and a face in it.
-use Rattle.std.proofs.Common.{◌≡◌, ℕ, true, pos, negsuc, List, [], ◌∷◌, refl, Some, None, codes}
-use Rattle.std.specs.Fmt.{digits}
+-- Worked maps, computed from the definitions: two squares, four squares round one node, a square with a hole and a face in it,
+-- and maps with barriers.
+use Rattle.std.proofs.Common.{◌≡◌, ℕ, true, pos, List, [], ◌∷◌, refl}
 use Rattle.tgap_model.specs.declared.geometry.Point.{Point}
 use Rattle.tgap_model.specs.declared.base.BaseArc.{BaseArc}
-use Rattle.tgap_model.specs.declared.border.BorderRow.{BorderRow}
 use Rattle.tgap_model.specs.declared.merge.MergeStep.{MergeStep}
 use Rattle.tgap_model.specs.Base.{BaseMap, is_transform, is_rules, is_arc, is_base}
-use Rattle.tgap_model.specs.History.{next_step, history_of}
-use Rattle.tgap_model.specs.Border.{border}
-use Rattle.tgap_model.specs.Texts.{number_of, borders_text}
-use Rattle.tgap_model.specs.Listing.{listing_text}
+use Rattle.tgap_model.specs.History.{classes_after, next_step, history_of}
 
 -- an arc from the numbers of its line
 abbrev pub points_of : List ℕ → List Point
@@ -32,9 +28,6 @@ plain_map ratio classes arcs = record {
 abbrev pub step : ℕ → ℕ → ℕ → MergeStep
 step loser winner made = record { loser = loser; winner = winner; made = made }
 
-abbrev row : ℕ → ℕ → ℕ → BorderRow
-row n left right = record { arc = n; left = left; right = right }
-
 -- ---- two squares
 
 abbrev pub two_squares : BaseMap
@@ -50,21 +43,6 @@ two_squares_history : history_of two_squares ≡ step 1 2 3 ∷ []
 unfolding history_of next_step
 two_squares_history = refl
 
-two_squares_border_0 : border two_squares 0 ≡ row 0 1 0 ∷ row 1 2 0 ∷ row 2 1 2 ∷ []
-two_squares_border_0 = refl
-
-two_squares_border_1 : border two_squares 1 ≡ row 0 3 0 ∷ row 1 3 0 ∷ []
-unfolding history_of next_step
-two_squares_border_1 = refl
-
-two_squares_text : borders_text 1 (row 0 3 0 ∷ row 1 3 0 ∷ []) ≡ codes "borders 1\nborder 0 3 0\nborder 1 3 0\nend\n"
-unfolding digits
-two_squares_text = refl
-
-two_squares_listing : listing_text two_squares ≡ codes "tgap 1\ntransform 1 1 0 0\nratio 16\nclasses 1\nclass 0 1 1\nfaces 2\nface 1 0\nface 2 0\narcs 3\narc 1 0 4 10 10 0 10 0 0 10 0\narc 2 0 4 10 0 20 0 20 10 10 10\narc 1 2 2 10 0 10 10\nend\n"
-unfolding digits
-two_squares_listing = refl
-
 -- ---- four squares round one node
 
 abbrev pub four_squares : BaseMap
@@ -78,14 +56,6 @@ four_squares_history : history_of four_squares ≡ step 1 2 5 ∷ step 3 4 6 ∷
 unfolding history_of next_step
 four_squares_history = refl
 
-four_squares_border_2 : border four_squares 2 ≡ row 0 5 0 ∷ row 1 5 0 ∷ row 2 6 0 ∷ row 3 6 0 ∷ row 5 5 6 ∷ row 7 6 5 ∷ []
-unfolding history_of next_step
-four_squares_border_2 = refl
-
-four_squares_border_3 : border four_squares 3 ≡ row 0 7 0 ∷ row 1 7 0 ∷ row 2 7 0 ∷ row 3 7 0 ∷ []
-unfolding history_of next_step
-four_squares_border_3 = refl
-
 -- ---- a square with a hole, and a face in it
 
 abbrev pub hole_with_face : BaseMap
@@ -95,10 +65,6 @@ hole_with_face = plain_map 0 (0 ∷ 0 ∷ []) (
 hole_with_face_history : history_of hole_with_face ≡ step 2 1 3 ∷ []
 unfolding history_of next_step
 hole_with_face_history = refl
-
-hole_with_face_border_1 : border hole_with_face 1 ≡ row 0 3 0 ∷ []
-unfolding history_of next_step
-hole_with_face_border_1 = refl
 
 -- ---- three squares in a row: the first has a heavier class, and the others suit each other better
 
@@ -117,24 +83,71 @@ three_squares_history : history_of three_squares ≡ step 2 3 4 ∷ step 4 1 5 �
 unfolding history_of next_step
 three_squares_history = refl
 
--- ---- words of numbers
+-- ---- barriers: a compatibility of 0 forbids a merge
 
-least_number : number_of (negsuc 9) (pos 9) (codes "-10") ≡ Some (negsuc 9)
-unfolding number_of digits
-least_number = refl
+-- two squares of classes that do not suit each other, nor any its own: there is no step
+abbrev pub barred_squares : BaseMap
+barred_squares = record {
+  transform = two_squares.transform;
+  rules = record { ratio = 16; weights = 1 ∷ []; compat = 0 ∷ [] };
+  classes = 0 ∷ 0 ∷ [];
+  arcs = two_squares.arcs;
+}
 
-no_leading_zero : number_of (negsuc 9) (pos 9) (codes "07") ≡ None
-unfolding number_of digits
-no_leading_zero = refl
+barred_squares_history : history_of barred_squares ≡ []
+unfolding history_of next_step
+barred_squares_history = refl
 
-no_negative_zero : number_of (negsuc 9) (pos 9) (codes "-0") ≡ None
-unfolding number_of digits
-no_negative_zero = refl
+-- a square may go to the other, but not the other to it: the one that may loses, though its number is the greater
+abbrev pub one_way_squares : BaseMap
+one_way_squares = record {
+  transform = two_squares.transform;
+  rules = record { ratio = 16; weights = 1 ∷ 1 ∷ []; compat = 0 ∷ 1 ∷ 0 ∷ 0 ∷ [] };
+  classes = 1 ∷ 0 ∷ [];
+  arcs = two_squares.arcs;
+}
 
-no_plus : number_of (negsuc 9) (pos 9) (codes "+7") ≡ None
-unfolding number_of digits
-no_plus = refl
+one_way_squares_history : history_of one_way_squares ≡ step 2 1 3 ∷ []
+unfolding history_of next_step
+one_way_squares_history = refl
 
-beyond : number_of (negsuc 9) (pos 9) (codes "10") ≡ None
-unfolding number_of digits
-beyond = refl
+-- the new face has the class of the winner
+one_way_squares_classes : classes_after (step 2 1 3) one_way_squares.classes ≡ 1 ∷ 0 ∷ 1 ∷ []
+one_way_squares_classes = refl
+
+-- three squares in a row, the first of class 0, the second of class 1, the third of class 2, by the compatibilities of a table
+abbrev row_of_classes : List ℕ → BaseMap
+row_of_classes compat = record {
+  transform = three_squares.transform;
+  rules = record { ratio = 0; weights = 1 ∷ 1 ∷ 1 ∷ []; compat = compat };
+  classes = 0 ∷ 1 ∷ 2 ∷ [];
+  arcs = three_squares.arcs;
+}
+
+-- no two of them suit each other, though each would take its own kind: the history ends at once
+no_step : history_of (row_of_classes (5 ∷ 0 ∷ 0 ∷ 0 ∷ 5 ∷ 0 ∷ 0 ∷ 0 ∷ 5 ∷ [])) ≡ []
+unfolding history_of next_step
+no_step = refl
+
+-- the third does not go to the second, but it goes to what the second becomes in the first
+comes_to_permit : history_of (row_of_classes (0 ∷ 0 ∷ 0 ∷ 1 ∷ 0 ∷ 0 ∷ 1 ∷ 0 ∷ 0 ∷ [])) ≡ step 2 1 4 ∷ step 3 4 5 ∷ []
+unfolding history_of next_step
+comes_to_permit = refl
+
+-- the third would go to the second, but not to what the second becomes
+permits_no_more : history_of (row_of_classes (0 ∷ 0 ∷ 0 ∷ 1 ∷ 0 ∷ 0 ∷ 0 ∷ 1 ∷ 0 ∷ [])) ≡ step 2 1 4 ∷ []
+unfolding history_of next_step
+permits_no_more = refl
+
+-- four squares round one node, two of each class, and no class suits the other: two faces stay, side by side
+abbrev pub two_roots : BaseMap
+two_roots = record {
+  transform = four_squares.transform;
+  rules = record { ratio = 0; weights = 1 ∷ 1 ∷ []; compat = 1 ∷ 0 ∷ 0 ∷ 1 ∷ [] };
+  classes = 0 ∷ 1 ∷ 0 ∷ 1 ∷ [];
+  arcs = four_squares.arcs;
+}
+
+two_roots_history : history_of two_roots ≡ step 1 3 5 ∷ step 2 4 6 ∷ []
+unfolding history_of next_step
+two_roots_history = refl

@@ -16,7 +16,7 @@ use Rattle.lemmas.proofs.Signs.{Decides-int_lt, int_lt-false, lt_lt_trans, sub_p
 use Rattle.lemmas.proofs.Fractions.{fraction_lt_lt, fraction_lt_le}
 use Rattle.tgap_model.specs.Segment.{Line, line_through, crosses, passes, goes_right, rightward, run, height, is_higher, is_above}
 use Rattle.tgap_model.specs.Partition.{Sides, sides, stack, agree_from}
-use Rattle.tgap_model.specs.Inside.{borders, crosses_ray, is_inside}
+use Rattle.map_laws.specs.Inside.{borders, crosses_ray, is_inside}
 use Rattle.map_laws.specs.PlaneLaws.{InsideOneFace}
 
 -- ---- parity

@@ -1,10 +1,10 @@
 pub mod Examples
-pub mod ListingExamples
-pub mod TopologyExamples
 pub mod PartitionExamples
 pub mod SliceExamples
 pub mod StepExamples
 pub mod RecordExamples
+pub mod WindowExamples
+pub mod KeepingExamples
 pub mod Labels
 pub mod Inside
 pub mod MergeSteps

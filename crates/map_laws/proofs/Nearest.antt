@@ -10,7 +10,7 @@ use Rattle.lemmas.proofs.Signs.{Decides-int_lt, int_lt-false, int_lt-from_le, le
 use Rattle.lemmas.proofs.Fractions.{fraction_le_le}
 use Rattle.tgap_model.specs.Segment.{Line, line_through, crosses, rightward, run, height, is_higher, is_above}
 use Rattle.tgap_model.specs.Partition.{sides, stack}
-use Rattle.tgap_model.specs.Inside.{crosses_ray}
+use Rattle.map_laws.specs.Inside.{crosses_ray}
 use Rattle.map_laws.specs.PlaneLaws.{InsideBelowNearest}
 use Rattle.map_laws.proofs.ChainMembers.{Among}
 use Rattle.map_laws.proofs.Inside.{Each, each_insert, each_sort, each_filter, fronts, reached, run_positive, above_front, inside_parity}

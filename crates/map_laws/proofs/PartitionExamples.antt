@@ -8,7 +8,7 @@ use Rattle.tgap_model.specs.declared.fault.MapFault.TheVariants.{Meets, NodeDisa
 use Rattle.tgap_model.specs.Base.{BaseMap}
 use Rattle.tgap_model.specs.Segment.{any_common, common_point, turns_before, is_higher, is_above, line_after}
 use Rattle.tgap_model.specs.Partition.{base_segments, arc_fault, map_fault}
-use Rattle.tgap_model.specs.Inside.{is_inside}
+use Rattle.map_laws.specs.Inside.{is_inside}
 use Rattle.map_laws.proofs.Examples.{two_squares, four_squares, hole_with_face, arc, plain_map}
 
 abbrev point : ℕ → ℕ → Point

@@ -1,7 +1,6 @@
--- Refinement records of worked maps, computed from the definitions: what they hold, when they fit, what undoing them gives, and
--- the texts of slices and packets.
-use Rattle.std.proofs.Common.{◌≡◌, ℕ, true, false, pos, [], ◌∷◌, refl, Some, None, codes}
-use Rattle.std.specs.Fmt.{digits}
+-- Refinement records of worked maps, computed from the definitions: what they hold, when they fit, and what
+-- undoing them gives.
+use Rattle.std.proofs.Common.{◌≡◌, ℕ, true, false, pos, [], ◌∷◌, refl, Some, None}
 use Rattle.tgap_model.specs.declared.geometry.Point.{Point}
 use Rattle.tgap_model.specs.declared.record.Put.{Put}
 use Rattle.tgap_model.specs.declared.record.Piece.{Piece}
@@ -13,7 +12,6 @@ use Rattle.tgap_model.specs.Clear.{is_clear}
 use Rattle.tgap_model.specs.Removals.{is_removable, sweep, removals_to}
 use Rattle.tgap_model.specs.Slice.{slice, slice_at}
 use Rattle.tgap_model.specs.Records.{step_record, packet_of, undo, replayed, broken_rule}
-use Rattle.tgap_model.specs.SliceTexts.{slice_text, packet_text}
 use Rattle.tgap_model.specs.History.{next_step, history_of}
 use Rattle.map_laws.proofs.Examples.{two_squares, hole_with_face, arc, plain_map}
 use Rattle.map_laws.proofs.SliceExamples.{four_squares_merged, two_triangles, edge}
@@ -186,13 +184,3 @@ triangles_record = record {
 triangles_step : step_record (merged two_triangles) 1 ≡ triangles_record
 unfolding removals_to sweep is_removable is_clear chains_at history_of next_step
 triangles_step = refl
-
--- ---- texts
-
-slice_spelled : slice_text (slice two_squares 0) ≡ codes "slice 0\nfaces 2\nface 1 0\nface 2 0\nedges 3\nedge 0 1 0 4 10 10 0 10 0 0 10 0\nedge 1 2 0 4 10 0 20 0 20 10 10 10\nedge 2 1 2 2 10 0 10 10\nend\n"
-unfolding digits slice removals_to sweep is_removable is_clear chains_at history_of next_step
-slice_spelled = refl
-
-packet_spelled : packet_text (packet_of (merged two_squares) 1 0) ≡ codes "packet 1 0\nstep 1 1 0 2 0 3 1 1\nmend 0 1 2\nput 3 10 0\npiece 0 3 1 0\npiece 1 6 2 0\nedge 2 1 2 2 10 0 10 10\nend\n"
-unfolding digits packet_of removals_to sweep is_removable is_clear chains_at history_of next_step
-packet_spelled = refl

@@ -1,2 +1,3 @@
 pub mod PlaneLaws
 pub mod ChainLaws
+pub mod Inside

@@ -6,7 +6,7 @@ use Rattle.tgap_model.specs.declared.geometry.Fraction.{Fraction}
 use Rattle.tgap_model.specs.Base.{same_point}
 use Rattle.tgap_model.specs.Segment.{Line, IsBetweenColumns, line_through, is_higher}
 use Rattle.tgap_model.specs.Partition.{AreApart, follows, Sides, sides, stack, agree_from}
-use Rattle.tgap_model.specs.Inside.{crosses_ray, is_inside}
+use Rattle.map_laws.specs.Inside.{crosses_ray, is_inside}
 use Rattle.tgap_model.specs.Clear.{is_clear}
 
 -- ---- the labels down a line

@@ -5,15 +5,15 @@ use Rattle.std.proofs.lemmas.List.{length-map}
 use Rattle.std.specs.List.{slice_split, onto_first}
 use Rattle.std.proofs.lemmas.List.Splits.{slice_split-cons_yes, slice_split-cons_no}
 use Rattle.tgap_model.specs.Base.{BaseMap}
-use Rattle.tgap_model.specs.Texts.{rows_of}
-use Rattle.tgap_model.specs.Words.{Row}
-use Rattle.tgap_model.specs.Lines.{Lines, ◌>>=◌, next_number, whole_line, line_at, is_over}
+use Rattle.line_forms.specs.Texts.{rows_of}
+use Rattle.line_forms.specs.Words.{Row}
+use Rattle.line_forms.specs.Lines.{Lines, ◌>>=◌, next_number, whole_line, line_at, is_over}
 use Rattle.tgap_model.specs.declared.failure.Or.{Or}
 use Rattle.tgap_model.specs.declared.failure.Or.TheVariants.{Fault, Memory}
 use Rattle.plain_io.specs.Taking.{Refuses}
 use Rattle.map_version.specs.Faults.{fault_at, GivesEdited}
 use Rattle.edit_laws.proofs.Cases.{by_test}
-use Rattle.tgap_model.specs.Edits.{apply_line, at_line, edit_rows}
+use Rattle.edit_laws.specs.Edits.{apply_line, at_line, edit_rows}
 
 -- the lines of which the first is this one, and the others these
 pub record IsNext (n : ℕ) (rows : List Row) (row : Row) (rest : Lines) : Type 0 where

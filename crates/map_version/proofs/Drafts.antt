@@ -7,9 +7,9 @@ use Rattle.tgap_model.specs.declared.base.BaseArc.{BaseArc}
 use Rattle.tgap_model.specs.declared.limits.TheConstants.{MAX_POINTS}
 use Rattle.tgap_model.specs.Base.{BaseMap, count_points, is_arc}
 use Rattle.tgap_model.specs.Chains.{arc_number}
-use Rattle.tgap_model.specs.Json.{ensured}
-use Rattle.tgap_model.specs.Lines.{◌>>=◌}
-use Rattle.tgap_model.specs.Edits.{has_point, is_node, put_between, take_out, change_first, turns_back, add_point, drop_point}
+use Rattle.line_forms.specs.Json.{ensured}
+use Rattle.line_forms.specs.Lines.{◌>>=◌}
+use Rattle.edit_laws.specs.Edits.{has_point, is_node, put_between, take_out, change_first, turns_back, add_point, drop_point}
 use Rattle.edit_laws.proofs.Laws.{are_same, turns_back_is}
 use Rattle.map_version.specs.declared.arcs.Place.{Place}
 use Rattle.map_version.specs.Positions.{segment_at, inner_at, turns_at, first_place, changed_at}

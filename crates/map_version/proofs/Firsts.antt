@@ -4,7 +4,7 @@ use Rattle.std.specs.Prelude.{option_map}
 use Rattle.tgap_model.specs.declared.geometry.Point.{Point}
 use Rattle.tgap_model.specs.declared.base.BaseArc.{BaseArc}
 use Rattle.tgap_model.specs.Chains.{arc_number}
-use Rattle.tgap_model.specs.Edits.{with_points, put_between, take_out, neighbours, first_found, change_first}
+use Rattle.edit_laws.specs.Edits.{with_points, put_between, take_out, neighbours, first_found, change_first}
 use Rattle.edit_laws.proofs.Cases.{by_option}
 use Rattle.edit_laws.proofs.Laws.{change_here, change_there, found_here, found_there}
 use Rattle.map_version.specs.Positions.{segment_at, inner_at, first_place, changed_at}

@@ -8,7 +8,7 @@ use Rattle.std.proofs.lemmas.List.Folds.{list_any_more}
 use Rattle.tgap_model.specs.declared.geometry.Point.{Point}
 use Rattle.tgap_model.specs.declared.base.BaseArc.{BaseArc}
 use Rattle.tgap_model.specs.Base.{same_point}
-use Rattle.tgap_model.specs.Edits.{are_ends}
+use Rattle.edit_laws.specs.Edits.{are_ends}
 use Rattle.edit_laws.proofs.Cases.{by_test, by_option}
 use Rattle.map_version.specs.declared.arcs.Place.{Place}
 use Rattle.map_version.specs.declared.path.Sought.{Sought}

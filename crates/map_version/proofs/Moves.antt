@@ -9,7 +9,7 @@ use Rattle.tgap_model.specs.declared.geometry.Point.{Point}
 use Rattle.tgap_model.specs.declared.base.BaseArc.{BaseArc}
 use Rattle.tgap_model.specs.Base.{same_point}
 use Rattle.tgap_model.specs.Chains.{arc_number}
-use Rattle.tgap_model.specs.Edits.{has_point, moved, move_all, with_points}
+use Rattle.edit_laws.specs.Edits.{has_point, moved, move_all, with_points}
 use Rattle.tgap_model.proofs.Points.{same_point-true}
 use Rattle.edit_laws.proofs.Cases.{by_test}
 use Rattle.map_version.specs.Places.{arc_passes, has, is_among, Covers}

@@ -5,7 +5,7 @@ use Rattle.std.proofs.lemmas.List.{drop_more, length-map, length-take-le, get_or
 use Rattle.tgap_model.specs.declared.geometry.Point.{Point}
 use Rattle.tgap_model.specs.Base.{same_point}
 use Rattle.tgap_model.specs.Chains.{first_point, last_point}
-use Rattle.tgap_model.specs.Edits.{are_ends, put_between, take_out, neighbours}
+use Rattle.edit_laws.specs.Edits.{are_ends, put_between, take_out, neighbours}
 use Rattle.edit_laws.proofs.Cases.{by_test, by_option}
 use Rattle.map_version.specs.Positions.{segment_at, inner_at}
 

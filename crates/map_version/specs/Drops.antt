@@ -2,8 +2,8 @@
 use Rattle.std.specs.Prelude.{ℕ, not, remove, Option, Some, None, Result, Ok}
 use Rattle.tgap_model.specs.Base.{BaseMap}
 use Rattle.tgap_model.specs.Chains.{arc_number}
-use Rattle.tgap_model.specs.Json.{ensured}
-use Rattle.tgap_model.specs.Lines.{◌>>=◌}
+use Rattle.line_forms.specs.Json.{ensured}
+use Rattle.line_forms.specs.Lines.{◌>>=◌}
 use Rattle.map_version.specs.declared.arcs.Place.{Place}
 use Rattle.map_version.specs.Positions.{turns_at, changed_at}
 

@@ -1,5 +1,5 @@
 -- The edit that a line of a batch tells, as it was read.
-use Rattle.tgap_model.specs.Edits.{Edit as Told, Class as ToldClass, Move as ToldMove, Add as ToldAdd, Drop as ToldDrop}
+use Rattle.edit_laws.specs.Edits.{Edit as Told, Class as ToldClass, Move as ToldMove, Add as ToldAdd, Drop as ToldDrop}
 use Rattle.map_version.specs.declared.line.Edit.{Edit}
 use Rattle.map_version.specs.declared.line.Edit.TheVariants.{Class, Move, Add, Remove}
 

@@ -3,7 +3,7 @@ use Rattle.std.specs.Prelude.{ℕ, zero, suc, ◌+◌, ◌-◌, pos, Bool, slice
 use Rattle.tgap_model.specs.declared.geometry.Point.{Point}
 use Rattle.tgap_model.specs.declared.base.BaseArc.{BaseArc}
 use Rattle.tgap_model.specs.Base.{same_point}
-use Rattle.tgap_model.specs.Edits.{are_ends, with_points}
+use Rattle.edit_laws.specs.Edits.{are_ends, with_points}
 use Rattle.map_version.specs.declared.path.Sought.{Sought}
 use Rattle.map_version.specs.declared.path.Sought.TheVariants.{Segment, Inner}
 

@@ -3,7 +3,7 @@
 ghost use Rattle.std.specs.Prelude.{◌≡◌, ◌≤◌, ◌<◌, ℕ, false, true, length, map, insert, remove, option_map, IfSome, IfOk};
 ghost use Rattle.tgap_model.specs.Base.{same_point};
 ghost use Rattle.tgap_model.specs.Chains.{arc_number};
-ghost use Rattle.tgap_model.specs.Edits.{has_point, is_node, move_all};
+ghost use Rattle.edit_laws.specs.Edits.{has_point, is_node, move_all};
 ghost use Rattle.map_version.specs.Places.{arc_passes, has, ends_at, is_among, HavePoints};
 ghost use Rattle.map_version.specs.Firsts.{earlier};
 ghost use Rattle.map_version.specs.Positions.{position, first_place, changed_at};
@@ -12,7 +12,7 @@ use crate::path::{Sought, has_point, insert_in, is_end, move_in, remove_in};
 use crate::places::Places;
 use std::alloc::Global;
 use std::marker::Model;
-use tgap_model::{BaseArc, List, Memory, Point};
+use tgap_model::{BaseArc, List, Memory, Point, copied_arc};
 
 /// The place of a point: the number of its arc, and its position there.
 #[derive(Clone, Copy)]
@@ -38,17 +38,6 @@ impl Model for IndexedArcs {
     ghost view = { λ a. a.arcs.items };
 
     ghost invariant = { λ a. Covers (listed a.places) a.arcs.items };
-}
-
-/// A copy of an arc.
-fn copy_arc(alloc: Global, arc: &BaseArc) -> Result<BaseArc, Memory>
-    ensures { IfOk result (λ copy. copy ≡ arc.now) }
-{
-    Ok(BaseArc {
-        left: arc.left,
-        right: arc.right,
-        points: List::from(Vec::from_slice(alloc, arc.points.as_slice())?),
-    })
 }
 
 /// Moves the old point to the new one in the arcs that are listed.
@@ -85,7 +74,7 @@ impl IndexedArcs {
         let places = Places::of(alloc, arcs)?;
         let mut copy = Vec::with_capacity(alloc, arcs.len())?;
         for arc in arcs {
-            copy.push(copy_arc(alloc, arc)?)?;
+            copy.push(copied_arc(alloc, arc)?)?;
         }
         Ok(IndexedArcs { arcs: copy, places })
     }

@@ -1,7 +1,7 @@
 //! A batch of edits.
 
 ghost use Rattle.std.specs.Prelude.{◌≡◌, ◌≤◌, length};
-ghost use Rattle.tgap_model.specs.Edits.{edit_rows, edited};
+ghost use Rattle.edit_laws.specs.Edits.{edit_rows, edited};
 ghost use Rattle.map_version.specs.Faults.{fault_at, GivesEdited};
 
 use crate::cause::NO_EDIT;

@@ -2,7 +2,7 @@
 
 ghost use Rattle.std.specs.Prelude.{◌≡◌};
 ghost use Rattle.std.specs.Option.{ok_or};
-ghost use Rattle.tgap_model.specs.Json.{ensured};
+ghost use Rattle.line_forms.specs.Json.{ensured};
 ghost use Rattle.tgap_model.specs.declared.failure.Or.TheVariants.{Fault};
 
 use tgap_model::Or;

@@ -2,7 +2,7 @@
 
 ghost use Rattle.std.specs.Prelude.{◌≡◌, ◌≤◌, ◌<◌, ◌^◌, Some, IfSome, IfOk, IsTrue};
 ghost use Rattle.tgap_model.specs.Base.{in_limits, count_points};
-ghost use Rattle.tgap_model.specs.Edits.{named, set_class, move_point, add_point, drop_point, apply, apply_line};
+ghost use Rattle.edit_laws.specs.Edits.{named, set_class, move_point, add_point, drop_point, apply, apply_line};
 ghost use Rattle.plain_io.specs.Taking.{GivesWhole};
 ghost use Rattle.edit_laws.specs.EditLaws.{FitsLimits};
 ghost use Rattle.map_version.specs.Lines.{told};
@@ -19,7 +19,9 @@ use crate::path::{Sought, turns_back};
 use plain_io::{Pieces, read_number};
 use std::alloc::Global;
 use std::marker::Model;
-use tgap_model::{Base, BaseArc, List, MAX_POINTS, Memory, Or, Point, Rules, Transform};
+use tgap_model::{
+    Base, BaseArc, List, MAX_POINTS, Memory, Or, Point, Rules, Transform, copied_rules,
+};
 
 /// The parts of a base map, which it is at any time, with the places of its points and their number.
 #[derive(Drop)]
@@ -40,17 +42,6 @@ impl Model for Draft {
     ghost view = { λ d. record { transform = d.transform; rules = d.rules; classes = d.classes.items; arcs = d.arcs } };
 
     ghost invariant = { λ d. IsTrue (is_base (record { transform = d.transform; rules = d.rules; classes = d.classes.items; arcs = d.arcs })) × (d.count ≡ count_points d.arcs) };
-}
-
-/// A copy of the rules.
-fn copy_rules(alloc: Global, rules: &Rules) -> Result<Rules, Memory>
-    ensures { IfOk result (λ copy. copy ≡ rules.now) }
-{
-    Ok(Rules {
-        ratio: rules.ratio,
-        weights: List::from(Vec::from_slice(alloc, rules.weights.as_slice())?),
-        compat: List::from(Vec::from_slice(alloc, rules.compat.as_slice())?),
-    })
 }
 
 /// The number from `least` to `most` that a word names.
@@ -79,7 +70,7 @@ impl Draft {
         let arcs = base.arcs().as_slice();
         Ok(Draft {
             transform: *base.transform(),
-            rules: copy_rules(alloc, base.rules())?,
+            rules: copied_rules(alloc, base.rules())?,
             classes: Vec::from_slice(alloc, base.classes().as_slice())?,
             arcs: IndexedArcs::of(alloc, arcs)?,
             count: count_points(arcs),
@@ -125,7 +116,7 @@ impl Draft {
     }
 
     /// The map with this class for this face.
-    #[tactic(auto, unfolding(tgap_model::specs::Edits::set_class))]
+    #[tactic(auto, unfolding(edit_laws::specs::Edits::set_class))]
     fn set_class(mut self, face: &[u8], class: &[u8]) -> Result<Draft, Or<u8>>
         ensures { GivesWhole result (set_class self face.now class.now) }
     {
@@ -139,7 +130,7 @@ impl Draft {
     }
 
     /// The map with a point moved.
-    #[tactic(auto, unfolding(tgap_model::specs::Edits::move_point))]
+    #[tactic(auto, unfolding(edit_laws::specs::Edits::move_point))]
     fn move_point(mut self, alloc: Global, old: &Point, new: Point) -> Result<Draft, Or<u8>>
         requires { IsTrue (in_limits new) }
         ensures { GivesWhole result (move_point self old.now new) }
@@ -164,7 +155,7 @@ impl Draft {
     }
 
     /// The map with an inner point taken out.
-    #[tactic(auto, unfolding(tgap_model::specs::Edits::drop_point))]
+    #[tactic(auto, unfolding(edit_laws::specs::Edits::drop_point))]
     fn drop_point(self, alloc: Global, old: Point) -> Result<Draft, Or<u8>>
         ensures { GivesWhole result (drop_point self old) }
     {

@@ -3,8 +3,8 @@
 ghost use Rattle.std.specs.Prelude.{◌≡◌, option_map, codes};
 ghost use Rattle.std.specs.Char.{is_ascii_digit};
 ghost use Rattle.std.specs.List.{list_all};
-ghost use Rattle.tgap_model.specs.ListingLines.{coordinate_at};
-ghost use Rattle.tgap_model.specs.Edits.{is_numeral, is_decimal, decimal_at, point_at, read_class, read_move, read_add, read_drop, read_edit};
+ghost use Rattle.line_forms.specs.ListingLines.{coordinate_at};
+ghost use Rattle.edit_laws.specs.Edits.{is_numeral, is_decimal, decimal_at, point_at, read_class, read_move, read_add, read_drop, read_edit};
 ghost use Rattle.plain_io.specs.Taking.{Takes, Reads};
 ghost use Rattle.map_version.specs.Lines.{told};
 

@@ -4,7 +4,7 @@ ghost use Rattle.std.specs.Prelude.{◌≡◌, ◌≤◌, ◌<◌, ◌+◌, ◌|
 ghost use Rattle.std.specs.List.{list_any};
 ghost use Rattle.tgap_model.specs.Base.{same_point};
 ghost use Rattle.tgap_model.specs.Chains.{first_point, last_point};
-ghost use Rattle.tgap_model.specs.Edits.{are_ends, moved, with_points};
+ghost use Rattle.edit_laws.specs.Edits.{are_ends, moved, with_points};
 ghost use Rattle.map_version.specs.Positions.{segment_at, inner_at, position, sought_point, turns_at};
 
 use std::alloc::Global;

@@ -4,7 +4,7 @@ ghost use Rattle.std.specs.Prelude.{◌≡◌, ◌<◌, ◌+◌, ◌-◌, ◌^�
 ghost use Rattle.tgap_model.specs.Base.{BaseMap};
 ghost use Rattle.tgap_model.specs.declared.fault.MapFault.{MapFault as FaultOfMap};
 ghost use Rattle.tgap_model.specs.Partition.{IsPartition, base_segments, map_fault};
-ghost use Rattle.tgap_model.specs.Edits.{edited};
+ghost use Rattle.edit_laws.specs.Edits.{edited};
 ghost use Rattle.map_version.specs.declared.fault.EditFault.{EditFault as FaultOfEdit};
 ghost use Rattle.map_version.specs.declared.version.RebuildFail.TheVariants.{Edit, Map};
 ghost use Rattle.map_version.specs.Faults.{told_fault};
@@ -15,13 +15,15 @@ use base_check::check;
 use std::alloc::Global;
 use std::thread::Threads;
 use tgap_build::{Built, build};
-use tgap_model::{Holds, MapFault, Memory, Or};
+use tgap_model::{Holds, MapFault, Memory, Or, Text};
 
-/// A version of a map: its number, and what was built of its base map, which is a planar partition.
+/// A version of a map: its number, what was built of its base map, which is a planar partition, and the batch of edits by which
+/// it was made of the version before it, which is empty for the first version.
 #[derive(Debug, Drop)]
 pub struct Version {
     pub number: u64,
     pub built: Built,
+    pub batch: Text,
     ghost planar: { IsPartition (base_segments built) },
 }
 
@@ -30,8 +32,14 @@ impl Holds for Version {
 
     ghost base = { λ version. version.built };
 
+    ghost batched = { λ version. version.batch };
+
     fn number(&self) -> u64 {
         self.number
+    }
+
+    fn batch(&self) -> &[u8] {
+        self.batch.as_slice()
     }
 }
 
@@ -46,7 +54,8 @@ pub enum RebuildFail {
     Memory,
 }
 
-/// The version after this one: what is built of its base map, after a batch of edits. The pinned version stays as it is.
+/// The version after this one: what is built of its base map, after a batch of edits, with a copy of the batch. The pinned version
+/// stays as it is.
 ///
 /// `Edit` tells the first line of the batch that is at fault, and `Map` the first fault of the edited base map, which is checked
 /// after the last line. Its cost is that of `edited`, `check` and `build`.
@@ -61,6 +70,8 @@ pub fn rebuild<R: Threads + Sync>(
     ensures number { IfOk result (λ version. version.number ≡ pinned.now.number + 1) }
     // It is built of the edited base map.
     ensures base { IfOk result (λ version. edited pinned.now.built batch.now ≡ Ok version.built) }
+    // It has the batch.
+    ensures batch { IfOk result (λ version. version.batch ≡ batch.now) }
     // The edited base map has no fault.
     ensures sound { IfOk result (λ version. map_fault version.built ≡ None) }
     // Edit comes only where a line is at fault, and tells the first one.
@@ -79,10 +90,15 @@ pub fn rebuild<R: Threads + Sync>(
         Err(Or::Fault(fault)) => return Err(RebuildFail::Map(fault)),
         Err(Or::Memory) => return Err(RebuildFail::Memory),
     };
+    let copy = match Text::from_slice(alloc, batch) {
+        Ok(copy) => copy,
+        Err(Memory) => return Err(RebuildFail::Memory),
+    };
     match build(rt, alloc, checked) {
         Ok(built) => Ok(Version {
             number: pinned.number + 1,
             built,
+            batch: copy,
         }),
         Err(Memory) => Err(RebuildFail::Memory),
     }

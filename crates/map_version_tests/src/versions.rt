@@ -7,7 +7,7 @@ use std::alloc::Global;
 use std::test::Fail;
 use std::thread::Threads;
 use tgap_build::{Built, build};
-use tgap_model::{Fraction, Holds, MapFault, Memory, Or, Point};
+use tgap_model::{Fraction, Holds, MapFault, Memory, Or, Point, Text};
 
 /// What is built of the two squares.
 fn built_squares<R: Threads + Sync>(rt: &R, alloc: Global) -> Result<Option<Built>, Memory> {
@@ -25,7 +25,11 @@ fn built_squares<R: Threads + Sync>(rt: &R, alloc: Global) -> Result<Option<Buil
 fn next<R: Threads + Sync>(rt: &R, alloc: Global, batch: &[u8]) -> Result<Version, RebuildFail> {
     match built_squares(rt, alloc) {
         Ok(Some(built)) => {
-            let first = Version { number: 0, built };
+            let first = Version {
+                number: 0,
+                built,
+                batch: Text::new(alloc),
+            };
             rebuild(rt, alloc, &first, batch)
         }
         _ => Err(RebuildFail::Memory),
@@ -48,6 +52,22 @@ fn the_next_version_is_built(rt: HostRuntime) -> Result<(), Fail> {
     let (number, point) = point_after(&rt, rt.alloc(), b"move 20 10 24 10\n")?;
     assert_eq!(rt; number, 1);
     assert_eq!(rt; point, Some(Point { x: 24, y: 10 }));
+    Ok(())
+}
+
+/// The batch of the version that a batch makes.
+fn batch_after<R: Threads + Sync>(
+    rt: &R,
+    alloc: Global,
+    batch: &[u8],
+) -> Result<Text, RebuildFail> {
+    Ok(next(rt, alloc, batch)?.batch)
+}
+
+#[test]
+fn a_version_has_its_batch(rt: HostRuntime) -> Result<(), Fail> {
+    let batch = batch_after(&rt, rt.alloc(), b"move 20 10 24 10\n")?;
+    assert_eq!(rt; batch.as_slice(), b"move 20 10 24 10\n".as_slice());
     Ok(())
 }
 

@@ -9,7 +9,7 @@ use Rattle.plain_io.specs.declared.link.Link as OfLink
 use Rattle.plain_io.specs.Doors.{Connections, NoneCame}
 use Rattle.plain_io.specs.Links.{HasNone}
 use Rattle.tgap_model.specs.Base.{BaseMap}
-use Rattle.tgap_model.specs.declared.machine.Holds as Held
+use Rattle.tgap_model.specs.declared.holds.Holds as Held
 use Rattle.version_store.specs.declared.name.StoreName as Named
 use Rattle.version_store.specs.declared.seat.SeatOf.{SeatOf}
 use Rattle.version_store.specs.declared.press.PressOf.{PressOf}

@@ -3,7 +3,7 @@ use Rattle.std.proofs.Common.{◌≡◌, ℕ, List, [], ◌∷◌, ◌++◌, Res
 use Rattle.std.specs.List.{join_with_byte}
 use Rattle.std.proofs.lemmas.Grind.{flat_map-append}
 use Rattle.std.proofs.lemmas.List.{append-nil}
-use Rattle.tgap_model.specs.Texts.{line, lines}
+use Rattle.line_forms.specs.Texts.{line, lines}
 use Rattle.plain_io.specs.Fields.{fields}
 
 -- words with a space between each two are the first one, and the others with a space before each

@@ -5,7 +5,7 @@ use Rattle.std.proofs.lemmas.Str.{IsUtf8-from_is_utf8, is_utf8-from_IsUtf8}
 use Rattle.serde_json.specs.Data.{Data}
 use Rattle.serde_json.specs.Read.{read}
 use Rattle.serde_json.specs.View.{items_of as items_from}
-use Rattle.tgap_model.specs.Json.{tree, list_of}
+use Rattle.line_forms.specs.Json.{tree, list_of}
 
 -- the items of an array that is made of a list
 pub list_of_items : (ds : List Data) → list_of (items_from ds) ≡ ds

@@ -5,8 +5,8 @@ use Rattle.std.specs.Borrow.{Bor}
 use Rattle.std.specs.Option.{is_some}
 use Rattle.std.specs.List.{slice_split, join_with_byte}
 use Rattle.std.proofs.lemmas.List.Splits.{join_with_byte-slice_split}
-use Rattle.tgap_model.specs.Words.{Row}
-use Rattle.tgap_model.specs.Lines.{Lines, whole_line, line_at, next_number, is_over}
+use Rattle.line_forms.specs.Words.{Row}
+use Rattle.line_forms.specs.Lines.{Lines, whole_line, line_at, next_number, is_over}
 use Rattle.plain_io.specs.Rest.{split_rest}
 use Rattle.plain_io.specs.Taking.{rows}
 use Rattle.plain_io.proofs.Words.{same_bytes}

@@ -4,8 +4,8 @@ use Rattle.std.specs.Option.{ok_or}
 use Rattle.std.proofs.lemmas.List.{append-nil}
 use Rattle.tgap_model.specs.declared.failure.Or.{Or}
 use Rattle.tgap_model.specs.declared.failure.Or.TheVariants.{Fault, Memory}
-use Rattle.tgap_model.specs.Words.{◌>>=◌}
-use Rattle.tgap_model.specs.Lines.{◌>>=◌ as ◌or>>=◌}
+use Rattle.line_forms.specs.Words.{◌>>=◌}
+use Rattle.line_forms.specs.Lines.{◌>>=◌ as ◌or>>=◌}
 use Rattle.plain_io.specs.Taking.{Takes, Skips, Reads, Refuses}
 use Rattle.plain_io.specs.Fronts.{with_front, in_front}
 

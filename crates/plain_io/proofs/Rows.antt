@@ -6,7 +6,7 @@ use Rattle.std.proofs.lemmas.List.{append-nil, map-append}
 use Rattle.std.proofs.lemmas.List.Elements.{All-append, All-cons, All-from_recursion}
 use Rattle.std.proofs.lemmas.List.Folds.{flat_map-map}
 use Rattle.std.proofs.lemmas.List.Splits.{slice_split_none, slice_split_at, join_with_byte-slice_split}
-use Rattle.tgap_model.specs.Texts.{line, lines, rows_of}
+use Rattle.line_forms.specs.Texts.{line, lines, rows_of}
 use Rattle.plain_io.proofs.Words.{is_plain, is_plain_word}
 
 -- ---- what is cut is joined again

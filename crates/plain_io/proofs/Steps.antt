@@ -7,9 +7,9 @@ use Rattle.std.proofs.lemmas.Bool.{eqb-true, eq-eqb}
 use Rattle.std.proofs.lemmas.Int.{ints}
 use Rattle.std.proofs.lemmas.Option.{cond_some, option_and_then_some}
 use Rattle.tgap_model.specs.Base.{within}
-use Rattle.tgap_model.specs.Texts.{number_of}
-use Rattle.tgap_model.specs.Words.{Row, ◌>>=◌, after_word, number_at, natural_at, count_at, after_count, ended, read_words}
-use Rattle.tgap_model.specs.Lines.{◌>>=◌ as ◌or>>=◌, Lines, next_number, whole_line, line_at, read_row, read_line}
+use Rattle.line_forms.specs.Texts.{number_of}
+use Rattle.line_forms.specs.Words.{Row, ◌>>=◌, after_word, number_at, natural_at, count_at, after_count, ended, read_words}
+use Rattle.line_forms.specs.Lines.{◌>>=◌ as ◌or>>=◌, Lines, next_number, whole_line, line_at, read_row, read_line}
 use Rattle.plain_io.proofs.Words.{same_bytes, bytes_eq_itself, number_again, number_is}
 
 -- the value of a step that gave one

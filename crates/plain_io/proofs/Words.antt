@@ -12,7 +12,7 @@ use Rattle.std.specs.Int.{w64}
 use Rattle.std.proofs.lemmas.Int.{fits_signed_from_abs}
 use Rattle.plain_io.proofs.Numbers.{within_is, is_within, number_of-signed_decimal, number_of_some}
 use Rattle.tgap_model.specs.Base.{within}
-use Rattle.tgap_model.specs.Texts.{number_of}
+use Rattle.line_forms.specs.Texts.{number_of}
 
 -- ---- bytes
 

@@ -1,6 +1,6 @@
 -- What is read one thing after another: what was read before stands in front of what is still read.
 use Rattle.std.specs.Prelude.{List, ◌++◌, Option, Some, Result, Ok, Err}
-use Rattle.tgap_model.specs.Words.{◌>>=◌}
+use Rattle.line_forms.specs.Words.{◌>>=◌}
 
 -- what was read before, and what is still read
 abbrev pub with_front : {A S : Type 0} → List A → Option (List A × S) → Option (List A × S)

@@ -3,7 +3,7 @@ use Rattle.std.specs.Prelude.{◌≡◌, ℕ, ◌==◌, List, map, Option, Some,
 use Rattle.std.specs.List.{slice_split}
 use Rattle.tgap_model.specs.declared.failure.Or.{Or}
 use Rattle.tgap_model.specs.declared.failure.Or.TheVariants.{Fault, Memory}
-use Rattle.tgap_model.specs.Words.{Row}
+use Rattle.line_forms.specs.Words.{Row}
 
 -- the rows of words of these lines
 abbrev pub rows : List (List ℕ) → List Row

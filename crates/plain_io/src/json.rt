@@ -2,7 +2,7 @@
 
 ghost use Rattle.std.specs.Prelude.{◌≡◌, ℕ, map, option_map, IfOk};
 ghost use Rattle.serde_json.specs.View.{view};
-ghost use Rattle.tgap_model.specs.Json.{tree, items_of, items_at, text_at, whole_of, natural_in};
+ghost use Rattle.line_forms.specs.Json.{tree, items_of, items_at, text_at, whole_of, natural_in};
 
 use serde_json::Value;
 use std::alloc::Global;

@@ -11,7 +11,7 @@ use Rattle.tgap_model.specs.declared.segment.LabelledSegment.{LabelledSegment}
 use Rattle.tgap_model.specs.declared.fault.MapFault.{MapFault}
 use Rattle.tgap_model.specs.declared.fault.MapFault.TheVariants.{Meets}
 use Rattle.tgap_model.specs.Partition.{is_proper, meeting_point, meeting_from}
-use Rattle.tgap_model.specs.Evidence.{IsLesserPair}
+use Rattle.grid_geo.specs.Evidence.{IsLesserPair}
 use Rattle.lemmas.proofs.Sorting.{AllPairs-permutation}
 use Rattle.grid_index.proofs.Ordering.{order_below, order_length}
 use Rattle.planar_apart.specs.declared.meeting.Meeting.{Meeting}

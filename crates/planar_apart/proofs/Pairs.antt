@@ -10,7 +10,7 @@ use Rattle.tgap_model.specs.declared.fault.MapFault.{MapFault}
 use Rattle.tgap_model.specs.declared.fault.MapFault.TheVariants.{Meets}
 use Rattle.tgap_model.specs.Segment.{AreDisjoint}
 use Rattle.tgap_model.specs.Partition.{AreApart, is_proper, shared_ends, meeting_point, first_meeting_of, meeting_from}
-use Rattle.tgap_model.specs.Evidence.{IsLesserPair, IsFirstMeeting}
+use Rattle.grid_geo.specs.Evidence.{IsLesserPair, IsFirstMeeting}
 use Rattle.tgap_model.proofs.Proper.{proper_parts, no_segment}
 use Rattle.grid_geo.proofs.CommonPoint.{common_point_found, common_point_none}
 use Rattle.planar_apart.specs.declared.meeting.Meeting.{Meeting}

@@ -5,7 +5,7 @@
 
 ghost use Rattle.std.specs.Prelude.{◌≡◌, IfOk, Ok, Some, None, option_map, AllPairs};
 ghost use Rattle.tgap_model.specs.Partition.{AreApart, base_segments, meeting_fault};
-ghost use Rattle.tgap_model.specs.Evidence.{IsFirstMeeting};
+ghost use Rattle.grid_geo.specs.Evidence.{IsFirstMeeting};
 ghost use Rattle.planar_apart.specs.Meetings.{meets};
 
 mod boxes;

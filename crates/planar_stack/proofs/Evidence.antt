@@ -11,7 +11,7 @@ use Rattle.tgap_model.specs.declared.segment.LabelledSegment.{LabelledSegment}
 use Rattle.tgap_model.specs.declared.fault.MapFault.{MapFault}
 use Rattle.tgap_model.specs.declared.fault.MapFault.TheVariants.{StackDisagrees}
 use Rattle.tgap_model.specs.Partition.{Sides, stack_fault_from, stack_fault, abscissas, all_but_last}
-use Rattle.tgap_model.specs.Evidence.{faces_down, face_reached, face_above, face_below, IsFirstStackGap}
+use Rattle.grid_geo.specs.Evidence.{faces_down, face_reached, face_above, face_below, IsFirstStackGap}
 use Rattle.tgap_model.proofs.FirstFault.{first_found}
 use Rattle.planar_stack.specs.Sweep.{first_stack_fault}
 use Rattle.planar_stack.proofs.Slabs.{end_abscissas}

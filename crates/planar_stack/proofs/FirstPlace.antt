@@ -6,7 +6,7 @@ use Rattle.std.proofs.lemmas.List.{length-map}
 use Rattle.std.proofs.lemmas.List.Elements.{Contains-push_cases}
 use Rattle.tgap_model.specs.declared.fault.MapFault.TheVariants.{StackDisagrees}
 use Rattle.tgap_model.specs.Partition.{Sides, stack_fault_from}
-use Rattle.tgap_model.specs.Evidence.{face_above, face_below}
+use Rattle.grid_geo.specs.Evidence.{face_above, face_below}
 use Rattle.planar_stack.specs.declared.gap.StackGap.{StackGap}
 use Rattle.planar_stack.specs.Sweep.{disagrees, fault_at, IsCovered, IsFirstOf}
 use Rattle.planar_stack.proofs.Seams.{covered_at, fault_from_place}

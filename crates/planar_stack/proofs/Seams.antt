@@ -7,7 +7,7 @@ use Rattle.std.proofs.lemmas.Bool.Decides.{Decides-eqb}
 use Rattle.tgap_model.specs.declared.fault.MapFault.{MapFault}
 use Rattle.tgap_model.specs.declared.fault.MapFault.TheVariants.{StackDisagrees}
 use Rattle.tgap_model.specs.Partition.{Sides, agree_from, stack_fault_from}
-use Rattle.tgap_model.specs.Evidence.{face_reached, face_below}
+use Rattle.grid_geo.specs.Evidence.{face_reached, face_below}
 use Rattle.planar_stack.specs.Sweep.{IsCovered, none, next}
 
 module _ {A : Type 0} (faces : A → Sides) where

@@ -23,7 +23,7 @@ use Rattle.std.proofs.lemmas.List.Sums.{length-filter, count_by-le-length}
 use Rattle.lemmas.proofs.Members.{Contains-from_filter}
 use Rattle.lemmas.proofs.Ascending.{distinct_by-is_sorted, ascending}
 use Rattle.planar_stack.proofs.Slabs.{BothEnds, ends_from_abscissas, end_abscissas, agree_from_faults, no_faults_from_agree}
-use Rattle.tgap_model.specs.Evidence.{IsFirstStackGap}
+use Rattle.grid_geo.specs.Evidence.{IsFirstStackGap}
 use Rattle.planar_stack.proofs.Evidence.{first_stack_gap}
 use Rattle.planar_stack.proofs.Ends.{ends_from_slanted}
 use Rattle.planar_stack.proofs.Active.{stack_from_active}

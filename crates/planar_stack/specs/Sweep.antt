@@ -11,7 +11,7 @@ use Rattle.tgap_model.specs.declared.fault.MapFault.TheVariants.{StackDisagrees}
 use Rattle.tgap_model.specs.Segment.{Line, IsBetweenColumns, line_after, crosses, is_higher}
 use Rattle.tgap_model.specs.Bounds.{HasNearEnds}
 use Rattle.tgap_model.specs.Partition.{AreApart, Sides, sides, stack, agree_from, stack_fault, first_fault, abscissas, all_but_last}
-use Rattle.tgap_model.specs.Evidence.{face_above, face_below}
+use Rattle.grid_geo.specs.Evidence.{face_above, face_below}
 use Rattle.planar_stack.specs.declared.gap.StackGap.{StackGap}
 use Rattle.planar_stack.specs.declared.events.End.{End}
 

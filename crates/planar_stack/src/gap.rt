@@ -4,7 +4,7 @@ ghost use Rattle.std.specs.Prelude.{◌≡◌, ◌<◌, ◌≤◌, ◌^◌, leng
 ghost use Rattle.std.specs.List.{All};
 ghost use Rattle.std.specs.Option.{option_map};
 ghost use Rattle.tgap_model.specs.Partition.{sides};
-ghost use Rattle.tgap_model.specs.Evidence.{face_above, face_below};
+ghost use Rattle.grid_geo.specs.Evidence.{face_above, face_below};
 ghost use Rattle.planar_stack.specs.Sweep.{disagrees, sides_at, fault_at};
 
 use tgap_model::{LabelledSegment, MapFault};

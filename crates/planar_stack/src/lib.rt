@@ -6,7 +6,7 @@
 ghost use Rattle.std.specs.Prelude.{◌≡◌, AllPairs, IfOk, Ok, Some, None};
 ghost use Rattle.std.specs.Option.{option_map};
 ghost use Rattle.tgap_model.specs.Partition.{AreApart, base_segments, stack_fault_of};
-ghost use Rattle.tgap_model.specs.Evidence.{IsFirstStackGap};
+ghost use Rattle.grid_geo.specs.Evidence.{IsFirstStackGap};
 ghost use Rattle.planar_stack.specs.Sweep.{FacesAgree, disagrees};
 
 mod events;

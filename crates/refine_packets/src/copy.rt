@@ -3,30 +3,7 @@
 ghost use Rattle.std.specs.Prelude.{◌≡◌, IfOk};
 
 use std::alloc::Global;
-use tgap_model::{Edge, List, Memory, Mend, StepRecord};
-
-/// A copy of an edge.
-fn copied_edge(alloc: Global, edge: &Edge) -> Result<Edge, Memory>
-    ensures { IfOk result (λ copy. copy ≡ edge.now) }
-{
-    Ok(Edge {
-        key: edge.key,
-        left: edge.left,
-        right: edge.right,
-        points: List::from(edge.points.as_slice().to_vec(alloc)?),
-    })
-}
-
-/// Copies of edges.
-fn copied_edges(alloc: Global, edges: &[Edge]) -> Result<List<Edge>, Memory>
-    ensures { IfOk result (λ copies. copies ≡ edges.now) }
-{
-    let mut copies = List::with_capacity(alloc, edges.len())?;
-    for edge in edges {
-        copies.push(copied_edge(alloc, edge)?)?;
-    }
-    Ok(copies)
-}
+use tgap_model::{List, Memory, Mend, StepRecord, copied_edges};
 
 /// A copy of a mend.
 fn copied_mend(alloc: Global, mend: &Mend) -> Result<Mend, Memory>

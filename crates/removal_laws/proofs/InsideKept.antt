@@ -10,7 +10,7 @@ use Rattle.tgap_model.specs.declared.slice.Edge.{Edge}
 use Rattle.tgap_model.specs.declared.segment.LabelledSegment.{LabelledSegment}
 use Rattle.tgap_model.specs.Partition.{is_empty, path_segments, edge_segments}
 use Rattle.tgap_model.specs.Merged.{step_number}
-use Rattle.tgap_model.specs.Inside.{borders, crosses_ray, is_inside}
+use Rattle.map_laws.specs.Inside.{borders, crosses_ray, is_inside}
 use Rattle.removal_laws.specs.Trace.{Taken, edges_without, trace_edges, swept_edges, trace_at, edges_before_sweep, edges_after_sweep, step_area}
 use Rattle.removal_laws.specs.TraceLaws.{IsTakenByRule, LeadTo}
 use Rattle.removal_laws.specs.InsideLaws.{is_over, is_in_triangle, IsOutside, ReplacedInside, SweepKeepsInside, StepKeepsInside}

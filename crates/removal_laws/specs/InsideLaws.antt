@@ -7,7 +7,7 @@ use Rattle.tgap_model.specs.declared.geometry.Seg.{Seg}
 use Rattle.tgap_model.specs.declared.slice.Edge.{Edge}
 use Rattle.tgap_model.specs.Segment.{line_through, crosses, is_above}
 use Rattle.tgap_model.specs.Partition.{edge_segments}
-use Rattle.tgap_model.specs.Inside.{is_inside}
+use Rattle.map_laws.specs.Inside.{is_inside}
 use Rattle.tgap_model.specs.Merged.{MergedMap}
 use Rattle.removal_laws.specs.Trace.{Taken, trace_edges, swept_edges, edges_before_sweep, edges_after_sweep, trace_at}
 

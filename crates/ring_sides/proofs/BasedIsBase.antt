@@ -12,11 +12,11 @@ use Rattle.tgap_model.specs.declared.fault.MapFault.{MapFault}
 use Rattle.tgap_model.specs.declared.fault.MapFault.TheVariants.{SameSides}
 use Rattle.tgap_model.specs.declared.limits.TheConstants.{MAX_ARCS, MAX_POINTS, MAX_FACES}
 use Rattle.tgap_model.specs.Base.{BaseMap, is_transform, is_rules, is_arc, borders_face, all_faces_bordered, count_points, is_base}
-use Rattle.tgap_model.specs.Json.{ensured, try_fold}
-use Rattle.tgap_model.specs.Lines.{◌>>=◌ as ◌or>>=◌}
-use Rattle.tgap_model.specs.RulesFile.{is_named_rules}
-use Rattle.tgap_model.specs.Topology.{has_ring}
-use Rattle.tgap_model.specs.Rings.{Taken, polygon_taken, nothing_taken, sided_from, based, is_raw_arc, is_raw_map}
+use Rattle.line_forms.specs.Json.{ensured, try_fold}
+use Rattle.line_forms.specs.Lines.{◌>>=◌ as ◌or>>=◌}
+use Rattle.map_forms.specs.RulesFile.{is_named_rules}
+use Rattle.topology_forms.specs.Topology.{has_ring}
+use Rattle.topology_forms.specs.Rings.{Taken, polygon_taken, nothing_taken, sided_from, based, is_raw_arc, is_raw_map}
 use Rattle.plain_io.proofs.Steps.{bound}
 use Rattle.ring_sides.proofs.TakenSides.{ensured_holds, SideFacts, IsAt, TakenFacts}
 use Rattle.ring_sides.proofs.TakenFaces.{named_facts, polygons_keep, nothing_is_taken}

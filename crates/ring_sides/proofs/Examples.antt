@@ -6,7 +6,7 @@ use Rattle.tgap_model.specs.declared.topology.RawPolygon.{RawPolygon}
 use Rattle.tgap_model.specs.declared.topology.RawMap.{RawMap}
 use Rattle.tgap_model.specs.declared.fault.MapFault.TheVariants.{RingOpen, RingFlat, SideTaken, SameSides}
 use Rattle.tgap_model.specs.Base.{BaseMap}
-use Rattle.tgap_model.specs.Rings.{based, face_taken, ring_taken, side_taken, is_raw_map}
+use Rattle.topology_forms.specs.Rings.{based, face_taken, ring_taken, side_taken, is_raw_map}
 use Rattle.ring_sides.specs.Places.{sides_taken}
 use Rattle.ring_sides.specs.Sides.{HasRingSides}
 use Rattle.ring_sides.specs.RingFaults.{IsRingFault}

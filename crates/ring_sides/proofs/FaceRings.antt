@@ -12,9 +12,9 @@ use Rattle.tgap_model.specs.declared.topology.RawPolygon.{RawPolygon}
 use Rattle.tgap_model.specs.declared.fault.MapFault.{MapFault}
 use Rattle.tgap_model.specs.declared.fault.MapFault.TheVariants.{RingFlat}
 use Rattle.tgap_model.specs.Base.{same_point}
-use Rattle.tgap_model.specs.Lines.{◌>>=◌, next_number}
-use Rattle.tgap_model.specs.Json.{ensured, try_fold}
-use Rattle.tgap_model.specs.Rings.{start_named, end_named, open_from, open_place, closed, is_collapsed, ring_area, Taken, index_taken, ring_taken, holes_taken, class_named, with_face, face_taken, polygon_taken, is_raw_ring}
+use Rattle.line_forms.specs.Lines.{◌>>=◌, next_number}
+use Rattle.line_forms.specs.Json.{ensured, try_fold}
+use Rattle.topology_forms.specs.Rings.{start_named, end_named, open_from, open_place, closed, is_collapsed, ring_area, Taken, index_taken, ring_taken, holes_taken, class_named, with_face, face_taken, polygon_taken, is_raw_ring}
 use Rattle.tgap_model.proofs.Points.{same_point-true, same_point-from}
 use Rattle.ring_sides.specs.Arcs.{index_after}
 use Rattle.ring_sides.specs.FaceRings.{has_exterior, is_face, IsJoined, IsClosed, IsWhole, is_on_left}

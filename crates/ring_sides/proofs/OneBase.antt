@@ -13,7 +13,7 @@ use Rattle.tgap_model.specs.declared.failure.Or.TheVariants.{Fault}
 use Rattle.tgap_model.specs.declared.fault.MapFault.{MapFault}
 use Rattle.tgap_model.specs.declared.fault.MapFault.TheVariants.{RingOpen, RingFlat, SideTaken, SameSides}
 use Rattle.tgap_model.specs.Base.{BaseMap}
-use Rattle.tgap_model.specs.Rings.{based, is_raw_map}
+use Rattle.topology_forms.specs.Rings.{based, is_raw_map}
 use Rattle.plain_io.specs.Taking.{GivesWhole}
 use Rattle.ring_sides.specs.FaceRings.{IsWhole}
 use Rattle.ring_sides.specs.Places.{FaceRing, face_rings, Taking, ring_takes, rings_take, sides_taken, AreApart, AreTakenOnce}

@@ -12,11 +12,11 @@ use Rattle.tgap_model.specs.declared.base.Rules.{Rules}
 use Rattle.tgap_model.specs.declared.fault.MapFault.{MapFault}
 use Rattle.tgap_model.specs.declared.limits.TheConstants.{MAX_CLASSES, MAX_FACES}
 use Rattle.tgap_model.specs.Base.{BaseMap, is_base, is_rules, is_transform, checked}
-use Rattle.tgap_model.specs.Json.{try_fold}
-use Rattle.tgap_model.specs.Lines.{◌>>=◌}
-use Rattle.tgap_model.specs.RulesFile.{is_named_rules}
-use Rattle.tgap_model.specs.Topology.{has_ring}
-use Rattle.tgap_model.specs.Rings.{Taken, is_raw_ring, is_raw_map, nothing_taken, polygon_taken, sided_from, based}
+use Rattle.line_forms.specs.Json.{try_fold}
+use Rattle.line_forms.specs.Lines.{◌>>=◌}
+use Rattle.map_forms.specs.RulesFile.{is_named_rules}
+use Rattle.topology_forms.specs.Topology.{has_ring}
+use Rattle.topology_forms.specs.Rings.{Taken, is_raw_ring, is_raw_map, nothing_taken, polygon_taken, sided_from, based}
 use Rattle.tgap_model.proofs.BaseFacts.{rules_facts}
 use Rattle.ring_sides.specs.Arcs.{AreRawArcs}
 use Rattle.ring_sides.proofs.BasedIsBase.{based_is_base}

@@ -7,8 +7,8 @@ use Rattle.std.proofs.lemmas.Int.{ints}
 use Rattle.std.proofs.lemmas.List.{drop_more, at_drop_more, drop_all}
 use Rattle.tgap_model.specs.declared.geometry.Point.{Point}
 use Rattle.tgap_model.specs.Base.{same_point}
-use Rattle.tgap_model.specs.Topology.{names_arc}
-use Rattle.tgap_model.specs.Rings.{start_named, end_named, shoelace_named, open_from, open_place, is_collapsed, ring_area, is_raw_ring}
+use Rattle.topology_forms.specs.Topology.{names_arc}
+use Rattle.topology_forms.specs.Rings.{start_named, end_named, shoelace_named, open_from, open_place, is_collapsed, ring_area, is_raw_ring}
 use Rattle.ring_sides.specs.Arcs.{are_at, index_after}
 use Rattle.ring_sides.proofs.RawArcs.{ring_names}
 

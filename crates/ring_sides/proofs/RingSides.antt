@@ -14,9 +14,9 @@ use Rattle.tgap_model.specs.declared.failure.Or.TheVariants.{Fault}
 use Rattle.tgap_model.specs.declared.fault.MapFault.{MapFault}
 use Rattle.tgap_model.specs.declared.fault.MapFault.TheVariants.{SameSides}
 use Rattle.tgap_model.specs.Base.{BaseMap}
-use Rattle.tgap_model.specs.Lines.{◌>>=◌}
-use Rattle.tgap_model.specs.Json.{ensured, try_fold}
-use Rattle.tgap_model.specs.Rings.{Taken, polygon_taken, nothing_taken, sided_from, based, is_raw_map}
+use Rattle.line_forms.specs.Lines.{◌>>=◌}
+use Rattle.line_forms.specs.Json.{ensured, try_fold}
+use Rattle.topology_forms.specs.Rings.{Taken, polygon_taken, nothing_taken, sided_from, based, is_raw_map}
 use Rattle.plain_io.specs.Taking.{GivesWhole}
 use Rattle.ring_sides.specs.FaceRings.{faces}
 use Rattle.ring_sides.specs.Places.{face_rings, Taking, sides_taken, Takes}

@@ -6,8 +6,8 @@ use Rattle.lemmas.proofs.Members.{in_head, in_tail, in_cases}
 use Rattle.tgap_model.specs.declared.geometry.Point.{Point}
 use Rattle.tgap_model.specs.declared.topology.RawPolygon.{RawPolygon}
 use Rattle.tgap_model.specs.declared.topology.RawMap.{RawMap}
-use Rattle.tgap_model.specs.Lines.{next_number}
-use Rattle.tgap_model.specs.Rings.{arc_named, points_named, is_collapsed}
+use Rattle.line_forms.specs.Lines.{next_number}
+use Rattle.topology_forms.specs.Rings.{arc_named, points_named, is_collapsed}
 use Rattle.ring_sides.specs.FaceRings.{faces, Counts, IsRingOf, IsWhole, is_left_of}
 use Rattle.ring_sides.specs.Places.{FaceRing, holes_of, rings_of, rings_from, face_rings, Taking, index_takes, ring_takes, sides_taken, Takes}
 use Rattle.ring_sides.specs.Sides.{TakesSide}

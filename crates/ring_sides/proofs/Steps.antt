@@ -6,9 +6,9 @@ use Rattle.std.proofs.lemmas.Simd.{splat_is_map}
 use Rattle.tgap_model.specs.declared.geometry.Point.{Point}
 use Rattle.tgap_model.specs.declared.fault.MapFault.{MapFault}
 use Rattle.tgap_model.specs.declared.fault.MapFault.TheVariants.{RingFlat}
-use Rattle.tgap_model.specs.Lines.{◌>>=◌}
-use Rattle.tgap_model.specs.Json.{ensured, try_fold}
-use Rattle.tgap_model.specs.Rings.{Taken, closed, open_place, ring_area, index_taken, ring_taken, nothing_taken}
+use Rattle.line_forms.specs.Lines.{◌>>=◌}
+use Rattle.line_forms.specs.Json.{ensured, try_fold}
+use Rattle.topology_forms.specs.Rings.{Taken, closed, open_place, ring_area, index_taken, ring_taken, nothing_taken}
 use Rattle.ring_sides.specs.Taking.{ring_side}
 
 -- ---- a fold

@@ -12,11 +12,11 @@ use Rattle.tgap_model.specs.declared.topology.RawPolygon.{RawPolygon}
 use Rattle.tgap_model.specs.declared.fault.MapFault.TheVariants.{RingFlat}
 use Rattle.tgap_model.specs.Base.{is_rules}
 use Rattle.tgap_model.specs.Point.{shoelace}
-use Rattle.tgap_model.specs.Lines.{◌>>=◌ as ◌or>>=◌, next_number}
-use Rattle.tgap_model.specs.Json.{ensured, try_fold}
-use Rattle.tgap_model.specs.RulesFile.{is_named_rules}
-use Rattle.tgap_model.specs.Topology.{has_ring}
-use Rattle.tgap_model.specs.Rings.{points_named, shoelace_named, open_place, closed, is_collapsed, ring_area, Taken, index_taken, ring_taken, holes_taken, class_from, class_named, with_face, face_taken, polygon_taken, nothing_taken}
+use Rattle.line_forms.specs.Lines.{◌>>=◌ as ◌or>>=◌, next_number}
+use Rattle.line_forms.specs.Json.{ensured, try_fold}
+use Rattle.map_forms.specs.RulesFile.{is_named_rules}
+use Rattle.topology_forms.specs.Topology.{has_ring}
+use Rattle.topology_forms.specs.Rings.{points_named, shoelace_named, open_place, closed, is_collapsed, ring_area, Taken, index_taken, ring_taken, holes_taken, class_from, class_named, with_face, face_taken, polygon_taken, nothing_taken}
 use Rattle.plain_io.proofs.Steps.{bound}
 use Rattle.ring_sides.proofs.TakenSides.{ensured_holds, try_fold_keeps, SideFacts, HasSide, TakenFacts, index_keeps_side, index_keeps, index_gives_side}
 

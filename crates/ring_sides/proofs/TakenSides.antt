@@ -5,8 +5,8 @@ use Rattle.std.proofs.lemmas.Bool.{cases_lt, ltb-true, ltb-false, eqb-true}
 use Rattle.std.proofs.lemmas.List.{length-set, get_or_past, get_or-set_same, get_or-set_other}
 use Rattle.tgap_model.specs.declared.geometry.Point.{Point}
 use Rattle.tgap_model.specs.declared.fault.MapFault.TheVariants.{SideTaken}
-use Rattle.tgap_model.specs.Json.{ensured, try_fold}
-use Rattle.tgap_model.specs.Rings.{arc_named, is_reversed, points_named, Taken, side_taken, index_taken}
+use Rattle.line_forms.specs.Json.{ensured, try_fold}
+use Rattle.topology_forms.specs.Rings.{arc_named, is_reversed, points_named, Taken, side_taken, index_taken}
 use Rattle.plain_io.proofs.Steps.{bound}
 
 -- ---- steps that may come to a fault

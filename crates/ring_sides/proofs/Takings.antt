@@ -7,9 +7,9 @@ use Rattle.std.proofs.lemmas.List.Quantifiers.{all_pairs_push}
 use Rattle.tgap_model.specs.declared.geometry.Point.{Point}
 use Rattle.tgap_model.specs.declared.fault.MapFault.{MapFault}
 use Rattle.tgap_model.specs.declared.fault.MapFault.TheVariants.{SideTaken}
-use Rattle.tgap_model.specs.Lines.{◌>>=◌}
-use Rattle.tgap_model.specs.Json.{ensured, try_fold}
-use Rattle.tgap_model.specs.Rings.{arc_named, points_named, Taken, side_taken, index_taken}
+use Rattle.line_forms.specs.Lines.{◌>>=◌}
+use Rattle.line_forms.specs.Json.{ensured, try_fold}
+use Rattle.topology_forms.specs.Rings.{arc_named, points_named, Taken, side_taken, index_taken}
 use Rattle.ring_sides.specs.FaceRings.{is_on_left, is_left_of}
 use Rattle.ring_sides.specs.Places.{FaceRing, Taking, index_takes, Takes, AreApart, AreTakenOnce}
 use Rattle.ring_sides.proofs.TakenSides.{after_set, named_below}

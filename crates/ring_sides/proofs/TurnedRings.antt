@@ -4,7 +4,7 @@ use Rattle.std.proofs.Math.Bool.{not-not}
 use Rattle.std.proofs.lemmas.Int.{ints}
 use Rattle.tgap_model.specs.declared.geometry.Point.{Point}
 use Rattle.tgap_model.specs.Point.{shoelace}
-use Rattle.tgap_model.specs.Rings.{points_named, shoelace_named, ring_area}
+use Rattle.topology_forms.specs.Rings.{points_named, shoelace_named, ring_area}
 use Rattle.ring_sides.specs.FaceRings.{is_on_left, is_left_of}
 use Rattle.ring_sides.specs.Places.{Taking}
 use Rattle.ring_sides.specs.Turned.{turned_index, turned, TurnedRingsTakeTheSame}

@@ -5,7 +5,7 @@ use Rattle.tgap_model.specs.declared.geometry.Point.{Point}
 use Rattle.tgap_model.specs.declared.limits.TheConstants.{MAX_ARCS, MAX_POINTS}
 use Rattle.tgap_model.specs.Base.{same_point}
 use Rattle.tgap_model.specs.Point.{shoelace}
-use Rattle.tgap_model.specs.Rings.{is_raw_arc, points_named}
+use Rattle.topology_forms.specs.Rings.{is_raw_arc, points_named}
 
 -- arcs that were read: each has its form, and they and their points are within the limits
 pub record AreRawArcs (arcs : List (List Point)) : Type 0 where

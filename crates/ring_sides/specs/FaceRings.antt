@@ -3,7 +3,7 @@ use Rattle.std.specs.Prelude.{◌≡◌, ◌≢◌, ◌≤◌, ◌<◌, ℕ, ◌
 use Rattle.tgap_model.specs.declared.geometry.Point.{Point}
 use Rattle.tgap_model.specs.declared.topology.RawPolygon.{RawPolygon}
 use Rattle.tgap_model.specs.declared.topology.RawMap.{RawMap}
-use Rattle.tgap_model.specs.Rings.{is_reversed, start_named, end_named, is_collapsed, ring_area}
+use Rattle.topology_forms.specs.Rings.{is_reversed, start_named, end_named, is_collapsed, ring_area}
 use Rattle.ring_sides.specs.Arcs.{index_after}
 
 -- a polygon is a face where it has an exterior ring, its first one, that is not collapsed

@@ -3,8 +3,8 @@ use Rattle.std.specs.Prelude.{◌≡◌, ℕ, ◌+◌, nat_lt, ℤ, Bool, true, 
 use Rattle.tgap_model.specs.declared.geometry.Point.{Point}
 use Rattle.tgap_model.specs.declared.topology.RawPolygon.{RawPolygon}
 use Rattle.tgap_model.specs.declared.topology.RawMap.{RawMap}
-use Rattle.tgap_model.specs.Lines.{next_number}
-use Rattle.tgap_model.specs.Rings.{arc_named, points_named, is_collapsed}
+use Rattle.line_forms.specs.Lines.{next_number}
+use Rattle.topology_forms.specs.Rings.{arc_named, points_named, is_collapsed}
 use Rattle.ring_sides.specs.FaceRings.{faces, is_left_of}
 
 -- ---- rings

@@ -4,7 +4,7 @@ use Rattle.tgap_model.specs.declared.geometry.Point.{Point}
 use Rattle.tgap_model.specs.declared.topology.RawMap.{RawMap}
 use Rattle.tgap_model.specs.declared.fault.MapFault.{MapFault}
 use Rattle.tgap_model.specs.declared.fault.MapFault.TheVariants.{RingOpen, RingFlat, SideTaken, SameSides}
-use Rattle.tgap_model.specs.Rings.{ring_area}
+use Rattle.topology_forms.specs.Rings.{ring_area}
 use Rattle.ring_sides.specs.FaceRings.{IsJoined, IsClosed, IsWhole}
 use Rattle.ring_sides.specs.Places.{FaceRing, face_rings, Taking, ring_takes, rings_take, sides_taken, Takes, AreTakenOnce}
 use Rattle.ring_sides.specs.Sides.{TakesSide}

@@ -5,7 +5,7 @@ use Rattle.tgap_model.specs.declared.base.BaseArc.{BaseArc}
 use Rattle.tgap_model.specs.declared.topology.NamedRules.{NamedRules}
 use Rattle.tgap_model.specs.declared.topology.RawMap.{RawMap}
 use Rattle.tgap_model.specs.Base.{BaseMap}
-use Rattle.tgap_model.specs.Rings.{arc_named, points_named, class_named}
+use Rattle.topology_forms.specs.Rings.{arc_named, points_named, class_named}
 use Rattle.ring_sides.specs.FaceRings.{faces, IsRingOf, IsWhole, is_left_of}
 use Rattle.ring_sides.specs.Places.{sides_taken, AreTakenOnce}
 

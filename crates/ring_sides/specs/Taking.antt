@@ -5,9 +5,9 @@ use Rattle.tgap_model.specs.declared.geometry.Point.{Point}
 use Rattle.tgap_model.specs.declared.fault.MapFault.{MapFault}
 use Rattle.tgap_model.specs.declared.fault.MapFault.TheVariants.{RingFlat, SideTaken}
 use Rattle.tgap_model.specs.declared.limits.TheConstants.{MAX_ARCS}
-use Rattle.tgap_model.specs.Lines.{◌>>=◌, next_number}
-use Rattle.tgap_model.specs.Json.{ensured}
-use Rattle.tgap_model.specs.Rings.{Taken, closed, open_place, is_collapsed, ring_area, ring_taken, holes_taken}
+use Rattle.line_forms.specs.Lines.{◌>>=◌, next_number}
+use Rattle.line_forms.specs.Json.{ensured}
+use Rattle.topology_forms.specs.Rings.{Taken, closed, open_place, is_collapsed, ring_area, ring_taken, holes_taken}
 use Rattle.ring_sides.specs.declared.side.RingKind.{RingKind}
 use Rattle.ring_sides.specs.declared.side.RingKind.TheVariants.{Exterior, Hole}
 use Rattle.ring_sides.specs.declared.side.Side.{Side}

@@ -1,7 +1,7 @@
 -- A ring that is turned round.
 use Rattle.std.specs.Prelude.{◌≡◌, ◌≢◌, ℤ, pos, negsuc, List, [], ◌∷◌, ◌++◌}
 use Rattle.tgap_model.specs.declared.geometry.Point.{Point}
-use Rattle.tgap_model.specs.Rings.{ring_area}
+use Rattle.topology_forms.specs.Rings.{ring_area}
 use Rattle.ring_sides.specs.Places.{FaceRing, index_takes}
 
 -- the same arc in the other direction, and a ring the other way round

@@ -5,8 +5,8 @@ ghost use Rattle.std.specs.List.{list_all};
 ghost use Rattle.tgap_model.specs.Base.{same_point};
 ghost use Rattle.tgap_model.specs.Bounds.{max_arc_area};
 ghost use Rattle.tgap_model.specs.Point.{shoelace};
-ghost use Rattle.tgap_model.specs.Topology.{names_arc};
-ghost use Rattle.tgap_model.specs.Rings.{arc_named, is_reversed, points_named, start_named, end_named, shoelace_named, is_raw_arc, is_raw_ring, open_place, is_collapsed, ring_area};
+ghost use Rattle.topology_forms.specs.Topology.{names_arc};
+ghost use Rattle.topology_forms.specs.Rings.{arc_named, is_reversed, points_named, start_named, end_named, shoelace_named, is_raw_arc, is_raw_ring, open_place, is_collapsed, ring_area};
 ghost use Rattle.ring_sides.specs.Arcs.{AreRawArcs, are_at, index_after};
 
 use crate::measure::shoelace_sums;

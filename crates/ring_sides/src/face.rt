@@ -3,10 +3,10 @@
 ghost use Rattle.std.specs.Prelude.{◌≡◌, ◌≤◌, ◌<◌, ◌+◌, count_by, length, IsTrue, IfOk, OnOk, if◌then◌else◌};
 ghost use Rattle.std.specs.List.{list_all};
 ghost use Rattle.tgap_model.specs.declared.limits.TheConstants.{MAX_ARCS, MAX_CLASSES, MAX_FACES};
-ghost use Rattle.tgap_model.specs.Json.{try_fold};
-ghost use Rattle.tgap_model.specs.RulesFile.{is_named_rules};
-ghost use Rattle.tgap_model.specs.Topology.{has_ring};
-ghost use Rattle.tgap_model.specs.Rings.{is_raw_ring, nothing_taken, holes_taken, class_from, class_named, polygon_taken};
+ghost use Rattle.line_forms.specs.Json.{try_fold};
+ghost use Rattle.map_forms.specs.RulesFile.{is_named_rules};
+ghost use Rattle.topology_forms.specs.Topology.{has_ring};
+ghost use Rattle.topology_forms.specs.Rings.{is_raw_ring, nothing_taken, holes_taken, class_from, class_named, polygon_taken};
 ghost use Rattle.plain_io.specs.Taking.{GivesWhole, LeavesWhole};
 ghost use Rattle.ring_sides.specs.Taking.{Leaves, HasSides, KeepsForm, hole_taken, rings_taken};
 
@@ -100,7 +100,7 @@ fn take_rings(
 }
 
 /// Takes the arcs of a polygon. It is a face, unless it has no ring or its exterior ring is collapsed.
-#[tactic(auto, unfolding(tgap_model::specs::Rings::face_taken))]
+#[tactic(auto, unfolding(topology_forms::specs::Rings::face_taken))]
 fn take_polygon(
     taken: &mut Taken,
     arcs: &Arcs,

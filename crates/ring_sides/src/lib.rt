@@ -6,8 +6,8 @@ ghost use Rattle.std.specs.Prelude.{◌≡◌, Err, IfOk, IsTrue};
 ghost use Rattle.tgap_model.specs.declared.failure.Or.TheVariants.{Fault};
 ghost use Rattle.tgap_model.specs.declared.fault.MapFault.{MapFault};
 ghost use Rattle.tgap_model.specs.Base.{BaseMap, is_transform};
-ghost use Rattle.tgap_model.specs.RulesFile.{is_named_rules};
-ghost use Rattle.tgap_model.specs.Rings.{is_raw_map, based};
+ghost use Rattle.map_forms.specs.RulesFile.{is_named_rules};
+ghost use Rattle.topology_forms.specs.Rings.{is_raw_map, based};
 ghost use Rattle.plain_io.specs.Taking.{GivesWhole};
 ghost use Rattle.ring_sides.specs.Sides.{HasRingSides};
 ghost use Rattle.ring_sides.specs.RingFaults.{IsRingFault};
@@ -22,9 +22,9 @@ mod turned;
 
 use arcs::Arcs;
 use face::take_polygons;
-use sided::{copied_rules, sided_arcs};
+use sided::sided_arcs;
 use std::alloc::Global;
-use tgap_model::{Base, MapFault, NamedRules, Or, RawMap, Transform};
+use tgap_model::{Base, MapFault, NamedRules, Or, RawMap, Transform, copied_rules};
 pub use turned::turned_rings_take_the_same;
 
 /// The same transform. Its numbers are read, so that it is known of each that it has 32 bits.
@@ -58,7 +58,7 @@ fn read_transform(transform: Transform) -> Transform
 ///
 /// Each point and each index is read a fixed number of times, however often an arc is named. The name of a face is
 /// compared with those of the classes. It takes memory for the base map and for three numbers an arc.
-#[tactic(auto, unfolding(tgap_model::specs::Rings::based))]
+#[tactic(auto, unfolding(topology_forms::specs::Rings::based))]
 pub fn to_base(alloc: Global, raw: &RawMap, named: &NamedRules) -> Result<Base, Or<MapFault>>
     requires raw { IsTrue (is_raw_map raw.now) }
     requires named { IsTrue (is_named_rules named.now) }

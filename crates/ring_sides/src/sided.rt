@@ -1,39 +1,14 @@
 //! The parts of a base map: the arcs with their faces, and the rules.
 
-ghost use Rattle.std.specs.Prelude.{◌≡◌, ◌≤◌, length, IfOk};
+ghost use Rattle.std.specs.Prelude.{◌≡◌, ◌≤◌, length};
 ghost use Rattle.tgap_model.specs.declared.limits.TheConstants.{MAX_ARCS};
-ghost use Rattle.tgap_model.specs.Rings.{sided_from};
+ghost use Rattle.topology_forms.specs.Rings.{sided_from};
 ghost use Rattle.plain_io.specs.Taking.{GivesWhole};
 ghost use Rattle.ring_sides.specs.Taking.{HasSides};
 
 use crate::taken::Taken;
 use std::alloc::Global;
-use tgap_model::{BaseArc, List, MapFault, Memory, Or, Point, Rules};
-
-/// A copy of the points.
-fn copied_points(alloc: Global, points: &[Point]) -> Result<List<Point>, Memory>
-    ensures { IfOk result (λ copy. copy ≡ points.now) }
-{
-    Ok(List::from(Vec::from_slice(alloc, points)?))
-}
-
-/// A copy of the numbers.
-fn copied_numbers(alloc: Global, numbers: &[u32]) -> Result<List<u32>, Memory>
-    ensures { IfOk result (λ copy. copy ≡ numbers.now) }
-{
-    Ok(List::from(Vec::from_slice(alloc, numbers)?))
-}
-
-/// A copy of the rules.
-pub fn copied_rules(alloc: Global, rules: &Rules) -> Result<Rules, Memory>
-    ensures { IfOk result (λ copy. copy ≡ rules.now) }
-{
-    Ok(Rules {
-        ratio: rules.ratio,
-        weights: copied_numbers(alloc, rules.weights.as_slice())?,
-        compat: copied_numbers(alloc, rules.compat.as_slice())?,
-    })
-}
+use tgap_model::{BaseArc, List, MapFault, Or, Point, copied_points};
 
 /// The arcs of which at least one side was taken, with their faces. No face may have both sides of an arc.
 pub fn sided_arcs(

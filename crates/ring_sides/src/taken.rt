@@ -2,8 +2,8 @@
 
 ghost use Rattle.std.specs.Prelude.{◌≡◌, ◌<◌, length, slice_index, IfOk, OnOk, IsTrue};
 ghost use Rattle.tgap_model.specs.declared.limits.TheConstants.{MAX_ARCS};
-ghost use Rattle.tgap_model.specs.Topology.{names_arc};
-ghost use Rattle.tgap_model.specs.Rings.{is_raw_ring, nothing_taken, side_taken, index_taken, ring_taken, with_face};
+ghost use Rattle.topology_forms.specs.Topology.{names_arc};
+ghost use Rattle.topology_forms.specs.Rings.{is_raw_ring, nothing_taken, side_taken, index_taken, ring_taken, with_face};
 ghost use Rattle.ring_sides.specs.Taking.{Leaves, GivesSide, HasSides, KeepsForm, is_exterior, is_left, place_taken, ring_side};
 
 use crate::arcs::{Arcs, arc_named, is_reversed};
@@ -22,7 +22,7 @@ pub struct Taken {
 }
 
 impl Model for Taken {
-    ghost use Rattle.tgap_model.specs.Rings.{Taken as TakenSides};
+    ghost use Rattle.topology_forms.specs.Rings.{Taken as TakenSides};
 
     ghost Value = { TakenSides };
 
@@ -84,7 +84,7 @@ impl Taken {
     }
 
     /// Takes a side of an arc for a face, where it is free.
-    #[tactic(auto, unfolding(tgap_model::specs::Rings::side_taken))]
+    #[tactic(auto, unfolding(topology_forms::specs::Rings::side_taken))]
     fn take_side(&mut self, side: Side, arc: usize, face: u32) -> Result<(), MapFault>
         requires left { arc < length self.old.left }
         requires right { arc < length self.old.right }
@@ -117,7 +117,7 @@ impl Taken {
     }
 
     /// Takes the arcs of a ring, which has this number, for a face.
-    #[tactic(auto, unfolding(tgap_model::specs::Rings::ring_taken))]
+    #[tactic(auto, unfolding(topology_forms::specs::Rings::ring_taken))]
     pub fn take_ring(
         &mut self,
         arcs: &Arcs,

@@ -7,7 +7,7 @@ use Rattle.tgap_model.specs.declared.failure.Or.TheVariants.{Fault, Memory}
 use Rattle.tgap_model.specs.declared.fault.MapFault.{MapFault}
 use Rattle.tgap_model.specs.Base.{BaseMap}
 use Rattle.tgap_model.specs.Partition.{IsPartition, base_segments, map_fault}
-use Rattle.tgap_model.specs.Evidence.{IsShownBy}
+use Rattle.grid_geo.specs.Evidence.{IsShownBy}
 use Rattle.plain_io.specs.declared.files.Which.{Which}
 use Rattle.plain_io.specs.Loads.{Told}
 use Rattle.std.proofs.Common.{ℕ, List}

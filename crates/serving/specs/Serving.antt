@@ -2,7 +2,7 @@
 use Rattle.std.specs.Prelude.{◌≡◌, ◌≢◌, ◌⊎◌, ◌↔◌, ℕ, ◌+◌, ◌<◌, ◌≤◌, ◌++◌, pos, unsigned_abs, Bool, true, List, [], ◌∷◌, length, All, codes, decimal, bytes_eq, Option, Some, None, option_map, option_and_then, if◌then◌else◌}
 use Rattle.tgap_model.specs.Base.{BaseMap}
 use Rattle.tgap_model.specs.Partition.{IsPartition, base_segments}
-use Rattle.tgap_model.specs.Texts.{line, number_of}
+use Rattle.line_forms.specs.Texts.{line, number_of}
 use Rattle.plain_io.specs.declared.files.Which.{Which}
 use Rattle.plain_io.specs.declared.link.Link as OfLink
 use Rattle.plain_io.specs.Doors.{Connections}

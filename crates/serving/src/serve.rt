@@ -25,7 +25,7 @@ use std::marker::Brand;
 use std::sync::{Arc, Wait};
 use std::thread::Threads;
 use tgap_build::{Built, build};
-use tgap_model::{Base, Memory};
+use tgap_model::{Base, Memory, Text};
 use version_store::{Fresh, start};
 
 /// What is to be served, and how.
@@ -177,7 +177,15 @@ fn store_of_built(
     ensures places { IfOk result (λ store. fresh_places store ≡ workers) }
     ensures limit { IfOk result (λ store. fresh_limit store ≡ versions) }
     ensures first { IfOk result (λ store. (fresh_first store).built ≡ built) }
+    ensures batch { IfOk result (λ store. (fresh_first store).batch ≡ []) }
 {
-    let first = Arc::new(alloc, Version { number: 0, built })?;
+    let first = Arc::new(
+        alloc,
+        Version {
+            number: 0,
+            built,
+            batch: Text::new(alloc),
+        },
+    )?;
     start(alloc, first, versions, workers)
 }

@@ -5,8 +5,8 @@ use Rattle.std.specs.Option.{option_and_then}
 use Rattle.tgap_model.specs.declared.fault.MapFault.{MapFault}
 use Rattle.tgap_model.specs.Base.{BaseMap}
 use Rattle.tgap_model.specs.Partition.{map_fault}
-use Rattle.tgap_model.specs.Edits.{edited}
-use Rattle.tgap_model.specs.Texts.{line, fault_text}
+use Rattle.edit_laws.specs.Edits.{edited}
+use Rattle.line_forms.specs.Texts.{line, fault_text}
 use Rattle.http_face.specs.declared.request.Route.TheVariants.{Edit as EditRoute}
 use Rattle.session.specs.declared.row.Row.TheVariants.{Refused, Published, Stale, Full}
 use Rattle.version_store.specs.declared.pin.Pin.{Pin}

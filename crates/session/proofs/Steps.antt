@@ -10,8 +10,8 @@ use Rattle.tgap_model.specs.Base.{BaseMap}
 use Rattle.tgap_model.specs.History.{history_of}
 use Rattle.tgap_model.specs.Merged.{merged}
 use Rattle.tgap_model.specs.Records.{packet_of}
-use Rattle.tgap_model.specs.SliceTexts.{packet_text}
-use Rattle.tgap_model.specs.Texts.{step_too_high_text}
+use Rattle.wire_text.specs.SliceTexts.{packet_text}
+use Rattle.line_forms.specs.Texts.{step_too_high_text}
 use Rattle.session.specs.Answers.{plain, said, not_coarser_words, at_step, packet_answer}
 
 nat_lt_no : (n k : ℕ) → k ≤ n → nat_lt n k ≡ false

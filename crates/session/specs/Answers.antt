@@ -7,9 +7,9 @@ use Rattle.tgap_model.specs.History.{history_of}
 use Rattle.tgap_model.specs.Merged.{merged}
 use Rattle.tgap_model.specs.Slice.{slice, window_of}
 use Rattle.tgap_model.specs.Records.{packet_of}
-use Rattle.tgap_model.specs.Texts.{line, step_too_high_text, fault_text}
-use Rattle.tgap_model.specs.SliceTexts.{slice_text, window_text, packet_text}
-use Rattle.tgap_model.specs.Edits.{edited}
+use Rattle.line_forms.specs.Texts.{line, step_too_high_text, fault_text}
+use Rattle.wire_text.specs.SliceTexts.{slice_text, window_text, packet_text}
+use Rattle.edit_laws.specs.Edits.{edited}
 use Rattle.http_face.specs.declared.request.Route.{Route}
 use Rattle.http_face.specs.declared.request.Route.TheVariants as route
 use Rattle.http_face.specs.Replies.{is_status}

@@ -4,7 +4,7 @@ use Rattle.std.specs.Prelude.{◌≡◌, ℕ, suc, ◌+◌, ◌≤◌, ◌<◌, 
 use Rattle.std.specs.Option.{option_and_then}
 use Rattle.tgap_model.specs.Base.{BaseMap}
 use Rattle.tgap_model.specs.Partition.{map_fault}
-use Rattle.tgap_model.specs.Edits.{edited}
+use Rattle.edit_laws.specs.Edits.{edited}
 use Rattle.http_face.specs.declared.request.Route.TheVariants.{Pin as PinRoute, PinSeen as PinSeenRoute, Edit as EditRoute}
 use Rattle.http_face.specs.Replies.{reply_text}
 use Rattle.session.specs.declared.row.Row.{Row}

@@ -4,7 +4,7 @@ use Rattle.tgap_model.specs.declared.failure.Memory.{Memory}
 use Rattle.plain_io.specs.Faults.{Rose}
 use Rattle.session.specs.declared.row.Row.{Row}
 use Rattle.session.specs.declared.row.Row.TheVariants.{Behind, Published, NoMemory, Stale as StaleRow, Full as FullRow}
-use Rattle.tgap_model.specs.Texts.{line}
+use Rattle.line_forms.specs.Texts.{line}
 use Rattle.version_store.specs.declared.press.fail.PublishFail.{PublishFail}
 use Rattle.version_store.specs.declared.press.fail.PublishFail.TheVariants as fail
 use Rattle.session.specs.Answers.{plain, numbered}

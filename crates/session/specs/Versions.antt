@@ -2,7 +2,7 @@
 use Rattle.std.specs.Prelude.{◌≡◌, ℕ, ◌<◌, ◌≤◌, List, ◌++◌, map, Some, slice_get, slice_index}
 use Rattle.std.specs.Arc.{arc_value}
 use Rattle.tgap_model.specs.Base.{BaseMap}
-use Rattle.tgap_model.specs.declared.machine.Holds as Held
+use Rattle.tgap_model.specs.declared.holds.Holds as Held
 use Rattle.version_store.specs.declared.pin.Pin.{Pin}
 use Rattle.version_store.specs.declared.name.StoreName as Named
 use Rattle.version_store.specs.declared.seat.SeatOf.{SeatOf}

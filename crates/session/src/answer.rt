@@ -1,7 +1,7 @@
 //! What is answered from a version of a map.
 
 ghost use Rattle.std.specs.Prelude.{◌≡◌, ◌∷◌, [], IfOk};
-ghost use Rattle.tgap_model.specs.Texts.{line};
+ghost use Rattle.line_forms.specs.Texts.{line};
 ghost use Rattle.http_face.specs.declared.head.TheConstants.{CONTENT_TOO_LARGE};
 ghost use Rattle.session.specs.Answers.{IsAnswer, plain, numbered, fault_answer};
 ghost use Rattle.session.specs.Outcomes.{sent};

@@ -2,8 +2,8 @@
 
 ghost use Rattle.std.specs.Prelude.{◌≡◌, ◌<◌, ◌+◌, ℕ, List, IfOk, OnErr, Ok, None};
 ghost use Rattle.std.specs.Arc.{arc_value};
-ghost use Rattle.tgap_model.specs.Texts.{line};
-ghost use Rattle.tgap_model.specs.Edits.{edited};
+ghost use Rattle.line_forms.specs.Texts.{line};
+ghost use Rattle.edit_laws.specs.Edits.{edited};
 ghost use Rattle.tgap_model.specs.Partition.{map_fault};
 ghost use Rattle.http_face.specs.declared.request.Route.TheVariants.{Edit as EditRoute};
 ghost use Rattle.session.specs.Answers.{IsAnswer, plain, edit_fault_words};
@@ -12,7 +12,7 @@ ghost use Rattle.session.specs.Items.{Route as RouteAsked};
 ghost use Rattle.session.specs.Versions.{Continues, IsPin};
 ghost use Rattle.session.specs.Turns.{IsTurned, CountsPublished, CountsTold, IsCommitRefused};
 ghost use Rattle.session.specs.declared.row.Row.TheVariants.{Refused as RowRefused};
-ghost use Rattle.tgap_model.specs.Texts.{fault_text};
+ghost use Rattle.line_forms.specs.Texts.{fault_text};
 
 use crate::answer::{numbered_line, plain, sent};
 use crate::row::Row;

@@ -2,11 +2,11 @@
 
 ghost use Rattle.std.specs.Prelude.{◌≡◌, ◌≤◌, ◌≤ℤ◌, ◌++◌, ◌∷◌, [], Some, IfOk, OnOk, decimal, codes, length};
 ghost use Rattle.tgap_model.specs.Base.{count_points};
-ghost use Rattle.tgap_model.specs.Texts.{line};
+ghost use Rattle.line_forms.specs.Texts.{line};
 ghost use Rattle.tgap_model.specs.Slice.{slice, window_of};
 ghost use Rattle.tgap_model.specs.Merged.{merged};
 ghost use Rattle.tgap_model.specs.Records.{packet_of};
-ghost use Rattle.tgap_model.specs.SliceTexts.{slice_text, window_text, packet_text};
+ghost use Rattle.wire_text.specs.SliceTexts.{slice_text, window_text, packet_text};
 ghost use Rattle.tgap_model.specs.declared.limits.TheConstants.{MAX_POINTS};
 ghost use Rattle.plain_io.specs.Fields.{fields};
 ghost use Rattle.session.specs.Answers.{IsAnswer, info_words, not_coarser_words, route_answer, packet_answer, window_answer, at_step};

@@ -5,7 +5,7 @@ use Rattle.tgap_model.specs.declared.geometry.Fraction.{Fraction}
 use Rattle.tgap_model.specs.Base.{is_transform, is_rules, is_arc, is_base}
 use Rattle.tgap_model.specs.Segment.{any_common, common_point, turns_before, is_higher, is_above}
 use Rattle.tgap_model.specs.Partition.{base_segments, edge_segments, arc_fault, map_fault, IsPartition}
-use Rattle.tgap_model.specs.Inside.{is_inside}
+use Rattle.map_laws.specs.Inside.{is_inside}
 use Rattle.tgap_model.specs.History.{is_between, next_step, history_of}
 use Rattle.tgap_model.specs.Merged.{merged, label_at, labelled_at}
 use Rattle.tgap_model.specs.Chains.{chains_at}

@@ -6,7 +6,7 @@ use Rattle.lemmas.proofs.Signs.{Decides-int_lt, int_lt-false}
 use Rattle.tgap_model.specs.declared.geometry.Fraction.{Fraction}
 use Rattle.tgap_model.specs.declared.geometry.Seg.{Seg}
 use Rattle.tgap_model.specs.Segment.{Line, line_through, passes, crosses, goes_right, rightward, height, run, is_above}
-use Rattle.tgap_model.specs.Inside.{borders}
+use Rattle.map_laws.specs.Inside.{borders}
 use Rattle.slice_laws.proofs.Paths.{flip}
 
 either_order : (a b : Bool) → (a || b) ≡ (b || a)

@@ -5,7 +5,7 @@ use Rattle.tgap_model.specs.declared.base.Rules.{Rules}
 use Rattle.tgap_model.specs.declared.merge.MergeStep.{MergeStep}
 use Rattle.tgap_model.specs.declared.merge.LabelledArc.{LabelledArc}
 use Rattle.tgap_model.specs.Base.{BaseMap}
-use Rattle.tgap_model.specs.History.{relabel, relabel_arc, label_after, classes_after, labelled, loses_before, wins_before, first_from, first_by, is_shared, mergeable, neighbours_of, step_against, next_step, steps_from, history_of}
+use Rattle.tgap_model.specs.History.{relabel, relabel_arc, label_after, classes_after, labelled, loses_before, wins_before, permits, permitting, permitted_by, first_from, first_by, is_shared, mergeable, neighbours_of, step_against, next_step, steps_from, history_of}
 use Rattle.tgap_model.specs.Merged.{merged, label_at}
 
 -- each member is a face and not the outside
@@ -34,27 +34,48 @@ shared_faces a h =
     let c = and_parts (not (a.left == 0)) (not (a.right == 0)) b.0 in
     (eqb-false _ _ (not-true _ c.0), eqb-false _ _ (not-true _ c.1))
 
-mergeable_faces : (arcs : List LabelledArc) → AreFaces (mergeable arcs)
-mergeable_faces [] = tt
-mergeable_faces (a ∷ arcs) =
-    faces_append (if is_shared a then a.left ∷ a.right ∷ [] else []) (mergeable arcs) (by (is_shared a) refl) (mergeable_faces arcs)
+-- the face at a side, where it has a permitted neighbour or is one
+permitting_face : (rules : Rules) (classes : List ℕ) (f g : ℕ) → f ≢ 0 → AreFaces (permitting rules classes f g)
+permitting_face rules classes f g n = by (permits rules classes f g)
   where
-    by : (b : Bool) → is_shared a ≡ b → AreFaces (if b then a.left ∷ a.right ∷ [] else [])
-    by true e = let f = shared_faces a e in (f.0, (f.1, tt))
-    by false e = tt
+    by : (b : Bool) → AreFaces (if b then f ∷ [] else [])
+    by true = (n, tt)
+    by false = tt
 
-neighbour_faces : (arcs : List LabelledArc) (f : ℕ) → AreFaces (neighbours_of arcs f)
-neighbour_faces [] f = tt
-neighbour_faces (a ∷ arcs) f =
-    faces_append (if is_shared a && (a.left == f) then a.right ∷ [] else (if is_shared a && (a.right == f) then a.left ∷ [] else []))
-    (neighbours_of arcs f)
-    (by (is_shared a) refl (a.left == f) (a.right == f)) (neighbour_faces arcs f)
+permitted_face : (rules : Rules) (classes : List ℕ) (f g : ℕ) → g ≢ 0 → AreFaces (permitted_by rules classes f g)
+permitted_face rules classes f g n = by (permits rules classes f g)
   where
-    by : (b : Bool) → is_shared a ≡ b → (l r : Bool) → AreFaces (if b && l then a.right ∷ [] else (if b && r then a.left ∷ [] else []))
-    by true e true r = ((shared_faces a e).1, tt)
-    by true e false true = ((shared_faces a e).0, tt)
-    by true e false false = tt
-    by false e l r = tt
+    by : (b : Bool) → AreFaces (if b then g ∷ [] else [])
+    by true = (n, tt)
+    by false = tt
+
+module _ (rules : Rules) (classes : List ℕ) where
+  mergeable_faces : (arcs : List LabelledArc) → AreFaces (mergeable rules classes arcs)
+  mergeable_faces [] = tt
+  mergeable_faces (a ∷ arcs) =
+      faces_append (if is_shared a then permitting rules classes a.left a.right ++ permitting rules classes a.right a.left else []) (mergeable rules classes arcs)
+      (by (is_shared a) refl) (mergeable_faces arcs)
+    where
+      by : (b : Bool) → is_shared a ≡ b → AreFaces (if b then permitting rules classes a.left a.right ++ permitting rules classes a.right a.left else [])
+      by true e =
+          let f = shared_faces a e in
+          faces_append (permitting rules classes a.left a.right) (permitting rules classes a.right a.left)
+          (permitting_face rules classes a.left a.right f.0) (permitting_face rules classes a.right a.left f.1)
+      by false e = tt
+
+  neighbour_faces : (arcs : List LabelledArc) (f : ℕ) → AreFaces (neighbours_of rules classes arcs f)
+  neighbour_faces [] f = tt
+  neighbour_faces (a ∷ arcs) f =
+      faces_append (if is_shared a && (a.left == f) then permitted_by rules classes f a.right else (if is_shared a && (a.right == f) then permitted_by rules classes f a.left else []))
+      (neighbours_of rules classes arcs f)
+      (by (is_shared a) refl (a.left == f) (a.right == f)) (neighbour_faces arcs f)
+    where
+      by : (b : Bool) → is_shared a ≡ b → (l r : Bool)
+          → AreFaces (if b && l then permitted_by rules classes f a.right else (if b && r then permitted_by rules classes f a.left else []))
+      by true e true r = permitted_face rules classes f a.right (shared_faces a e).1
+      by true e false true = permitted_face rules classes f a.left (shared_faces a e).0
+      by true e false false = tt
+      by false e l r = tt
 
 -- the first of a list of faces is one
 first_from_face : (before : ℕ → ℕ → Bool) (best : ℕ) (fs : List ℕ) → best ≢ 0 → AreFaces fs → first_from before best fs ≢ 0
@@ -75,25 +96,25 @@ first_by_face before (g ∷ fs) f h e =
 
 against_faces : (rules : Rules) (classes : List ℕ) (arcs : List LabelledArc) (loser : ℕ) (s : MergeStep) → loser ≢ 0
     → step_against rules classes arcs loser ≡ Some s → IsOfFaces s
-against_faces rules classes arcs loser s n e = by (first_by (wins_before rules classes arcs loser) (neighbours_of arcs loser)) refl e
+against_faces rules classes arcs loser s n e = by (first_by (wins_before rules classes arcs loser) (neighbours_of rules classes arcs loser)) refl e
   where
-    by : (o : Option ℕ) → first_by (wins_before rules classes arcs loser) (neighbours_of arcs loser) ≡ o
+    by : (o : Option ℕ) → first_by (wins_before rules classes arcs loser) (neighbours_of rules classes arcs loser) ≡ o
         → ◌≡◌ {A = Option MergeStep} (elim o [ None ↦ None | Some winner ↦ Some (record { loser = loser; winner = winner; made = length classes + 1 }) ]) (Some s)
         → IsOfFaces s
     by None f g = absurd cc
     by (Some w) f g =
         let same : record { loser = loser; winner = w; made = length classes + 1 } ≡ s = cc in
-        subst IsOfFaces same (n, first_by_face (wins_before rules classes arcs loser) (neighbours_of arcs loser) w (neighbour_faces arcs loser) f)
+        subst IsOfFaces same (n, first_by_face (wins_before rules classes arcs loser) (neighbours_of rules classes arcs loser) w (neighbour_faces rules classes arcs loser) f)
 
 next_faces : (rules : Rules) (classes : List ℕ) (arcs : List LabelledArc) (s : MergeStep) → next_step rules classes arcs ≡ Some s → IsOfFaces s
 unfolding next_step
-next_faces rules classes arcs s e = by (first_by (loses_before rules classes arcs) (mergeable arcs)) refl e
+next_faces rules classes arcs s e = by (first_by (loses_before rules classes arcs) (mergeable rules classes arcs)) refl e
   where
-    by : (o : Option ℕ) → first_by (loses_before rules classes arcs) (mergeable arcs) ≡ o
+    by : (o : Option ℕ) → first_by (loses_before rules classes arcs) (mergeable rules classes arcs) ≡ o
         → ◌≡◌ {A = Option MergeStep} (elim o [ None ↦ None | Some loser ↦ step_against rules classes arcs loser ]) (Some s) → IsOfFaces s
     by None f g = absurd cc
     by (Some l) f g =
-        against_faces rules classes arcs l s (first_by_face (loses_before rules classes arcs) (mergeable arcs) l (mergeable_faces arcs) f) g
+        against_faces rules classes arcs l s (first_by_face (loses_before rules classes arcs) (mergeable rules classes arcs) l (mergeable_faces rules classes arcs) f) g
 
 steps_faces : (n : ℕ) (rules : Rules) (classes : List ℕ) (arcs : List LabelledArc) → AreOfFaces (steps_from n rules classes arcs)
 steps_faces zero rules classes arcs = tt

@@ -15,7 +15,7 @@ use Rattle.tgap_model.specs.declared.segment.LabelledSegment.{LabelledSegment}
 use Rattle.tgap_model.specs.Base.{BaseMap, is_base}
 use Rattle.tgap_model.specs.Segment.{Line, IsBetweenColumns, line_through, crosses, is_above, is_higher}
 use Rattle.tgap_model.specs.Partition.{is_empty, sides, stack, agree_from, path_segments, arc_segments, base_segments, edge_segments, IsPartition}
-use Rattle.tgap_model.specs.Inside.{borders, is_inside}
+use Rattle.map_laws.specs.Inside.{borders, is_inside}
 use Rattle.tgap_model.specs.Merged.{MergedMap, merged, label_at}
 use Rattle.tgap_model.specs.Chains.{Chain, are_chains, chains_at}
 use Rattle.tgap_model.specs.Removals.{removed_at, removals_to, sweep, sweep_edges, edges_of}

@@ -7,7 +7,7 @@ use Rattle.tgap_model.specs.declared.slice.Removal.{Removal}
 use Rattle.tgap_model.specs.Base.{BaseMap, is_base}
 use Rattle.tgap_model.specs.Segment.{IsBetweenColumns, line_through}
 use Rattle.tgap_model.specs.Partition.{IsPartition, base_segments, edge_segments}
-use Rattle.tgap_model.specs.Inside.{is_inside}
+use Rattle.map_laws.specs.Inside.{is_inside}
 use Rattle.tgap_model.specs.History.{is_between}
 use Rattle.tgap_model.specs.Merged.{MergedMap, merged, label_at, labelled_at}
 use Rattle.tgap_model.specs.Chains.{Chain, chains_at}

@@ -7,7 +7,7 @@ use Rattle.tgap_model.specs.declared.slice.Slice.{Slice}
 use Rattle.tgap_model.specs.Base.{BaseMap}
 use Rattle.tgap_model.specs.Segment.{IsBetweenColumns, line_through}
 use Rattle.tgap_model.specs.Partition.{edge_segments}
-use Rattle.tgap_model.specs.Inside.{is_inside}
+use Rattle.map_laws.specs.Inside.{is_inside}
 use Rattle.tgap_model.specs.History.{is_between, class_of}
 use Rattle.tgap_model.specs.Merged.{merged, labelled_at}
 use Rattle.tgap_model.specs.Records.{is_edge_between}

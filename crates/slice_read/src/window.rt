@@ -16,15 +16,6 @@ use std::alloc::Global;
 use tgap_build::{Built, edges_of};
 use tgap_model::{Edge, FaceRow, List, Memory, Point, Slice, Window};
 
-/// Whether the range of an edge of the forest holds k.
-fn is_alive(forest: &Forest, id: u32, k: u32) -> bool
-    requires { id < length forest.now.edges }
-    ensures { result ≡ is_alive k (edge_at forest.now.edges id) }
-{
-    let edge = forest.edge(id);
-    edge.low <= k && k < edge.high
-}
-
 /// Those of these edges of the forest whose range holds k.
 fn alive_of(alloc: Global, forest: &Forest, ids: &[u32], k: u32) -> Result<List<u32>, Memory>
     requires { All (λ id. id < length forest.now.edges) ids.now }
@@ -32,7 +23,7 @@ fn alive_of(alloc: Global, forest: &Forest, ids: &[u32], k: u32) -> Result<List<
 {
     let mut alive = List::new(alloc);
     for id in ids {
-        if is_alive(forest, *id, k) {
+        if forest.is_alive(*id, k) {
             alive.push(*id)?;
         }
     }

@@ -14,7 +14,7 @@ use Rattle.tgap_model.specs.declared.slice.Edge.{Edge}
 use Rattle.tgap_model.specs.Base.{BaseMap, is_base}
 use Rattle.tgap_model.specs.Segment.{Line, IsBetweenColumns, line_through}
 use Rattle.tgap_model.specs.Partition.{base_segments, path_segments, edge_segments, IsPartition}
-use Rattle.tgap_model.specs.Inside.{is_inside}
+use Rattle.map_laws.specs.Inside.{is_inside}
 use Rattle.tgap_model.specs.History.{relabel, AreNumbered, history_of}
 use Rattle.tgap_model.specs.Merged.{merged, label_at, step_number}
 use Rattle.tgap_model.specs.Chains.{chains_at}

@@ -14,7 +14,7 @@ use Rattle.tgap_model.specs.declared.slice.Edge.{Edge}
 use Rattle.tgap_model.specs.declared.segment.LabelledSegment.{LabelledSegment}
 use Rattle.tgap_model.specs.Segment.{Line, IsBetweenColumns, line_through, goes_right, is_above}
 use Rattle.tgap_model.specs.Partition.{Sides, is_empty, path_segments, sides, stack, agree_from, edge_segments, AreApart}
-use Rattle.tgap_model.specs.Inside.{borders, crosses_ray, is_inside}
+use Rattle.map_laws.specs.Inside.{borders, crosses_ray, is_inside}
 use Rattle.removal_laws.specs.StackLaws.{AgreeOn}
 use Rattle.map_laws.specs.PlaneLaws.{relabelled}
 use Rattle.map_laws.proofs.Labels.{labels_agree}

@@ -12,7 +12,7 @@ use Rattle.tgap_model.specs.declared.slice.Edge.{Edge}
 use Rattle.tgap_model.specs.declared.segment.LabelledSegment.{LabelledSegment}
 use Rattle.tgap_model.specs.Segment.{Line, IsBetweenColumns, run}
 use Rattle.tgap_model.specs.Partition.{sides, stack, agree_from, edge_segments, AreApart}
-use Rattle.tgap_model.specs.Inside.{borders, is_inside}
+use Rattle.map_laws.specs.Inside.{borders, is_inside}
 use Rattle.removal_laws.specs.StackLaws.{AgreeOn}
 use Rattle.map_laws.proofs.Inside.{run_positive}
 use Rattle.planar_stack.proofs.Heights.{crossed, higher, stack_is_crossed, stack_is_sorted}

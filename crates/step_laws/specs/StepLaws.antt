@@ -5,7 +5,7 @@ use Rattle.tgap_model.specs.declared.slice.Edge.{Edge}
 use Rattle.tgap_model.specs.Base.{BaseMap, is_base}
 use Rattle.tgap_model.specs.Segment.{Line, IsBetweenColumns, line_through}
 use Rattle.tgap_model.specs.Partition.{IsPartition, base_segments, edge_segments}
-use Rattle.tgap_model.specs.Inside.{is_inside}
+use Rattle.map_laws.specs.Inside.{is_inside}
 use Rattle.tgap_model.specs.History.{history_of}
 use Rattle.tgap_model.specs.Merged.{merged}
 use Rattle.tgap_model.specs.Slice.{slice}

@@ -6,10 +6,10 @@ ghost use Rattle.grid_index.specs.Live.{without_keys};
 ghost use Rattle.tgap_build.specs.EdgeTable.{edge_in, edges_in, AreAtKeys};
 ghost use Rattle.tgap_build.specs.Running.{is_touched};
 
-use crate::face_edges::{copied_edge, is_touched};
+use crate::face_edges::is_touched;
 use std::alloc::Global;
 use std::marker::Model;
-use tgap_model::{Edge, List, Memory, MergeStep};
+use tgap_model::{Edge, List, Memory, MergeStep, copied_edge};
 
 /// Edges, each at the place of its key. Contracts see the list of them, in order of key.
 #[derive(Debug, Drop)]

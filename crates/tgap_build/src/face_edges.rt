@@ -1,12 +1,11 @@
 //! The edges that border the faces of a step.
 
-ghost use Rattle.std.specs.Prelude.{◌≡◌, filter, IsPermutation, IfOk};
+ghost use Rattle.std.specs.Prelude.{◌≡◌, filter, IsPermutation};
 ghost use Rattle.std.specs.List.Sorted.{IsNonDecreasingBy};
 ghost use Rattle.tgap_model.specs.Removals.{has_side};
 ghost use Rattle.tgap_build.specs.Running.{is_touched};
 
-use std::alloc::Global;
-use tgap_model::{Edge, List, Memory, MergeStep};
+use tgap_model::{Edge, List, MergeStep};
 
 /// A face, and the edges that border it, in order of key.
 #[derive(Debug, Drop)]
@@ -15,41 +14,11 @@ pub struct FaceEdges {
     pub edges: List<Edge>,
 }
 
-/// Whether the edge has the face at a side.
-fn has_side(face: u32, edge: &Edge) -> bool
-    ensures { result ≡ has_side face edge.now }
-{
-    edge.left == face || edge.right == face
-}
-
 /// Whether the edge borders a face that the step merges.
 pub fn is_touched(step: &MergeStep, edge: &Edge) -> bool
     ensures { result ≡ is_touched step.now edge.now }
 {
-    has_side(step.loser, edge) || has_side(step.winner, edge)
-}
-
-/// A copy of an edge.
-pub fn copied_edge(alloc: Global, edge: &Edge) -> Result<Edge, Memory>
-    ensures { IfOk result (λ copy. copy ≡ edge.now) }
-{
-    Ok(Edge {
-        key: edge.key,
-        left: edge.left,
-        right: edge.right,
-        points: List::from(edge.points.as_slice().to_vec(alloc)?),
-    })
-}
-
-/// A copy of some edges.
-pub fn copied_edges(alloc: Global, edges: &[Edge]) -> Result<List<Edge>, Memory>
-    ensures { IfOk result (λ copy. copy ≡ edges.now) }
-{
-    let mut copy = List::with_capacity(alloc, edges.len())?;
-    for edge in edges {
-        copy.push(copied_edge(alloc, edge)?)?;
-    }
-    Ok(copy)
+    edge.has_side(step.loser) || edge.has_side(step.winner)
 }
 
 impl FaceEdges {
@@ -60,7 +29,7 @@ impl FaceEdges {
         ensures ascending { IsNonDecreasingBy (λ e. e.key) result.edges }
     {
         let mut edges = edges.into_vec();
-        edges.retain(|edge| has_side(face, edge));
+        edges.retain(|edge| edge.has_side(face));
         edges.sort_unstable_by_key(|edge| edge.key);
         FaceEdges {
             face,

@@ -1,7 +1,7 @@
 //! The edges of the last step, which are kept while the history is run.
 
 ghost use Rattle.std.specs.Prelude.{◌≡◌, ◌<◌, ◌≤◌, ◌-◌, ◌++◌, false, map, filter, length, IsPermutation, All, AllPairs, IfOk, OnOk};
-ghost use Rattle.tgap_model.specs.History.{relabel, history_of};
+ghost use Rattle.tgap_model.specs.History.{history_of};
 ghost use Rattle.tgap_model.specs.Merged.{merged, step_number};
 ghost use Rattle.tgap_model.specs.Removals.{has_side, without, removals_to};
 ghost use Rattle.removal_laws.specs.StandLaws.{edges_less};
@@ -16,7 +16,7 @@ ghost use Rattle.tgap_build.specs.Running.{AreRunning, AreBehind, born, number_o
 
 use crate::edge_table::EdgeTable;
 use crate::edges::{edges_of, push_edges};
-use crate::face_edges::{FaceEdges, copied_edges};
+use crate::face_edges::FaceEdges;
 use crate::holders::{Holder, note_holders};
 use crate::point_set::PointSet;
 use crate::sought::sought_after;
@@ -24,7 +24,7 @@ use edge_forest::Forest;
 use face_tree::FaceTree;
 use grid_index::Live;
 use std::alloc::Global;
-use tgap_model::{Edge, List, Memory, MergeStep, Removal};
+use tgap_model::{Edge, List, Memory, MergeStep, Removal, copied_edges};
 
 /// The edges after some steps of the history, a look-up of their segments where one was asked for, for each edge the number that
 /// it has in the forest, at the place of its key, and for each arc of theirs the edge that holds it.
@@ -43,15 +43,6 @@ struct Change {
     come: List<Edge>,
 }
 
-/// Whether the range of an edge of the forest holds k.
-fn is_alive(forest: &Forest, id: u32, k: u32) -> bool
-    requires { id < length forest.now.edges }
-    ensures { result ≡ is_alive k (edge_at forest.now.edges id) }
-{
-    let edge = forest.edge(id);
-    edge.low <= k && k < edge.high
-}
-
 /// The numbers of the edges from number `first` on whose range holds k, in ascending order.
 fn born(alloc: Global, forest: &Forest, first: u32, k: u32) -> Result<List<u32>, Memory>
     requires { first ≤ length forest.now.edges }
@@ -59,22 +50,11 @@ fn born(alloc: Global, forest: &Forest, first: u32, k: u32) -> Result<List<u32>,
 {
     let mut ids = List::new(alloc);
     for id in first..forest.count() {
-        if is_alive(forest, id, k) {
+        if forest.is_alive(id, k) {
             ids.push(id)?;
         }
     }
     Ok(ids)
-}
-
-/// The label that a label becomes by the step.
-fn label_after(step: &MergeStep, label: u32) -> u32
-    ensures { result ≡ relabel step.now label }
-{
-    if label == step.loser || label == step.winner {
-        step.made
-    } else {
-        label
-    }
 }
 
 /// The edge with its faces after the step.
@@ -83,8 +63,8 @@ fn relabelled(step: &MergeStep, edge: Edge) -> Edge
 {
     Edge {
         key: edge.key,
-        left: label_after(step, edge.left),
-        right: label_after(step, edge.right),
+        left: step.label_after(edge.left),
+        right: step.label_after(edge.right),
         points: edge.points,
     }
 }
@@ -103,7 +83,7 @@ fn still_there(
 {
     let mut after = List::new(alloc);
     for edge in edges.into_vec() {
-        if is_alive(forest, numbers[edge.key as usize], k) {
+        if forest.is_alive(numbers[edge.key as usize], k) {
             after.push(relabelled(step, edge))?;
         }
     }

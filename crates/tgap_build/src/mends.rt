@@ -13,14 +13,13 @@ ghost use Rattle.face_tree.specs.Tree.{face_history};
 ghost use Rattle.tgap_build.specs.Running.{has_point};
 ghost use Rattle.tgap_build.specs.Mends.{IsCountable, read_mend, needed_mends};
 
-use crate::face_edges::copied_edge;
 use crate::live_edges::LiveEdges;
 use crate::parts::edge_pieces;
 use crate::point_set::PointSet;
 use edge_forest::Forest;
 use face_tree::FaceTree;
 use std::alloc::Global;
-use tgap_model::{Edge, List, Memory, Mend, MergeStep, Piece, Point, Put};
+use tgap_model::{Edge, List, Memory, Mend, MergeStep, Piece, Point, Put, copied_edge};
 
 /// The vertices that come back of these points, which are those of the set, with their places.
 fn puts_of(alloc: Global, gone: &PointSet, points: &[Point]) -> Result<List<Put>, Memory>

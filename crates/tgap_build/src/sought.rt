@@ -8,10 +8,9 @@ ghost use Rattle.tgap_build.specs.EdgeTable.{IsSought};
 ghost use Rattle.tgap_build.specs.Running.{IsReplacement};
 
 use crate::edge_table::EdgeTable;
-use crate::face_edges::copied_edges;
 use grid_index::Live;
 use std::alloc::Global;
-use tgap_model::{Edge, List, Memory, Removal};
+use tgap_model::{Edge, List, Memory, Removal, copied_edges};
 use vertex_drop::{may_remove, sweep};
 
 /// The look-up after edges with some keys were taken out and others put in. The look at its edges, which costs nothing, tells

@@ -1,6 +1,7 @@
--- The merge history: at each step the face of least importance joins the neighbour that suits it best.
+-- The merge history: at each step the face of least importance that has a permitted neighbour joins the one of them that
+-- suits it best.
 -- From: van Oosterom, Variable-scale topological data structures suitable for progressive data transfer (2005); the measure of
--- importance and the order of ties are this project's.
+-- importance, the order of ties and the barriers are this project's.
 use Rattle.std.specs.Prelude.{◌≡◌, ◌≢◌, ◌<◌, ◌≤◌, ℕ, zero, suc, ◌+◌, ◌-◌, ◌*◌, Bool, ◌&&◌, ◌||◌, not, ℤ, pos, ◌+ℤ◌, ◌-ℤ◌, ◌*ℤ◌, int_lt, nat_lt, ◌==◌, List, [], ◌∷◌, ◌++◌, map, length, slice_index, fold, sum_by, flat_map, Option, Some, None, if◌then◌else◌, IsTrue, IsFalse}
 use Rattle.std.specs.Ordering.{int_eq}
 use Rattle.std.specs.List.{list_any}
@@ -59,10 +60,21 @@ are_neighbours arcs f g = not (f == 0) && not (g == 0) && not (f == g) && list_a
 abbrev pub shared_length : List LabelledArc → ℕ → ℕ → ℕ
 shared_length arcs f g = sum_by (λ a. if is_between f g a then a.extent else 0) arcs
 
--- how well a neighbour takes the loser: their compatibility, loser's class first, times the shared length
+-- the compatibility of a face's class, the row of the table, with another's, the column
+abbrev pub compatibility : Rules → List ℕ → ℕ → ℕ → ℕ
+compatibility rules classes f g = slice_index rules.compat (class_of classes f * length rules.weights + class_of classes g)
+
+-- a face permits a neighbour where that compatibility is above 0
+abbrev pub permits : Rules → List ℕ → ℕ → ℕ → Bool
+permits rules classes f g = nat_lt 0 (compatibility rules classes f g)
+
+-- g is a permitted neighbour of f
+abbrev pub is_permitted : Rules → List ℕ → List LabelledArc → ℕ → ℕ → Bool
+is_permitted rules classes arcs f g = are_neighbours arcs f g && permits rules classes f g
+
+-- how well a permitted neighbour takes the loser: that compatibility, loser's class first, times the shared length
 abbrev pub score : Rules → List ℕ → List LabelledArc → ℕ → ℕ → ℕ
-score rules classes arcs loser g =
-    slice_index rules.compat (class_of classes loser * length rules.weights + class_of classes g) * shared_length arcs loser g
+score rules classes arcs loser g = compatibility rules classes loser g * shared_length arcs loser g
 
 -- f loses before g: it is less important, or as important with the smaller number
 abbrev pub loses_before : Rules → List ℕ → List LabelledArc → ℕ → ℕ → Bool
@@ -76,17 +88,18 @@ wins_before rules classes arcs loser f g =
     nat_lt (score rules classes arcs loser g) (score rules classes arcs loser f)
     || ((score rules classes arcs loser f == score rules classes arcs loser g) && nat_lt f g)
 
--- The next step: the loser has a neighbour, and no face with one loses before it; the winner is a neighbour of the loser,
--- and none wins before it; the new face has the next number.
+-- The next step: the winner is a permitted neighbour of the loser; no face with a permitted neighbour loses before the
+-- loser, and no permitted neighbour of the loser wins before the winner; the new face has the next number.
 pub record IsNextStep (rules : Rules) (classes : List ℕ) (arcs : List LabelledArc) (s : MergeStep) : Type 0 where
   pub neighbours : IsTrue (are_neighbours arcs s.loser s.winner)
-  pub loser : (f g : ℕ) → IsTrue (are_neighbours arcs f g) → IsFalse (loses_before rules classes arcs f s.loser)
-  pub winner : (g : ℕ) → IsTrue (are_neighbours arcs s.loser g) → IsFalse (wins_before rules classes arcs s.loser g s.winner)
+  pub permitted : IsTrue (permits rules classes s.loser s.winner)
+  pub loser : (f g : ℕ) → IsTrue (is_permitted rules classes arcs f g) → IsFalse (loses_before rules classes arcs f s.loser)
+  pub winner : (g : ℕ) → IsTrue (is_permitted rules classes arcs s.loser g) → IsFalse (wins_before rules classes arcs s.loser g s.winner)
   pub made : s.made ≡ length classes + 1
 
--- The steps from here on are the next one, and those after it; there is none only where no two faces are neighbours.
+-- The steps from here on are the next one, and those after it; there is none only where no face has a permitted neighbour.
 abbrev pub AreSteps : Rules → List ℕ → List LabelledArc → List MergeStep → Type 0
-AreSteps rules classes arcs [] = (f g : ℕ) → IsFalse (are_neighbours arcs f g)
+AreSteps rules classes arcs [] = (f g : ℕ) → IsFalse (is_permitted rules classes arcs f g)
 AreSteps rules classes arcs (s ∷ steps) =
     IsNextStep rules classes arcs s × AreSteps rules (classes_after s classes) (map (relabel_arc s) arcs) steps
 
@@ -121,26 +134,36 @@ first_by before (f ∷ fs) = Some (first_from before f fs)
 abbrev pub is_shared : LabelledArc → Bool
 is_shared a = not (a.left == 0) && not (a.right == 0) && not (a.left == a.right)
 
--- the faces that have a neighbour, arc by arc
-abbrev pub mergeable : List LabelledArc → List ℕ
-mergeable arcs = flat_map (λ a. if is_shared a then a.left ∷ a.right ∷ [] else []) arcs
+-- the face at one side of an arc, where it permits that at the other
+abbrev pub permitting : Rules → List ℕ → ℕ → ℕ → List ℕ
+permitting rules classes f g = if permits rules classes f g then f ∷ [] else []
 
--- the neighbours of a face, arc by arc
-abbrev pub neighbours_of : List LabelledArc → ℕ → List ℕ
-neighbours_of arcs f =
-    flat_map (λ a. if is_shared a && (a.left == f) then a.right ∷ [] else (if is_shared a && (a.right == f) then a.left ∷ [] else [])) arcs
+-- the face at one side of an arc, where the one that is at the other permits it
+abbrev pub permitted_by : Rules → List ℕ → ℕ → ℕ → List ℕ
+permitted_by rules classes f g = if permits rules classes f g then g ∷ [] else []
+
+-- the faces that have a permitted neighbour, arc by arc
+abbrev pub mergeable : Rules → List ℕ → List LabelledArc → List ℕ
+mergeable rules classes arcs =
+    flat_map (λ a. if is_shared a then permitting rules classes a.left a.right ++ permitting rules classes a.right a.left else []) arcs
+
+-- the permitted neighbours of a face, arc by arc
+abbrev pub neighbours_of : Rules → List ℕ → List LabelledArc → ℕ → List ℕ
+neighbours_of rules classes arcs f =
+    flat_map (λ a. if is_shared a && (a.left == f) then permitted_by rules classes f a.right
+    else (if is_shared a && (a.right == f) then permitted_by rules classes f a.left else [])) arcs
 
 -- the winner against this loser, as a step
 abbrev pub step_against : Rules → List ℕ → List LabelledArc → ℕ → Option MergeStep
 step_against rules classes arcs loser =
-    elim (first_by (wins_before rules classes arcs loser) (neighbours_of arcs loser)) [
+    elim (first_by (wins_before rules classes arcs loser) (neighbours_of rules classes arcs loser)) [
       | None ↦ None
       | Some winner ↦ Some (record { loser = loser; winner = winner; made = length classes + 1 })
     ]
 
 unfoldable pub next_step : Rules → List ℕ → List LabelledArc → Option MergeStep
 next_step rules classes arcs =
-    elim (first_by (loses_before rules classes arcs) (mergeable arcs)) [
+    elim (first_by (loses_before rules classes arcs) (mergeable rules classes arcs)) [
       | None ↦ None
       | Some loser ↦ step_against rules classes arcs loser
     ]

@@ -1,5 +1,8 @@
 //! The map after some steps of the history.
 
+ghost use Rattle.std.specs.Prelude.{◌≡◌};
+ghost use Rattle.tgap_model.specs.Removals.{has_side};
+
 use crate::geometry::Point;
 use crate::list::List;
 
@@ -17,6 +20,15 @@ pub struct Edge {
     pub left: u32,
     pub right: u32,
     pub points: List<Point>,
+}
+
+impl Edge {
+    /// Whether it has the face at a side.
+    pub fn has_side(&self, face: u32) -> bool
+        ensures { result ≡ has_side face self.now }
+    {
+        self.left == face || self.right == face
+    }
 }
 
 /// The map after so many steps: its faces by number, and its edges by key.

@@ -11,10 +11,10 @@ use Rattle.tgap_model.specs.declared.geometry.Point.{Point}
 use Rattle.tgap_model.specs.declared.fault.MapFault.{MapFault}
 use Rattle.tgap_model.specs.declared.fault.MapFault.TheVariants.{Shape, NotWhole, OutOfRange, ArcShort}
 use Rattle.tgap_model.specs.Base.{in_limits, same_point, no_repeat}
-use Rattle.tgap_model.specs.Lines.{◌>>=◌, next_number}
-use Rattle.tgap_model.specs.Json.{ensured, try_fold, items_of}
-use Rattle.tgap_model.specs.Topology.{ArcSoFar, no_positions, leading_numbers, whole_pair, point_of, limited, with_position, position_read, arc_read}
-use Rattle.tgap_model.specs.Rings.{is_raw_arc}
+use Rattle.line_forms.specs.Lines.{◌>>=◌, next_number}
+use Rattle.line_forms.specs.Json.{ensured, try_fold, items_of}
+use Rattle.topology_forms.specs.Topology.{ArcSoFar, no_positions, leading_numbers, whole_pair, point_of, limited, with_position, position_read, arc_read}
+use Rattle.topology_forms.specs.Rings.{is_raw_arc}
 use Rattle.tgap_model.proofs.Points.{same_point-true}
 use Rattle.plain_io.proofs.Steps.{bound, ok_or_is}
 use Rattle.topo_read.specs.Arcs.{arc_points}

@@ -7,9 +7,9 @@ use Rattle.serde_json.specs.Find.{get, as_object}
 use Rattle.tgap_model.specs.declared.topology.RawMap.{RawMap}
 use Rattle.tgap_model.specs.declared.fault.MapFault.{MapFault}
 use Rattle.tgap_model.specs.declared.fault.MapFault.TheVariants.{Shape, NotJson}
-use Rattle.tgap_model.specs.Lines.{◌>>=◌}
-use Rattle.tgap_model.specs.Json.{tree, ensured, items_at, text_at}
-use Rattle.tgap_model.specs.Topology.{Quantized, quantized, chosen, is_format, topology_of, topology}
+use Rattle.line_forms.specs.Lines.{◌>>=◌}
+use Rattle.line_forms.specs.Json.{tree, ensured, items_at, text_at}
+use Rattle.topology_forms.specs.Topology.{Quantized, quantized, chosen, is_format, topology_of, topology}
 use Rattle.plain_io.proofs.Steps.{bound, ok_or_is}
 use Rattle.topo_read.specs.Parts.{PartsSeen, format_of, parts_of, map_of}
 use Rattle.topo_read.specs.Sizes.{size, count_positions}

@@ -10,10 +10,10 @@ use Rattle.serde_json.specs.Data.{Data}
 use Rattle.serde_json.specs.View.{view}
 use Rattle.serde_json.specs.declared.value.Value.{Value}
 use Rattle.tgap_model.specs.declared.fault.MapFault.TheVariants.{ArcIndex}
-use Rattle.tgap_model.specs.Lines.{next_number}
-use Rattle.tgap_model.specs.Json.{try_fold, each_of, items_of}
-use Rattle.tgap_model.specs.Topology.{names_arc, index_read, ring_read}
-use Rattle.tgap_model.specs.Rings.{is_raw_ring}
+use Rattle.line_forms.specs.Lines.{next_number}
+use Rattle.line_forms.specs.Json.{try_fold, each_of, items_of}
+use Rattle.topology_forms.specs.Topology.{names_arc, index_read, ring_read}
+use Rattle.topology_forms.specs.Rings.{is_raw_ring}
 
 -- ---- the items of a list from a place on
 

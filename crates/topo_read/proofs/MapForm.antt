@@ -7,8 +7,8 @@ use Rattle.tgap_model.specs.declared.geometry.Point.{Point}
 use Rattle.tgap_model.specs.declared.base.Transform.{Transform}
 use Rattle.tgap_model.specs.declared.topology.RawPolygon.{RawPolygon}
 use Rattle.tgap_model.specs.declared.limits.TheConstants.{MAX_ARCS, MAX_POINTS, MAX_FACES}
-use Rattle.tgap_model.specs.Topology.{has_ring}
-use Rattle.tgap_model.specs.Rings.{is_raw_arc, is_raw_ring, is_raw_map}
+use Rattle.topology_forms.specs.Topology.{has_ring}
+use Rattle.topology_forms.specs.Rings.{is_raw_arc, is_raw_ring, is_raw_map}
 
 -- within a limit
 within : (n limit : ℕ) → n ≤ limit → nat_le n limit ≡ true

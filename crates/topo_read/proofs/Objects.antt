@@ -3,7 +3,7 @@ use Rattle.std.proofs.Common.{◌≡◌, ◌<◌, suc, List, [], ◌∷◌, leng
 use Rattle.serde_json.specs.View.{view, members_view}
 use Rattle.serde_json.proofs.Views.{Entry}
 use Rattle.tgap_model.specs.declared.fault.MapFault.TheVariants.{ManyObjects}
-use Rattle.tgap_model.specs.Topology.{count_members, only_member}
+use Rattle.topology_forms.specs.Topology.{count_members, only_member}
 
 -- there are as many members as entries
 count_of : (es : List Entry) → count_members (members_view es) ≡ length es

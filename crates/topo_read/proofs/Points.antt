@@ -4,7 +4,7 @@ use Rattle.std.specs.Prelude.{ℤ, ◌+ℤ◌, ◌&&◌, if◌then◌else◌, ne
 use Rattle.tgap_model.specs.declared.geometry.Point.{Point}
 use Rattle.tgap_model.specs.declared.limits.TheConstants.{MAX_COORDINATE}
 use Rattle.tgap_model.specs.Base.{within}
-use Rattle.tgap_model.specs.Topology.{point_of, limited}
+use Rattle.topology_forms.specs.Topology.{point_of, limited}
 use Rattle.topo_read.specs.Arcs.{coordinate_of}
 
 -- a point of two coordinates

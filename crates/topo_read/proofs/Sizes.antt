@@ -10,7 +10,7 @@ use Rattle.json.specs.Json as json
 use Rattle.serde_json.specs.Data.{Data, null, boolean, number, string, array, object, Items, no_items, item, Members, no_members, member, put}
 use Rattle.serde_json.specs.Read.{number_of, of_json, of_items, of_members, max_depth, read}
 use Rattle.serde_json.specs.Find.{get, get_member}
-use Rattle.tgap_model.specs.Json.{tree, list_of, items_of, items_at}
+use Rattle.line_forms.specs.Json.{tree, list_of, items_of, items_at}
 use Rattle.topo_read.specs.Sizes.{size, items_size, members_size, count_items, count_positions}
 use Rattle.topo_read.proofs.Tokens.{parts, item_parts, member_parts, parts_read, length-tokens}
 

@@ -5,9 +5,9 @@ use Rattle.serde_json.specs.Data.{Data}
 use Rattle.serde_json.specs.Find.{as_object}
 use Rattle.tgap_model.specs.declared.fault.MapFault.{MapFault}
 use Rattle.tgap_model.specs.declared.fault.MapFault.TheVariants.{Shape}
-use Rattle.tgap_model.specs.Lines.{◌>>=◌}
-use Rattle.tgap_model.specs.Json.{ensured, try_fold}
-use Rattle.tgap_model.specs.Topology.{Walk, met, geometry_of, members_of, shapes_of, kind_of, polygon_read, geometry_read}
+use Rattle.line_forms.specs.Lines.{◌>>=◌}
+use Rattle.line_forms.specs.Json.{ensured, try_fold}
+use Rattle.topology_forms.specs.Topology.{Walk, met, geometry_of, members_of, shapes_of, kind_of, polygon_read, geometry_read}
 use Rattle.topo_read.specs.Walk.{own_read}
 
 -- ---- a geometry is itself, and then those in it

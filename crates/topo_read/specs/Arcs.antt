@@ -7,9 +7,9 @@ use Rattle.tgap_model.specs.declared.fault.MapFault.{MapFault}
 use Rattle.tgap_model.specs.declared.fault.MapFault.TheVariants.{Shape, ArcShort}
 use Rattle.tgap_model.specs.declared.limits.TheConstants.{MAX_COORDINATE}
 use Rattle.tgap_model.specs.Base.{within}
-use Rattle.tgap_model.specs.Lines.{◌>>=◌}
-use Rattle.tgap_model.specs.Json.{ensured, try_fold, items_of}
-use Rattle.tgap_model.specs.Topology.{no_positions, position_read}
+use Rattle.line_forms.specs.Lines.{◌>>=◌}
+use Rattle.line_forms.specs.Json.{ensured, try_fold, items_of}
+use Rattle.topology_forms.specs.Topology.{no_positions, position_read}
 
 -- the points of arc number a
 unfoldable pub arc_points : Bool → ℕ → Data → Result (List Point) MapFault

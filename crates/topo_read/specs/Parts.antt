@@ -8,10 +8,10 @@ use Rattle.tgap_model.specs.declared.topology.RawMap.{RawMap}
 use Rattle.tgap_model.specs.declared.fault.LimitKind.TheVariants.{Faces, Arcs, Points}
 use Rattle.tgap_model.specs.declared.fault.MapFault.{MapFault}
 use Rattle.tgap_model.specs.declared.fault.MapFault.TheVariants.{Shape}
-use Rattle.tgap_model.specs.Lines.{◌>>=◌}
-use Rattle.tgap_model.specs.Listing.{within_limit}
-use Rattle.tgap_model.specs.Json.{ensured, try_fold, items_at, text_at}
-use Rattle.tgap_model.specs.Topology.{Quantized, quantized, chosen, arc_read, geometry_read, no_geometries, has_ring, is_format}
+use Rattle.line_forms.specs.Lines.{◌>>=◌}
+use Rattle.map_forms.specs.Listing.{within_limit}
+use Rattle.line_forms.specs.Json.{ensured, try_fold, items_at, text_at}
+use Rattle.topology_forms.specs.Topology.{Quantized, quantized, chosen, arc_read, geometry_read, no_geometries, has_ring, is_format}
 use Rattle.topo_read.specs.declared.Parts.{Parts}
 use Rattle.topo_read.specs.Positions.{quantized_seen}
 

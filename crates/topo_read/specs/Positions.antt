@@ -2,7 +2,7 @@
 use Rattle.std.specs.Prelude.{Option, option_map, option_and_then}
 use Rattle.serde_json.specs.Data.{Num}
 use Rattle.tgap_model.specs.declared.base.Transform.{Transform}
-use Rattle.tgap_model.specs.Topology.{Quantized, words_of}
+use Rattle.topology_forms.specs.Topology.{Quantized, words_of}
 use Rattle.topo_read.specs.declared.transform.Positions.{Positions}
 
 -- what a topology tells of its positions, as the definitions see it

@@ -1,7 +1,7 @@
 -- How much a JSON value holds. It is never more than the text that spells it.
 use Rattle.std.specs.Prelude.{ℕ, suc, ◌+◌, List, length, sum_by, Option, Some, None}
 use Rattle.serde_json.specs.Data.{Data, null, boolean, number, string, array, object, Items, no_items, item, Members, no_members, member}
-use Rattle.tgap_model.specs.Json.{items_of}
+use Rattle.line_forms.specs.Json.{items_of}
 
 -- how many values it is made of, itself among them
 abbrev mutual

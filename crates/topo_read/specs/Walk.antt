@@ -10,10 +10,10 @@ use Rattle.serde_json.specs.declared.value.Value.{Value}
 use Rattle.tgap_model.specs.declared.topology.RawPolygon.{RawPolygon}
 use Rattle.tgap_model.specs.declared.fault.MapFault.{MapFault}
 use Rattle.tgap_model.specs.declared.fault.MapFault.TheVariants.{Shape}
-use Rattle.tgap_model.specs.Lines.{◌>>=◌}
-use Rattle.tgap_model.specs.Json.{ensured, try_fold}
-use Rattle.tgap_model.specs.Topology.{Walk, met, Geometry, collection, polygon, polygons, other, geometry_of, members_of, shapes_of, kind_of, polygon_read}
-use Rattle.tgap_model.specs.Rings.{is_raw_ring}
+use Rattle.line_forms.specs.Lines.{◌>>=◌}
+use Rattle.line_forms.specs.Json.{ensured, try_fold}
+use Rattle.topology_forms.specs.Topology.{Walk, met, Geometry, collection, polygon, polygons, other, geometry_of, members_of, shapes_of, kind_of, polygon_read}
+use Rattle.topology_forms.specs.Rings.{is_raw_ring}
 use Rattle.topo_read.specs.declared.geometry.walk.Walk.{Walk as WalkInMemory}
 use Rattle.topo_read.specs.declared.geometry.shapes.GeometryType.{GeometryType}
 use Rattle.topo_read.specs.declared.geometry.shapes.GeometryType.TheVariants.{Collection, Polygon, MultiPolygon, Other}

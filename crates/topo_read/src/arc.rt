@@ -2,8 +2,8 @@
 
 ghost use Rattle.std.specs.Prelude.{◌≡◌, ◌≤◌, ◌+ℤ◌, [], map, length, option_map, option_and_then, OnOk, if◌then◌else◌};
 ghost use Rattle.serde_json.specs.View.{view, number_view};
-ghost use Rattle.tgap_model.specs.Json.{try_fold, items_of};
-ghost use Rattle.tgap_model.specs.Topology.{no_positions, leading_numbers, whole_pair, point_of, limited, with_position, position_read, arc_read};
+ghost use Rattle.line_forms.specs.Json.{try_fold, items_of};
+ghost use Rattle.topology_forms.specs.Topology.{no_positions, leading_numbers, whole_pair, point_of, limited, with_position, position_read, arc_read};
 ghost use Rattle.plain_io.specs.Taking.{GivesWhole, LeavesWhole};
 ghost use Rattle.topo_read.specs.Arcs.{arc_points, coordinate_of};
 
@@ -75,7 +75,7 @@ struct PartialArc {
 }
 
 impl Model for PartialArc {
-    ghost use Rattle.tgap_model.specs.Topology.{ArcSoFar};
+    ghost use Rattle.topology_forms.specs.Topology.{ArcSoFar};
 
     ghost Value = { ArcSoFar };
 
@@ -95,7 +95,7 @@ impl PartialArc {
     }
 
     /// Reads the next position of the arc of this number.
-    #[tactic(auto, unfolding(tgap_model::specs::Topology::position_read))]
+    #[tactic(auto, unfolding(topology_forms::specs::Topology::position_read))]
     fn read_position(
         &mut self,
         deltas: bool,

@@ -3,9 +3,9 @@
 ghost use Rattle.std.specs.Prelude.{◌≡◌, ◌≤◌, IfOk, IsTrue, Ok};
 ghost use Rattle.std.specs.List.{list_all};
 ghost use Rattle.serde_json.specs.View.{view};
-ghost use Rattle.tgap_model.specs.Lines.{◌>>=◌ as ◌or>>=◌};
-ghost use Rattle.tgap_model.specs.Topology.{no_geometries, geometry_read};
-ghost use Rattle.tgap_model.specs.Rings.{is_raw_ring};
+ghost use Rattle.line_forms.specs.Lines.{◌>>=◌ as ◌or>>=◌};
+ghost use Rattle.topology_forms.specs.Topology.{no_geometries, geometry_read};
+ghost use Rattle.topology_forms.specs.Rings.{is_raw_ring};
 ghost use Rattle.plain_io.specs.Taking.{Gives, GivesWhole, LeavesWhole};
 ghost use Rattle.topo_read.specs.Walk.{walk_of, are_raw, viewed, own_read};
 

@@ -4,8 +4,8 @@
 
 ghost use Rattle.std.specs.Prelude.{◌≡◌, ◌≤◌, ◌<◌, ◌^◌, IfOk, IsTrue};
 ghost use Rattle.serde_json.specs.View.{view};
-ghost use Rattle.tgap_model.specs.Topology.{topology, topology_of};
-ghost use Rattle.tgap_model.specs.Rings.{is_raw_map};
+ghost use Rattle.topology_forms.specs.Topology.{topology, topology_of};
+ghost use Rattle.topology_forms.specs.Rings.{is_raw_map};
 ghost use Rattle.plain_io.specs.Taking.{GivesWhole};
 ghost use Rattle.topo_read.specs.Parts.{map_of, parts_of, parts_seen};
 ghost use Rattle.topo_read.specs.Seen.{GivesSeen};

@@ -2,8 +2,8 @@
 
 ghost use Rattle.std.specs.Prelude.{◌≡◌, ◌≤◌, ◌<◌, ◌^◌, length, sum_by, count_by, IfOk};
 ghost use Rattle.tgap_model.specs.Limits.{limit_of};
-ghost use Rattle.tgap_model.specs.Listing.{within_limit};
-ghost use Rattle.tgap_model.specs.Topology.{has_ring};
+ghost use Rattle.map_forms.specs.Listing.{within_limit};
+ghost use Rattle.topology_forms.specs.Topology.{has_ring};
 ghost use Rattle.plain_io.specs.Taking.{GivesWhole};
 
 use tgap_model::{LimitKind, List, MapFault, Or, Point, RawPolygon};

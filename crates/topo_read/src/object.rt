@@ -3,7 +3,7 @@
 ghost use Rattle.std.specs.Prelude.{◌≡◌, option_map, option_and_then};
 ghost use Rattle.serde_json.specs.Find.{as_object, get};
 ghost use Rattle.serde_json.specs.View.{view, members_view};
-ghost use Rattle.tgap_model.specs.Topology.{chosen, only_member};
+ghost use Rattle.topology_forms.specs.Topology.{chosen, only_member};
 ghost use Rattle.plain_io.specs.Taking.{GivesWhole};
 ghost use Rattle.topo_read.specs.Parts.{format_of};
 ghost use Rattle.topo_read.specs.Seen.{GivesSeen};

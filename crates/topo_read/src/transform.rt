@@ -3,7 +3,7 @@
 ghost use Rattle.std.specs.Prelude.{◌≡◌, codes, option_map};
 ghost use Rattle.serde_json.specs.Find.{get};
 ghost use Rattle.serde_json.specs.View.{view, number_view};
-ghost use Rattle.tgap_model.specs.Topology.{word_of, pair_at, kept_transform, given_transform, quantized};
+ghost use Rattle.topology_forms.specs.Topology.{word_of, pair_at, kept_transform, given_transform, quantized};
 ghost use Rattle.topo_read.specs.Positions.{quantized_seen, whole_transform};
 
 use plain_io::json::items_at;

@@ -4,12 +4,12 @@ use Rattle.std.proofs.lemmas.Bool.{cases_eq, cases_lt, eq-eqb, ne_eqb}
 use Rattle.std.proofs.lemmas.List.{append-nil, append_assoc, length-append, get_or-set_same, get_or-set_other, get_or_past}
 use Rattle.std.proofs.lemmas.List.Elements.{All-cons}
 use Rattle.std.proofs.lemmas.List.Kept.{AllPairs-cons}
-use Rattle.tgap_model.specs.declared.machine.Event.{Event}
-use Rattle.tgap_model.specs.declared.machine.Event.TheVariants.{Begin, Commit, Pin, Read, Leave}
-use Rattle.tgap_model.specs.declared.machine.Outcome.{Outcome}
-use Rattle.tgap_model.specs.declared.machine.Outcome.TheVariants.{Began, Published, At, Left}
+use Rattle.version_store.specs.declared.event.Event.{Event}
+use Rattle.version_store.specs.declared.event.Event.TheVariants.{Begin, Commit, Pin, Read, Leave}
+use Rattle.version_store.specs.declared.event.Outcome.{Outcome}
+use Rattle.version_store.specs.declared.event.Outcome.TheVariants.{Began, Published, At, Left}
 use Rattle.tgap_model.specs.Base.{BaseMap}
-use Rattle.tgap_model.specs.Machine.{Versions, newest, pin_of, with_pin, commit, by_pin, step, run}
+use Rattle.version_store.specs.Machine.{Versions, newest, pin_of, with_pin, commit, by_pin, step, run}
 use Rattle.version_store.specs.Versions.{AreVersions, IsPin}
 use Rattle.version_store.specs.Runs.{states, Turn, turns, publish, published_maps, IsPublishedRight, pinned_by, last_pinned, ReadsRight, KeepsPins}
 use Rattle.version_store.proofs.Steps.{by_pin_cases, commit_cases, pin_cases}

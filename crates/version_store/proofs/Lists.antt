@@ -1,6 +1,6 @@
 -- What every press and every seat keeps of its list.
 use Rattle.std.proofs.Common.{◌≡◌, ◌≤◌, arith, sym, ◌∙◌}
-use Rattle.tgap_model.specs.declared.machine.Holds as Held
+use Rattle.tgap_model.specs.declared.holds.Holds as Held
 use Rattle.version_store.specs.declared.name.StoreName as Named
 use Rattle.version_store.specs.declared.seat.SeatOf.{SeatOf}
 use Rattle.version_store.specs.declared.press.PressOf.{PressOf}

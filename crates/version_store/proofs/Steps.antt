@@ -1,11 +1,11 @@
 -- What a step can come to, case by case.
 use Rattle.std.proofs.Common.{◌≡◌, ◌≢◌, ◌<◌, ◌≤◌, inl, inr, ℕ, [], ◌∷◌, ◌++◌, length, Option, Some, None, refl}
 use Rattle.std.proofs.lemmas.Bool.{cases_eq, cases_lt, eq-eqb, ne_eqb, lt-ltb, le-ltb}
-use Rattle.tgap_model.specs.declared.machine.Event.TheVariants.{Pin}
-use Rattle.tgap_model.specs.declared.machine.Outcome.{Outcome}
-use Rattle.tgap_model.specs.declared.machine.Outcome.TheVariants.{Published, Stale, Full, Pinned, Idle}
+use Rattle.version_store.specs.declared.event.Event.TheVariants.{Pin}
+use Rattle.version_store.specs.declared.event.Outcome.{Outcome}
+use Rattle.version_store.specs.declared.event.Outcome.TheVariants.{Published, Stale, Full, Pinned, Idle}
 use Rattle.tgap_model.specs.Base.{BaseMap}
-use Rattle.tgap_model.specs.Machine.{Versions, newest, pin_of, with_pin, commit, by_pin, step}
+use Rattle.version_store.specs.Machine.{Versions, newest, pin_of, with_pin, commit, by_pin, step}
 
 -- the versions with one more, which its actor has pinned
 abbrev pub grown : Versions → ℕ → BaseMap → Versions

@@ -4,3 +4,4 @@ pub mod Growth
 pub mod Rule
 pub mod Steps
 pub mod Store
+pub mod Machine

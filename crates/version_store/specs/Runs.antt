@@ -1,11 +1,11 @@
 -- Laws of the machine over any list of events.
 use Rattle.std.specs.Prelude.{◌≡◌, ◌<◌, ◌≤◌, ◌↔◌, ℕ, List, [], ◌∷◌, ◌++◌, length, Option, Some, ◌==◌, if◌then◌else◌}
-use Rattle.tgap_model.specs.declared.machine.Event.{Event}
-use Rattle.tgap_model.specs.declared.machine.Event.TheVariants.{Commit, Pin, Read}
-use Rattle.tgap_model.specs.declared.machine.Outcome.{Outcome}
-use Rattle.tgap_model.specs.declared.machine.Outcome.TheVariants.{Published, Pinned, At}
+use Rattle.version_store.specs.declared.event.Event.{Event}
+use Rattle.version_store.specs.declared.event.Event.TheVariants.{Commit, Pin, Read}
+use Rattle.version_store.specs.declared.event.Outcome.{Outcome}
+use Rattle.version_store.specs.declared.event.Outcome.TheVariants.{Published, Pinned, At}
 use Rattle.tgap_model.specs.Base.{BaseMap}
-use Rattle.tgap_model.specs.Machine.{Versions, newest, pin_of, step}
+use Rattle.version_store.specs.Machine.{Versions, newest, pin_of, step}
 
 -- the versions at the start and after each event
 abbrev pub states : Versions → List Event → List Versions

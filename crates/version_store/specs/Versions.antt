@@ -1,6 +1,6 @@
 -- What is kept of the versions of a map.
 use Rattle.std.specs.Prelude.{◌<◌, ◌≤◌, ℕ, length, All, Option, Some, None, ⊤}
-use Rattle.tgap_model.specs.Machine.{Versions}
+use Rattle.version_store.specs.Machine.{Versions}
 
 -- the pin, where there is one, is the number of one of so many versions
 abbrev pub IsPin : ℕ → Option ℕ → Type 0

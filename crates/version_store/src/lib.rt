@@ -1,9 +1,10 @@
 //! The versions of a map that many share. `Machine` is the pure core of the sharing: which version each actor has pinned,
-//! and which commits are published. It stands on `tgap_model`, whose `Machine` defines what comes of each event.
+//! and which commits are published. `specs/Machine.antt` defines what comes of each event.
 //! Threads share versions by a `Press`, which publishes them, and by `Seat`s, which pin the newest one without a lock. Both stand on
 //! `atomic_table`, whose steps keep one list that only grows.
 #![tactic(auto)]
 
+mod event;
 mod fresh;
 mod known;
 mod machine;
@@ -14,6 +15,7 @@ mod press;
 mod seat;
 mod shelf;
 
+pub use event::{Event, Outcome};
 pub use fresh::{Fresh, FreshOf, start};
 pub use known::{Growing, Known};
 pub use machine::Machine;
@@ -21,4 +23,3 @@ pub use name::StoreName;
 pub use pin::Pin;
 pub use press::{Press, PressOf, PublishFail};
 pub use seat::{Seat, SeatOf};
-pub use tgap_model::{Event, Outcome};

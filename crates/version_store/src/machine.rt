@@ -1,14 +1,15 @@
 //! The machine of versions.
 
 ghost use Rattle.std.specs.Prelude.{◌≡◌, ◌<◌, ◌≤◌, ◌-◌, ◌++◌, [], ◌∷◌, map, None, length, replicate, AllPairs, All, IfOk, OnErr, IsOk};
-ghost use Rattle.tgap_model.specs.declared.machine.Event.TheVariants as event;
-ghost use Rattle.tgap_model.specs.Machine.{newest, pin_of, with_pin, step, run};
+ghost use Rattle.version_store.specs.declared.event.Event.TheVariants as event;
+ghost use Rattle.version_store.specs.Machine.{newest, pin_of, with_pin, step, run};
 ghost use Rattle.version_store.specs.Versions.{IsPin};
 ghost use Rattle.version_store.specs.Runs.{states, turns, published_maps, IsPublishedRight, ReadsRight, KeepsPins};
 
+use crate::event::{Event, Outcome};
 use std::alloc::Global;
 use std::marker::Model;
-use tgap_model::{Base, Event, List, Memory, Outcome};
+use tgap_model::{Base, List, Memory};
 
 /// The versions of a map, and the version that each actor has pinned. A version is a base map; its number is its place in the
 /// history, which only grows.
@@ -22,7 +23,7 @@ pub struct Machine {
 impl Model for Machine {
     ghost use Rattle.std.specs.Prelude.{◌≤◌};
     ghost use Rattle.std.specs.Vec.{vec_capacity};
-    ghost use Rattle.tgap_model.specs.Machine.{Versions};
+    ghost use Rattle.version_store.specs.Machine.{Versions};
     ghost use Rattle.version_store.specs.Versions.{AreVersions};
 
     ghost Value = { Versions };

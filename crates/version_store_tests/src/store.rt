@@ -1,6 +1,6 @@
 //! A press with its seats: on one thread, and on two.
 
-ghost use Rattle.std.specs.Prelude.{◌≡◌, ◌+◌, IfOk};
+ghost use Rattle.std.specs.Prelude.{◌≡◌, ◌+◌, [], IfOk};
 ghost use Rattle.std.specs.Arc.{arc_value};
 ghost use Rattle.version_store.specs.Store.{fresh_store, fresh_limit};
 
@@ -13,7 +13,7 @@ use std::thread::{Threads, join};
 use tgap_model::{Base, Holds, Memory};
 use version_store::{Fresh, Press, PublishFail, Seat, StoreName, start};
 
-/// A map with its number.
+/// A map with its number. No batch is told of it.
 #[derive(Drop)]
 struct Numbered {
     number: u64,
@@ -25,8 +25,14 @@ impl Holds for Numbered {
 
     ghost base = { λ v. v.base };
 
+    ghost batched = { λ v. [] };
+
     fn number(&self) -> u64 {
         self.number
+    }
+
+    fn batch(&self) -> &[u8] {
+        b""
     }
 }
 

@@ -23,18 +23,11 @@ pub struct Stand {
     pub place: usize,
 }
 
-/// Whether the edge borders the face.
-pub fn has_side(face: u32, edge: &Edge) -> bool
-    ensures { result ≡ has_side face edge.now }
-{
-    edge.left == face || edge.right == face
-}
-
 /// Whether the edge was swept before that at which the sweep stands.
 fn was_swept(at: Stand, edge: &Edge) -> bool
     ensures { result ≡ (nat_lt edge.now.key at.key && has_side at.made edge.now) }
 {
-    edge.key < at.key && has_side(at.made, edge)
+    edge.key < at.key && edge.has_side(at.made)
 }
 
 /// The place of the first segment of an edge that the sweep has not come to.

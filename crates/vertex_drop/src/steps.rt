@@ -6,7 +6,7 @@ ghost use Rattle.tgap_model.specs.Removals.{sweep, sweep_edges};
 ghost use Rattle.vertex_drop.specs.Sweep.{IsEdgeSwept};
 
 use crate::kept::Kept;
-use crate::near::{Stand, has_side};
+use crate::near::Stand;
 use crate::removable::{Corner, Rule, is_removable};
 use grid_index::Live;
 use std::alloc::Global;
@@ -55,7 +55,7 @@ fn sweep_edges(alloc: Global, rule: Rule, made: u32, live: &Live) -> Result<Vec<
     let mut kept = Kept::new(alloc);
     let mut gone = Vec::new(alloc);
     for i in 0..edges.len() {
-        if has_side(made, &edges[i]) {
+        if edges[i].has_side(made) {
             sweep_edge(alloc, rule, made, live, i, &mut kept, &mut gone)?;
         }
     }

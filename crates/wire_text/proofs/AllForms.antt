@@ -2,9 +2,9 @@
 use Rattle.std.proofs.Common.{◌≡◌, ◌≢◌, ℕ, Bool, true, List, [], ◌∷◌, ◌++◌, length, map, Result, Ok, sym, ap, ◌∙◌}
 use Rattle.std.specs.List.{list_all, flat_map}
 use Rattle.std.proofs.lemmas.List.Concat.{flat_map_single}
-use Rattle.tgap_model.specs.Words.{Row}
-use Rattle.tgap_model.specs.Lines.{Lines}
-use Rattle.tgap_model.specs.SliceReading.{each_at}
+use Rattle.line_forms.specs.Words.{Row}
+use Rattle.line_forms.specs.Lines.{Lines}
+use Rattle.wire_text.specs.SliceReading.{each_at}
 use Rattle.plain_io.proofs.Rows.{is_plain_row}
 use Rattle.plain_io.proofs.Steps.{lines_from}
 use Rattle.wire_text.proofs.Each.{IsReader, each_is, each_again, each_plain, all_from_each, each_from_all}

@@ -2,10 +2,10 @@
 use Rattle.std.proofs.Common.{◌≡◌, ℕ, ◌-◌, ◌^◌, ◌≤◌, true, cond, eqb, List, [], ◌∷◌, Some, None, refl, subst, arith}
 use Rattle.std.specs.Prelude.{decimal}
 use Rattle.std.proofs.lemmas.Bool.{lt-ltb, ltb-true, eqb-true}
-use Rattle.tgap_model.specs.Words.{Row, after_word, natural_at, count_at, after_count}
-use Rattle.tgap_model.specs.ListingLines.{read_count}
-use Rattle.tgap_model.specs.Listing.{count_words}
-use Rattle.tgap_model.specs.SliceForms.{is_number}
+use Rattle.line_forms.specs.Words.{Row, after_word, natural_at, count_at, after_count}
+use Rattle.line_forms.specs.ListingLines.{read_count}
+use Rattle.map_forms.specs.Listing.{count_words}
+use Rattle.slice_forms.specs.SliceForms.{is_number}
 use Rattle.std.proofs.lemmas.Option.{cond_some, option_and_then_some}
 use Rattle.plain_io.proofs.Words.{is_plain_word, decimal_plain}
 use Rattle.plain_io.proofs.Rows.{is_plain_row}

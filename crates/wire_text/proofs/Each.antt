@@ -4,9 +4,9 @@ use Rattle.std.specs.List.{list_all, flat_map}
 use Rattle.std.proofs.lemmas.Bool.{and_from, and_parts, lt-ltb, ltb-true}
 use Rattle.std.proofs.lemmas.List.Folds.{list_all-append}
 use Rattle.lemmas.specs.Sorting.{is_sorted_by}
-use Rattle.tgap_model.specs.Words.{Row}
-use Rattle.tgap_model.specs.Lines.{Lines, next_number, read_line}
-use Rattle.tgap_model.specs.SliceReading.{each_at}
+use Rattle.line_forms.specs.Words.{Row}
+use Rattle.line_forms.specs.Lines.{Lines, next_number, read_line}
+use Rattle.wire_text.specs.SliceReading.{each_at}
 use Rattle.plain_io.specs.Fronts.{in_front}
 use Rattle.plain_io.proofs.Rows.{is_plain_row}
 use Rattle.plain_io.proofs.Steps.{bound, read_line_is, read_line_again, lines_from, some_rows}

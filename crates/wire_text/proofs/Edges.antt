@@ -2,10 +2,10 @@
 use Rattle.std.proofs.Common.{◌≡◌, ℕ, List, [], ◌∷◌, ◌++◌, map, length}
 use Rattle.std.specs.Prelude.{codes, decimal, flat_map}
 use Rattle.tgap_model.specs.declared.slice.Edge.{Edge}
-use Rattle.tgap_model.specs.Texts.{line}
-use Rattle.tgap_model.specs.Words.{Row}
-use Rattle.tgap_model.specs.Listing.{point_words}
-use Rattle.tgap_model.specs.SliceTexts.{edge_words}
+use Rattle.line_forms.specs.Texts.{line}
+use Rattle.line_forms.specs.Words.{Row}
+use Rattle.map_forms.specs.Listing.{point_words}
+use Rattle.wire_text.specs.SliceTexts.{edge_words}
 use Rattle.plain_io.specs.Fields.{fields}
 use Rattle.plain_io.proofs.Fields.{word_put, fields_put, line_put}
 

@@ -1,7 +1,7 @@
 -- The line of a fault, word after word.
 use Rattle.std.proofs.Common.{◌≡◌, ℕ, List, [], ◌∷◌, ◌++◌, Result, Ok, Err, refl, ◌∙◌}
 use Rattle.std.specs.Prelude.{codes, IfOk}
-use Rattle.tgap_model.specs.Texts.{line, refused_words}
+use Rattle.line_forms.specs.Texts.{line, refused_words}
 use Rattle.plain_io.specs.Fields.{fields}
 use Rattle.plain_io.proofs.Fields.{fields_put, line_put}
 

@@ -1,9 +1,9 @@
 -- The last line, and what stands after it.
 use Rattle.std.proofs.Common.{◌≡◌, ℕ, Bool, true, false, cond, List, [], ◌∷◌, Ok, Err, refl, ap, ◌∙◌}
 use Rattle.std.specs.Prelude.{codes}
-use Rattle.tgap_model.specs.Words.{Row, read_words}
-use Rattle.tgap_model.specs.Lines.{Lines, read_line, is_over}
-use Rattle.tgap_model.specs.SliceReading.{last_at}
+use Rattle.line_forms.specs.Words.{Row, read_words}
+use Rattle.line_forms.specs.Lines.{Lines, read_line, is_over}
+use Rattle.wire_text.specs.SliceReading.{last_at}
 use Rattle.plain_io.proofs.Words.{same_bytes}
 use Rattle.plain_io.proofs.Steps.{bound, read_words_is, read_line_is, lines_from}
 

@@ -12,13 +12,13 @@ use Rattle.tgap_model.specs.declared.slice.FaceRow.{FaceRow}
 use Rattle.tgap_model.specs.declared.record.Put.{Put}
 use Rattle.tgap_model.specs.declared.record.Piece.{Piece}
 use Rattle.tgap_model.specs.Base.{in_limits, no_repeat}
-use Rattle.tgap_model.specs.Words.{Row, after_word, natural_at, count_at}
-use Rattle.tgap_model.specs.Lines.{Lines, next_number, line_at, read_line}
-use Rattle.tgap_model.specs.ListingLines.{coordinate_at, read_points}
-use Rattle.tgap_model.specs.Listing.{point_words}
-use Rattle.tgap_model.specs.SliceTexts.{edge_words, face_words, put_words, piece_words}
-use Rattle.tgap_model.specs.SliceForms.{is_number, is_edge_row, is_put_row, is_piece_row}
-use Rattle.tgap_model.specs.SliceReading.{read_face_row, edge_head_at, edge_at, read_put, read_piece}
+use Rattle.line_forms.specs.Words.{Row, after_word, natural_at, count_at}
+use Rattle.line_forms.specs.Lines.{Lines, next_number, line_at, read_line}
+use Rattle.line_forms.specs.ListingLines.{coordinate_at, read_points}
+use Rattle.map_forms.specs.Listing.{point_words}
+use Rattle.wire_text.specs.SliceTexts.{edge_words, face_words, put_words, piece_words}
+use Rattle.slice_forms.specs.SliceForms.{is_number, is_edge_row, is_put_row, is_piece_row}
+use Rattle.wire_text.specs.SliceReading.{read_face_row, edge_head_at, edge_at, read_put, read_piece}
 use Rattle.plain_io.proofs.Rows.{is_plain_row}
 use Rattle.plain_io.proofs.Steps.{bound, ok_or_is, line_at_is, line_at_again, lines_from, after_word_is, number_at_is, natural_at_is, ended_is, natural_at_again}
 use Rattle.wire_text.proofs.Counts.{number_test, number_small, number_plain, number_from_is, number_from_again, count_at_is, count_at_again}

@@ -3,9 +3,9 @@ use Rattle.std.proofs.Common.{◌≡◌, ℕ, ◌-◌, ◌<◌, List, ◌∙◌,
 use Rattle.std.specs.Option.{ok_or}
 use Rattle.tgap_model.specs.declared.failure.Or.{Or}
 use Rattle.tgap_model.specs.declared.failure.Or.TheVariants.{Fault}
-use Rattle.tgap_model.specs.Words.{Row}
-use Rattle.tgap_model.specs.Lines.{Lines, read_row, read_line}
-use Rattle.tgap_model.specs.SliceReading.{each_at}
+use Rattle.line_forms.specs.Words.{Row}
+use Rattle.line_forms.specs.Lines.{Lines, read_row, read_line}
+use Rattle.wire_text.specs.SliceReading.{each_at}
 use Rattle.plain_io.specs.Taking.{Reads, Refuses}
 use Rattle.plain_io.specs.Fronts.{in_front}
 use Rattle.plain_io.proofs.Loops.{found, missing, refused, refused_at}

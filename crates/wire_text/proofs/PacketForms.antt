@@ -10,11 +10,11 @@ use Rattle.tgap_model.specs.declared.record.Put.{Put}
 use Rattle.tgap_model.specs.declared.record.Piece.{Piece}
 use Rattle.tgap_model.specs.declared.record.Mend.{Mend}
 use Rattle.tgap_model.specs.declared.record.StepRecord.{StepRecord}
-use Rattle.tgap_model.specs.Words.{Row, after_word, count_at, after_count}
-use Rattle.tgap_model.specs.Lines.{Lines, next_number, read_line}
-use Rattle.tgap_model.specs.SliceTexts.{edge_words, put_words, piece_words, mend_rows, step_words, record_rows}
-use Rattle.tgap_model.specs.SliceForms.{is_number, is_edge_row, is_put_row, is_piece_row, is_mend_row, is_record_row}
-use Rattle.tgap_model.specs.SliceReading.{read_put, read_piece, read_mend_head, read_step_head, edge_at, puts_at, pieces_at, ended_at, mend_at, mends_at, record_at}
+use Rattle.line_forms.specs.Words.{Row, after_word, count_at, after_count}
+use Rattle.line_forms.specs.Lines.{Lines, next_number, read_line}
+use Rattle.wire_text.specs.SliceTexts.{edge_words, put_words, piece_words, mend_rows, step_words, record_rows}
+use Rattle.slice_forms.specs.SliceForms.{is_number, is_edge_row, is_put_row, is_piece_row, is_mend_row, is_record_row}
+use Rattle.wire_text.specs.SliceReading.{read_put, read_piece, read_mend_head, read_step_head, edge_at, puts_at, pieces_at, ended_at, mend_at, mends_at, record_at}
 use Rattle.plain_io.proofs.Rows.{is_plain_row}
 use Rattle.plain_io.proofs.Steps.{bound, read_line_is, read_line_again, lines_from, some_rows, after_word_is, after_count_is, ended_is, after_count_again}
 use Rattle.wire_text.specs.Reading.{bad_text}

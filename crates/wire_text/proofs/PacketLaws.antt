@@ -9,12 +9,12 @@ use Rattle.tgap_model.specs.declared.failure.Or.{Or}
 use Rattle.tgap_model.specs.declared.failure.Or.TheVariants.{Fault}
 use Rattle.tgap_model.specs.declared.record.StepRecord.{StepRecord}
 use Rattle.tgap_model.specs.declared.record.Packet.{Packet}
-use Rattle.tgap_model.specs.Texts.{rows_of}
-use Rattle.tgap_model.specs.Words.{Row, after_word, natural_at, count_at}
-use Rattle.tgap_model.specs.Lines.{Lines, all_lines, next_number, read_line}
-use Rattle.tgap_model.specs.SliceTexts.{record_rows}
-use Rattle.tgap_model.specs.SliceForms.{is_number, is_record_row, goes_down, is_packet_row}
-use Rattle.tgap_model.specs.SliceReading.{IsPacketText, read_packet_head, record_at, records_at, last_at, packet_of_text}
+use Rattle.line_forms.specs.Texts.{rows_of}
+use Rattle.line_forms.specs.Words.{Row, after_word, natural_at, count_at}
+use Rattle.line_forms.specs.Lines.{Lines, all_lines, next_number, read_line}
+use Rattle.wire_text.specs.SliceTexts.{record_rows}
+use Rattle.slice_forms.specs.SliceForms.{is_number, is_record_row, goes_down, is_packet_row}
+use Rattle.wire_text.specs.SliceReading.{IsPacketText, read_packet_head, record_at, records_at, last_at, packet_of_text}
 use Rattle.plain_io.specs.Taking.{GivesWhole}
 use Rattle.plain_io.proofs.Rows.{is_plain_row, lines_from_rows, rows_again}
 use Rattle.plain_io.proofs.Steps.{bound, read_line_is, read_line_again, lines_from, some_rows, after_word_is, natural_at_is, ended_is, natural_at_again}

@@ -10,9 +10,9 @@ use Rattle.std.proofs.lemmas.Option.{option_and_then_some}
 use Rattle.tgap_model.specs.declared.geometry.Point.{Point}
 use Rattle.tgap_model.specs.declared.limits.TheConstants.{MAX_COORDINATE}
 use Rattle.tgap_model.specs.Base.{within, in_limits, no_repeat}
-use Rattle.tgap_model.specs.Words.{Row, ◌>>=◌, ended}
-use Rattle.tgap_model.specs.ListingLines.{coordinate_at, points_at, read_points}
-use Rattle.tgap_model.specs.Listing.{point_words}
+use Rattle.line_forms.specs.Words.{Row, ◌>>=◌, ended}
+use Rattle.line_forms.specs.ListingLines.{coordinate_at, points_at, read_points}
+use Rattle.map_forms.specs.Listing.{point_words}
 use Rattle.plain_io.specs.Fronts.{with_front}
 use Rattle.plain_io.proofs.Words.{is_plain_word, signed_plain}
 use Rattle.plain_io.proofs.Steps.{number_at_is, ended_is, number_at_again}

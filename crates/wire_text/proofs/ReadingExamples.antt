@@ -4,9 +4,9 @@ use Rattle.std.specs.Prelude.{codes, pos, negsuc}
 use Rattle.std.specs.Fmt.{digits}
 use Rattle.tgap_model.specs.declared.slice.Slice.{Slice}
 use Rattle.tgap_model.specs.declared.record.Packet.{Packet}
-use Rattle.tgap_model.specs.Texts.{number_of}
-use Rattle.tgap_model.specs.ListingLines.{read_count, points_at, read_points}
-use Rattle.tgap_model.specs.SliceReading.{each_at, read_face_row, faces_at, edge_head_at, edge_at, edges_at, ended_at, read_put, puts_at, read_piece, pieces_at, read_mend_head, mend_at, mends_at, read_step_head, record_at, records_at, read_packet_head, last_at, slice_of_text, packet_of_text}
+use Rattle.line_forms.specs.Texts.{number_of}
+use Rattle.line_forms.specs.ListingLines.{read_count, points_at, read_points}
+use Rattle.wire_text.specs.SliceReading.{each_at, read_face_row, faces_at, edge_head_at, edge_at, edges_at, ended_at, read_put, puts_at, read_piece, pieces_at, read_mend_head, mend_at, mends_at, read_step_head, record_at, records_at, read_packet_head, last_at, slice_of_text, packet_of_text}
 
 -- the line of a fault is the fault
 abbrev line_alone : ℕ → ℕ

@@ -11,12 +11,12 @@ use Rattle.tgap_model.specs.declared.record.Put.{Put}
 use Rattle.tgap_model.specs.declared.record.Mend.{Mend}
 use Rattle.tgap_model.specs.declared.record.StepRecord.{StepRecord}
 use Rattle.tgap_model.specs.declared.record.Packet.{Packet}
-use Rattle.tgap_model.specs.Texts.{line, lines}
-use Rattle.tgap_model.specs.Words.{Row}
-use Rattle.tgap_model.specs.Listing.{point_words, count_words}
-use Rattle.tgap_model.specs.SliceTexts.{edge_words, face_words, put_words, piece_words, mend_rows, record_rows}
-use Rattle.tgap_model.specs.SliceForms.{segment_count, record_load}
-use Rattle.tgap_model.specs.SliceReading.{IsSliceText, IsPacketText}
+use Rattle.line_forms.specs.Texts.{line, lines}
+use Rattle.line_forms.specs.Words.{Row}
+use Rattle.map_forms.specs.Listing.{point_words, count_words}
+use Rattle.wire_text.specs.SliceTexts.{edge_words, face_words, put_words, piece_words, mend_rows, record_rows}
+use Rattle.slice_forms.specs.SliceForms.{segment_count, record_load}
+use Rattle.wire_text.specs.SliceReading.{IsSliceText, IsPacketText}
 use Rattle.wire_text.proofs.SliceLaws.{sections, one_by_one}
 
 -- words that are joined have at least as many bytes as there are words, but one

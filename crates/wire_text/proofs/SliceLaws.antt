@@ -12,14 +12,14 @@ use Rattle.tgap_model.specs.declared.failure.Or.TheVariants.{Fault}
 use Rattle.tgap_model.specs.declared.slice.Edge.{Edge}
 use Rattle.tgap_model.specs.declared.slice.FaceRow.{FaceRow}
 use Rattle.tgap_model.specs.declared.slice.Slice.{Slice}
-use Rattle.tgap_model.specs.Texts.{rows_of}
-use Rattle.tgap_model.specs.Words.{Row}
-use Rattle.tgap_model.specs.Lines.{Lines, all_lines, next_number, read_line}
-use Rattle.tgap_model.specs.ListingLines.{read_count}
-use Rattle.tgap_model.specs.Listing.{count_words}
-use Rattle.tgap_model.specs.SliceTexts.{face_words, edge_words, slice_rows}
-use Rattle.tgap_model.specs.SliceForms.{is_number, is_face_row, is_edge_row, is_slice_row}
-use Rattle.tgap_model.specs.SliceReading.{IsSliceText, count_line_at, read_face_row, faces_at, edge_at, edges_at, last_at, slice_of_text}
+use Rattle.line_forms.specs.Texts.{rows_of}
+use Rattle.line_forms.specs.Words.{Row}
+use Rattle.line_forms.specs.Lines.{Lines, all_lines, next_number, read_line}
+use Rattle.line_forms.specs.ListingLines.{read_count}
+use Rattle.map_forms.specs.Listing.{count_words}
+use Rattle.wire_text.specs.SliceTexts.{face_words, edge_words, slice_rows}
+use Rattle.slice_forms.specs.SliceForms.{is_number, is_face_row, is_edge_row, is_slice_row}
+use Rattle.wire_text.specs.SliceReading.{IsSliceText, count_line_at, read_face_row, faces_at, edge_at, edges_at, last_at, slice_of_text}
 use Rattle.plain_io.specs.Taking.{GivesWhole}
 use Rattle.plain_io.proofs.Rows.{is_plain_row, lines_from_rows, rows_again}
 use Rattle.plain_io.proofs.Steps.{bound, read_line_is, read_line_again, lines_from, some_rows}

@@ -1,8 +1,8 @@
 -- What the steps of reading a text answer, beside the definitions of what is read.
 use Rattle.std.specs.Prelude.{◌≡◌, ℕ, Option, Some, None}
 use Rattle.tgap_model.specs.declared.geometry.Point.{Point}
-use Rattle.tgap_model.specs.Words.{Row, ◌>>=◌}
-use Rattle.tgap_model.specs.ListingLines.{coordinate_at}
+use Rattle.line_forms.specs.Words.{Row, ◌>>=◌}
+use Rattle.line_forms.specs.ListingLines.{coordinate_at}
 use Rattle.wire_text.specs.declared.row_reading.BadText.{BadText}
 use Rattle.wire_text.specs.declared.row_reading.EdgeHead.{EdgeHead}
 use Rattle.wire_text.specs.declared.packet_reading.MendHead.{MendHead}

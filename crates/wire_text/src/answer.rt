@@ -2,7 +2,7 @@
 
 ghost use Rattle.std.specs.Prelude.{◌≡◌, ◌≤◌, IfOk};
 ghost use Rattle.tgap_model.specs.Base.{count_points};
-ghost use Rattle.tgap_model.specs.Texts.{ok_text, step_too_high_text};
+ghost use Rattle.line_forms.specs.Texts.{ok_text, step_too_high_text};
 
 use plain_io::{put_count, put_size};
 use std::alloc::Global;

@@ -1,7 +1,7 @@
 //! The borders text.
 
 ghost use Rattle.std.specs.Prelude.{◌≡◌, ◌++◌, OnOk, IfOk};
-ghost use Rattle.tgap_model.specs.Texts.{line, border_words, borders_text};
+ghost use Rattle.line_forms.specs.Texts.{line, border_words, borders_text};
 
 use plain_io::put_count;
 use std::alloc::Global;

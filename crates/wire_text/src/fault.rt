@@ -3,7 +3,7 @@
 ghost use Rattle.std.specs.Prelude.{◌≡◌, ◌++◌, ◌∷◌, [], map, codes, IfOk, OnOk};
 ghost use Rattle.std.specs.Fmt.{signed_decimal};
 ghost use Rattle.tgap_model.specs.declared.fault.MapFault.TheVariants as variant;
-ghost use Rattle.tgap_model.specs.Texts.{line, refused_words, fault_text};
+ghost use Rattle.line_forms.specs.Texts.{line, refused_words, fault_text};
 ghost use Rattle.plain_io.specs.Fields.{fields};
 
 use plain_io::put_field;

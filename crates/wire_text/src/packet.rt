@@ -1,8 +1,8 @@
 //! The text of a packet.
 
 ghost use Rattle.std.specs.Prelude.{◌≡◌, ◌++◌, map, flat_map, OnOk, IfOk};
-ghost use Rattle.tgap_model.specs.Texts.{line, lines};
-ghost use Rattle.tgap_model.specs.SliceTexts.{put_words, piece_words, mend_rows, step_words, record_rows, packet_text};
+ghost use Rattle.line_forms.specs.Texts.{line, lines};
+ghost use Rattle.wire_text.specs.SliceTexts.{put_words, piece_words, mend_rows, step_words, record_rows, packet_text};
 
 use crate::rows::{put_counts, put_edges, put_point};
 use plain_io::{put_count, put_size};

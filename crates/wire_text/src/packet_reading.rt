@@ -2,9 +2,9 @@
 
 ghost use Rattle.std.specs.Prelude.{◌≡◌, ◌*◌, ◌-◌, ◌≤◌, length, sum_by, IfOk, IfSome, Ok, Err};
 ghost use Rattle.tgap_model.specs.declared.record.Packet.{Packet as PacketRead};
-ghost use Rattle.tgap_model.specs.Lines.{read_row};
-ghost use Rattle.tgap_model.specs.SliceForms.{record_load};
-ghost use Rattle.tgap_model.specs.SliceReading.{IsPacketText, read_packet_head, read_step_head, read_mend_head, read_put, read_piece, records_at, record_at, mends_at, mend_at, puts_at, pieces_at, ended_at, packet_of_text};
+ghost use Rattle.line_forms.specs.Lines.{read_row};
+ghost use Rattle.slice_forms.specs.SliceForms.{record_load};
+ghost use Rattle.wire_text.specs.SliceReading.{IsPacketText, read_packet_head, read_step_head, read_mend_head, read_put, read_piece, records_at, record_at, mends_at, mend_at, puts_at, pieces_at, ended_at, packet_of_text};
 ghost use Rattle.plain_io.specs.Taking.{Reads, Gives, GivesWhole};
 ghost use Rattle.wire_text.specs.declared.row_reading.BadText.{BadText as Fault};
 ghost use Rattle.wire_text.specs.Reading.{bad_text, ReadsAs, mend_numbers, step_numbers};
@@ -35,7 +35,7 @@ pub fn read_packet(alloc: Global, bytes: &[u8]) -> Result<Packet, Or<BadText>>
 }
 
 /// The packet that the bytes spell, or the first line at fault.
-#[tactic(auto, unfolding(tgap_model::specs::SliceReading::packet_of_text))]
+#[tactic(auto, unfolding(crate::specs::SliceReading::packet_of_text))]
 fn read_checked(alloc: Global, bytes: &[u8]) -> Result<Packet, Or<BadText>>
     ensures { GivesWhole result (packet_of_text bad_text bytes.now) }
 {
@@ -47,7 +47,7 @@ fn read_checked(alloc: Global, bytes: &[u8]) -> Result<Packet, Or<BadText>>
 }
 
 /// The steps between which the packet leads, the second not above the first.
-#[tactic(auto, unfolding(tgap_model::specs::SliceReading::read_packet_head))]
+#[tactic(auto, unfolding(crate::specs::SliceReading::read_packet_head))]
 fn read_head(lines: &mut Lines) -> Option<(u32, u32)>
     ensures read { Reads result lines.new (read_row read_packet_head lines.old) }
     ensures down { IfSome result (λ ends. ends.1 ≤ ends.0) }
@@ -79,7 +79,7 @@ fn records_at(
 }
 
 /// The record of this step: its mends, and then the edges that come back.
-#[tactic(auto, unfolding(tgap_model::specs::SliceReading::record_at))]
+#[tactic(auto, unfolding(crate::specs::SliceReading::record_at))]
 fn read_record(alloc: Global, lines: &mut Lines, step: u32) -> Result<StepRecord, Or<BadText>>
     ensures { Gives result lines.new (record_at bad_text step lines.old) }
 {
@@ -111,7 +111,7 @@ struct StepHead {
 }
 
 /// The line of this step.
-#[tactic(auto, unfolding(tgap_model::specs::SliceReading::read_step_head))]
+#[tactic(auto, unfolding(crate::specs::SliceReading::read_step_head))]
 fn read_step(lines: &mut Lines, step: u32) -> Option<StepHead>
     ensures { ReadsAs step_numbers result lines.new (read_row (read_step_head step) lines.old) }
 {
@@ -152,7 +152,7 @@ fn mends_at(alloc: Global, lines: &mut Lines, n: u32) -> Result<List<Mend>, Or<B
 }
 
 /// A mend: the vertices that come back, and then the pieces.
-#[tactic(auto, unfolding(tgap_model::specs::SliceReading::mend_at))]
+#[tactic(auto, unfolding(crate::specs::SliceReading::mend_at))]
 fn read_mend(alloc: Global, lines: &mut Lines) -> Result<Mend, Or<BadText>>
     ensures { Gives result lines.new (mend_at bad_text lines.old) }
 {
@@ -175,7 +175,7 @@ struct MendHead {
 }
 
 /// The line of a mend.
-#[tactic(auto, unfolding(tgap_model::specs::SliceReading::read_mend_head))]
+#[tactic(auto, unfolding(crate::specs::SliceReading::read_mend_head))]
 fn read_mend_head(lines: &mut Lines) -> Option<MendHead>
     ensures { ReadsAs mend_numbers result lines.new (read_row read_mend_head lines.old) }
 {
@@ -200,7 +200,7 @@ fn puts_at(alloc: Global, lines: &mut Lines, n: u32) -> Result<List<Put>, Or<Bad
 }
 
 /// A vertex that comes back, and its place.
-#[tactic(auto, unfolding(tgap_model::specs::SliceReading::read_put))]
+#[tactic(auto, unfolding(crate::specs::SliceReading::read_put))]
 fn read_put(lines: &mut Lines) -> Option<Put>
     ensures { Reads result lines.new (read_row read_put lines.old) }
 {
@@ -224,7 +224,7 @@ fn pieces_at(alloc: Global, lines: &mut Lines, n: u32) -> Result<List<Piece>, Or
 }
 
 /// A piece of an edge.
-#[tactic(auto, unfolding(tgap_model::specs::SliceReading::read_piece))]
+#[tactic(auto, unfolding(crate::specs::SliceReading::read_piece))]
 fn read_piece(lines: &mut Lines) -> Option<Piece>
     ensures { Reads result lines.new (read_row read_piece lines.old) }
 {

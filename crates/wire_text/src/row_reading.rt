@@ -2,10 +2,10 @@
 
 ghost use Rattle.std.specs.Prelude.{◌≡◌, ◌≤◌, ◌+◌, ◌-◌, ◌^◌, ◌∷◌, [], codes};
 ghost use Rattle.std.specs.Option.{ok_or};
-ghost use Rattle.tgap_model.specs.Words.{natural_at, read_words};
-ghost use Rattle.tgap_model.specs.Lines.{read_row, read_line};
-ghost use Rattle.tgap_model.specs.ListingLines.{read_count, coordinate_at, points_at, read_points};
-ghost use Rattle.tgap_model.specs.SliceReading.{read_face_row, edge_head_at, edge_at, last_at};
+ghost use Rattle.line_forms.specs.Words.{natural_at, read_words};
+ghost use Rattle.line_forms.specs.Lines.{read_row, read_line};
+ghost use Rattle.line_forms.specs.ListingLines.{read_count, coordinate_at, points_at, read_points};
+ghost use Rattle.wire_text.specs.SliceReading.{read_face_row, edge_head_at, edge_at, last_at};
 ghost use Rattle.plain_io.specs.Taking.{Takes, Reads, Gives, GivesWhole};
 ghost use Rattle.wire_text.specs.Reading.{bad_text, point_at, ReadsAs, edge_numbers};
 
@@ -33,7 +33,7 @@ impl LineFault for BadText {
 }
 
 /// A line of this keyword and a count.
-#[tactic(auto, unfolding(tgap_model::specs::ListingLines::read_count))]
+#[tactic(auto, unfolding(line_forms::specs::ListingLines::read_count))]
 pub fn read_count(lines: &mut Lines, keyword: &[u8]) -> Option<u32>
     ensures { Reads result lines.new (read_row (read_count keyword.now 0 (2 ^ 32 - 1)) lines.old) }
 {
@@ -53,7 +53,7 @@ fn number_from(words: &mut Pieces, least: u64) -> Option<u32>
 }
 
 /// A face with a number from `least` on, and its class.
-#[tactic(auto, unfolding(tgap_model::specs::SliceReading::read_face_row))]
+#[tactic(auto, unfolding(crate::specs::SliceReading::read_face_row))]
 pub fn read_face(lines: &mut Lines, least: u64) -> Option<FaceRow>
     requires { least ≤ 2 ^ 32 }
     ensures { Reads result lines.new (read_row (read_face_row least) lines.old) }
@@ -66,7 +66,7 @@ pub fn read_face(lines: &mut Lines, least: u64) -> Option<FaceRow>
 }
 
 /// An edge with a key from `least` on.
-#[tactic(auto, unfolding(tgap_model::specs::SliceReading::edge_at))]
+#[tactic(auto, unfolding(crate::specs::SliceReading::edge_at))]
 pub fn read_edge(alloc: Global, lines: &mut Lines, least: u64) -> Result<Edge, Or<BadText>>
     requires { least ≤ 2 ^ 32 }
     ensures { Gives result lines.new (edge_at bad_text least lines.old) }
@@ -93,7 +93,7 @@ struct EdgeHead {
 }
 
 /// The head of an edge with a key from `least` on.
-#[tactic(auto, unfolding(tgap_model::specs::SliceReading::edge_head_at))]
+#[tactic(auto, unfolding(crate::specs::SliceReading::edge_head_at))]
 fn edge_head_at(words: &mut Pieces, least: u64) -> Option<EdgeHead>
     requires { least ≤ 2 ^ 32 }
     ensures { ReadsAs edge_numbers result words.new (edge_head_at least words.old) }
@@ -112,7 +112,7 @@ fn edge_head_at(words: &mut Pieces, least: u64) -> Option<EdgeHead>
 }
 
 /// The `n` points to the end of the line with this number, no two in a row equal.
-#[tactic(auto, unfolding(tgap_model::specs::ListingLines::read_points))]
+#[tactic(auto, unfolding(line_forms::specs::ListingLines::read_points))]
 fn read_points(
     alloc: Global,
     words: &mut Pieces,
@@ -160,7 +160,7 @@ fn coordinate_at(words: &mut Pieces) -> Option<i64>
 }
 
 /// The last line, and nothing after it.
-#[tactic(auto, unfolding(tgap_model::specs::SliceReading::last_at))]
+#[tactic(auto, unfolding(crate::specs::SliceReading::last_at))]
 pub fn read_last(lines: &mut Lines) -> Result<(), Or<BadText>>
     ensures { GivesWhole result (last_at bad_text lines.old) }
 {

@@ -2,9 +2,9 @@
 
 ghost use Rattle.std.specs.Prelude.{◌≡◌, ◌++◌, ◌∷◌, map, flat_map, length, codes, decimal, OnOk};
 ghost use Rattle.std.specs.Fmt.{signed_decimal};
-ghost use Rattle.tgap_model.specs.Texts.{line, lines};
-ghost use Rattle.tgap_model.specs.Listing.{point_words, count_words};
-ghost use Rattle.tgap_model.specs.SliceTexts.{face_words, edge_words, slice_rows};
+ghost use Rattle.line_forms.specs.Texts.{line, lines};
+ghost use Rattle.map_forms.specs.Listing.{point_words, count_words};
+ghost use Rattle.wire_text.specs.SliceTexts.{face_words, edge_words, slice_rows};
 ghost use Rattle.plain_io.specs.Fields.{fields};
 
 use plain_io::{put_count, put_field, put_size};

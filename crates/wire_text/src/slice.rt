@@ -1,7 +1,7 @@
 //! The text of a slice.
 
 ghost use Rattle.std.specs.Prelude.{◌≡◌, IfOk};
-ghost use Rattle.tgap_model.specs.SliceTexts.{slice_text};
+ghost use Rattle.wire_text.specs.SliceTexts.{slice_text};
 
 use crate::rows::{put_count_line, put_slice_rows};
 use std::alloc::Global;

@@ -2,9 +2,9 @@
 
 ghost use Rattle.std.specs.Prelude.{◌≡◌, ◌*◌, ◌≤◌, length, IfOk, Ok, Err};
 ghost use Rattle.tgap_model.specs.declared.slice.Slice.{Slice as SliceRead};
-ghost use Rattle.tgap_model.specs.SliceTexts.{slice_text};
-ghost use Rattle.tgap_model.specs.SliceForms.{is_slice_row, segment_count};
-ghost use Rattle.tgap_model.specs.SliceReading.{IsSliceText, faces_at, edges_at, slice_of_text};
+ghost use Rattle.wire_text.specs.SliceTexts.{slice_text};
+ghost use Rattle.slice_forms.specs.SliceForms.{is_slice_row, segment_count};
+ghost use Rattle.wire_text.specs.SliceReading.{IsSliceText, faces_at, edges_at, slice_of_text};
 ghost use Rattle.plain_io.specs.Taking.{Gives, GivesWhole};
 ghost use Rattle.wire_text.specs.declared.row_reading.BadText.{BadText as Fault};
 ghost use Rattle.wire_text.specs.Reading.{bad_text};
@@ -35,7 +35,7 @@ pub fn read_slice(alloc: Global, bytes: &[u8]) -> Result<Slice, Or<BadText>>
 }
 
 /// The slice that the bytes spell, or the first line at fault.
-#[tactic(auto, unfolding(tgap_model::specs::SliceReading::slice_of_text))]
+#[tactic(auto, unfolding(crate::specs::SliceReading::slice_of_text))]
 fn read_checked(alloc: Global, bytes: &[u8]) -> Result<Slice, Or<BadText>>
     ensures { GivesWhole result (slice_of_text bad_text bytes.now) }
 {

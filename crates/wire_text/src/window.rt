@@ -2,8 +2,8 @@
 
 ghost use Rattle.std.specs.Prelude.{◌≡◌, ◌++◌, ◌∷◌, [], OnOk, IfOk};
 ghost use Rattle.std.specs.Fmt.{signed_decimal};
-ghost use Rattle.tgap_model.specs.Texts.{line};
-ghost use Rattle.tgap_model.specs.SliceTexts.{window_words, window_text};
+ghost use Rattle.line_forms.specs.Texts.{line};
+ghost use Rattle.wire_text.specs.SliceTexts.{window_words, window_text};
 ghost use Rattle.plain_io.specs.Fields.{fields};
 
 use crate::rows::{put_coordinate, put_slice_rows};

@@ -5,8 +5,8 @@ use Rattle.tgap_model.specs.declared.fault.MapFault.TheVariants.{BadLine}
 use Rattle.tgap_model.specs.declared.failure.Or.TheVariants.{Fault}
 use Rattle.tgap_model.specs.Base.{BaseMap}
 use Rattle.area_listing.specs.Reading.{map_of}
-use Rattle.tgap_model.specs.Lines.{◌>>=◌}
-use Rattle.tgap_model.specs.Listing.{end_at}
+use Rattle.line_forms.specs.Lines.{◌>>=◌}
+use Rattle.map_forms.specs.Listing.{end_at}
 use Rattle.plain_io.specs.Taking.{Refuses}
 use Rattle.area_listing.proofs.Laws.{listing_from, no_border, no_end, all_read}
 use Rattle.area_listing.proofs.read_checked.Goals as goal

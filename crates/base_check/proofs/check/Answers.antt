@@ -1,7 +1,7 @@
 use Rattle.std.proofs.Common.{◌≡◌, Ok, Err, Some, None, option_map, sym, ap, ◌∙◌, subst}
 use Rattle.tgap_model.specs.declared.failure.Or.TheVariants.{Fault}
 use Rattle.tgap_model.specs.Partition.{AgreesAtNodes, base_segments, stack_fault_of}
-use Rattle.tgap_model.specs.Evidence.{IsShownBy}
+use Rattle.grid_geo.specs.Evidence.{IsShownBy}
 use Rattle.planar_stack.specs.Sweep.{disagrees}
 use Rattle.base_check.proofs.Agreement.{two_faces, map_fault-sound, map_fault-arcs}
 use Rattle.base_check.proofs.check.Goals as goal

@@ -1,6 +1,6 @@
 use Rattle.std.proofs.Common.{◌≡◌, Ok, Some, None, option_map, sym, ap, ◌∙◌, subst}
 use Rattle.tgap_model.specs.Partition.{base_segments, meeting_fault, ring_fault_of}
-use Rattle.tgap_model.specs.Evidence.{IsShownBy}
+use Rattle.grid_geo.specs.Evidence.{IsShownBy}
 use Rattle.planar_apart.specs.Meetings.{meets}
 use Rattle.base_check.specs.Spokes.{disagrees}
 use Rattle.base_check.proofs.Agreement.{meeting_is_fault, node_is_fault, no_meeting, no_node_gap}

@@ -1,19 +1,18 @@
 //! A map before its first step.
 
-ghost use Rattle.std.specs.Prelude.{◌≡◌, ◌⊎◌, ◌≤◌, ◌<◌, ◌*◌, ◌+◌, ◌^◌, ℕ, ℤ, true, map, length, slice_index, [], IfOk, OnOk, IsSome, IsTrue};
+ghost use Rattle.std.specs.Prelude.{◌≡◌, ◌≤◌, ◌<◌, ◌*◌, ◌+◌, ◌^◌, ℕ, map, length, slice_index, count_by, [], IfOk, IsTrue};
 ghost use Rattle.std.specs.List.{All};
 ghost use Rattle.tgap_model.specs.Base.{is_base};
 ghost use Rattle.tgap_model.specs.History.{labelled};
 ghost use Rattle.face_merge.specs.Links.{length_at};
 ghost use Rattle.face_merge.specs.Linking.{link_of};
 ghost use Rattle.face_merge.specs.Measures.{IsMeasured, measure_of};
-ghost use Rattle.face_merge.specs.Merging.{AreAreas, begin};
-ghost use Rattle.face_merge.specs.Queue.{waits};
+ghost use Rattle.face_merge.specs.Merging.{AreAreas, begin, permits_in};
 ghost use Rattle.face_merge.specs.Running.{IsRunning, IsQueueBelow};
 
-use super::{Merging, importance};
+use super::{Merging, importance, permits};
 use crate::areas::areas_of;
-use crate::links::Links;
+use crate::links::{Link, Links};
 use crate::measures::{Measure, labelled_arcs};
 use crate::queue::Queue;
 use std::alloc::Global;
@@ -41,24 +40,32 @@ fn numbers_below(alloc: Global, end: u32) -> Result<Vec<u32>, Memory>
     Ok(numbers)
 }
 
-/// Lets a face wait, where it has a link.
-pub fn wait(
-    queue: &mut Queue,
-    links: &Links,
-    importance: i128,
-    number: u32,
-    slot: u32,
-) -> Result<(), Memory>
-    requires { slot + 1 < 2 ^ 32 }
-    ensures added { OnOk result ((t : ℕ) → IsSome (length_at links.now slot t) → waits queue.new importance number slot ≡ true) }
-    ensures kept { OnOk result ((i : ℤ) (n s : ℕ) → waits queue.old i n s ≡ true → waits queue.new i n s ≡ true) }
-    ensures only { OnOk result ((i : ℤ) (n s : ℕ) → waits queue.new i n s ≡ true → (waits queue.old i n s ≡ true)
-        ⊎ ((i ≡ importance) × (n ≡ number) × (s ≡ slot) × ((t : ℕ) × IsSome (length_at links.now slot t)))) }
+/// Whether a face of a base map permits another as its neighbour.
+fn permits_face(base: &Base, face: u32, other: u32) -> bool
+    requires face { 0 < face }
+    requires below { face ≤ length base.now.classes }
+    requires other { 0 < other }
+    requires other_below { other ≤ length base.now.classes }
+    ensures { result ≡ permits_in (begin base.now) face other }
 {
-    if links.any(slot) {
-        queue.insert(importance, number, slot)?;
+    let classes = base.classes().as_slice();
+    let class = classes[face as usize - 1];
+    let other_class = classes[other as usize - 1];
+    permits(base.rules(), class, other_class)
+}
+
+/// How many permitted neighbours a face of a base map has, by its links.
+fn permitted_of(base: &Base, face: u32, links: &[Link]) -> usize
+    requires face { 0 < face }
+    requires below { face ≤ length base.now.classes }
+    requires links { All (λ link. (0 < link.slot) × (link.slot ≤ length base.now.classes)) links.now }
+    ensures { result ≡ count_by (λ link. permits_in (begin base.now) face link.slot) links.now }
+{
+    let mut count = 0;
+    for link in links {
+        count += usize::from(permits_face(base, face, link.slot));
     }
-    Ok(())
+    count
 }
 
 /// The queue of the faces of a base map.
@@ -66,13 +73,15 @@ fn queue_of(alloc: Global, base: &Base, areas: &[i128], links: &Links) -> Result
     requires areas { AreAreas (length base.now.classes) (map labelled base.now.arcs) areas.now }
     requires measured { All IsMeasured (map labelled base.now.arcs) }
     requires links { (s t : ℕ) → length_at links.now s t ≡ link_of (map labelled base.now.arcs) s t }
-    ensures { IfOk result (λ queue. IsQueueBelow (begin base.now) (length base.now.classes + 1) (waits queue)) }
+    ensures { IfOk result (λ queue. IsQueueBelow (begin base.now) (length base.now.classes + 1) (length base.now.classes + 1) queue) }
 {
     let classes = base.classes().as_slice();
-    let mut queue = Queue::new(alloc);
+    let mut queue = Queue::new(alloc, areas.len())?;
     for slot in 1..areas.len() {
         let importance = importance(base.rules(), classes[slot - 1], areas[slot]);
-        wait(&mut queue, links, importance, slot as u32, slot as u32)?;
+        let face = slot as u32;
+        let own = links.of(alloc, face)?;
+        queue.set(importance, face, face, permitted_of(base, face, &own))?;
     }
     Ok(queue)
 }

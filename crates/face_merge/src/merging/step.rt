@@ -4,7 +4,6 @@ ghost use Rattle.std.specs.Prelude.{◌≡◌, ◌≢◌, ◌⊎◌, ◌<◌, �
 ghost use Rattle.face_merge.specs.Links.{AreLinksOf, ArePaired, Fit, joined, length_at};
 ghost use Rattle.face_merge.specs.Running.{AreEnds, IsNextPair, IsRunning, step_of};
 
-use super::start::wait;
 use super::{Merging, Pair, importance};
 use crate::links::Links;
 use std::alloc::Global;
@@ -45,7 +44,8 @@ fn join(alloc: Global, links: &mut Links, pair: &Pair) -> Result<Ends, Memory>
 }
 
 impl<'a> Merging<'a> {
-    /// Takes the next step: the new face has the class of the winner, and the areas and the links of both faces.
+    /// Takes the next step: the new face has the class of the winner, and the areas and the links of both faces. The
+    /// neighbours of the loser see another class in its place, so each of them may come to wait, or wait no longer.
     pub fn take(self, alloc: Global, pair: Pair) -> Result<Merging<'a>, Memory>
         requires running { IsRunning self }
         requires next { IsNextPair self pair }
@@ -55,6 +55,8 @@ impl<'a> Merging<'a> {
     {
         let loser = self.face(pair.loser);
         let winner = self.face(pair.winner);
+        let neighbours = self.neighbours_after(alloc, &pair, loser, winner, &pair.links)?;
+        let permitted = self.permitted_of_made(&pair, loser, winner);
         let made = self.classes.len() as u32 + 1;
         let area = loser.area + winner.area;
         let Merging {
@@ -68,9 +70,10 @@ impl<'a> Merging<'a> {
         } = self;
         let importance = importance(base.rules(), winner.class, area);
         let ends = join(alloc, &mut links, &pair)?;
-        queue.remove(loser.importance, loser.number, pair.loser);
-        queue.remove(winner.importance, winner.number, pair.winner);
-        wait(&mut queue, &links, importance, made, ends.to)?;
+        queue.set(loser.importance, loser.number, pair.loser, 0)?;
+        queue.set(winner.importance, winner.number, pair.winner, 0)?;
+        queue.set(importance, made, ends.to, permitted)?;
+        queue.set_all(&neighbours)?;
         numbers[ends.from as usize] = 0;
         numbers[ends.to as usize] = made;
         areas[ends.to as usize] = area;

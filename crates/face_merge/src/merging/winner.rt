@@ -1,12 +1,12 @@
-//! The winner: the neighbour of the loser that takes it best.
+//! The winner: the permitted neighbour of the loser that takes it best.
 
-ghost use Rattle.std.specs.Prelude.{◌≡◌, ◌||◌, ◌&&◌, ◌==◌, nat_lt, length, MatchOption, IfSome};
+ghost use Rattle.std.specs.Prelude.{◌≡◌, ◌||◌, ◌&&◌, ◌==◌, nat_lt, MatchOption, IfSome, IsTrue};
 ghost use Rattle.std.specs.List.{All};
 ghost use Rattle.tgap_model.specs.History.{class_of};
-ghost use Rattle.face_merge.specs.Merging.{score_of};
-ghost use Rattle.face_merge.specs.Running.{IsRunning, IsLive, IsLinkOf, IsBestLink, IsBetterLink, state_of, number_in};
+ghost use Rattle.face_merge.specs.Merging.{score_of, permits_in};
+ghost use Rattle.face_merge.specs.Running.{IsRunning, IsLive, IsFaceAt, IsLinkOf, IsPermitted, IsBestLink, IsBetterLink, AreBarred, state_of, number_in};
 
-use super::{Face, Merging};
+use super::{Face, Merging, compatibility};
 use crate::links::Link;
 
 /// Whether a face of this score and number wins before another: its score is greater, or the same with the smaller
@@ -25,11 +25,8 @@ impl Merging<'_> {
         requires link { IsLinkOf self.now loser.number link }
         ensures { result ≡ score_of (state_of self.now) loser.number (number_in self.now link.slot) }
     {
-        let rules = self.base.rules();
         let winner = self.face(link.slot);
-        let row = loser.class as usize * rules.weights.len();
-        let column = winner.class as usize;
-        let compatibility = rules.compat.as_slice()[row + column];
+        let compatibility = compatibility(self.base.rules(), loser.class, winner.class);
         u128::from(compatibility) * u128::from(link.length)
     }
 
@@ -50,17 +47,21 @@ impl Merging<'_> {
         if wins { link } else { best }
     }
 
-    /// Of the links of the loser, the one whose face has the greatest score, and of such the one with the least number.
+    /// Of the links of the loser to permitted neighbours, the one whose face has the greatest score, and of such the one
+    /// with the least number.
     pub fn best_link(&self, loser: u32, links: &[Link]) -> Option<Link>
         requires running { IsRunning self.now }
         requires live { IsLive self.now loser }
         requires links { All (IsLinkOf self.now (number_in self.now loser)) links.now }
-        ensures { MatchOption result (length links.now ≡ 0) (IsBestLink self.now (number_in self.now loser) links.now) }
+        ensures { MatchOption result (AreBarred self.now (number_in self.now loser) links.now) (IsBestLink self.now (number_in self.now loser) links.now) }
     {
-        let loser = self.face(loser);
+        let face = self.face(loser);
         let mut best = None;
         for link in links {
-            best = Some(self.better(loser, best, *link));
+            let neighbour = self.face(link.slot);
+            if self.permits(loser, face, link.slot, neighbour) {
+                best = Some(self.better(face, best, *link));
+            }
         }
         best
     }

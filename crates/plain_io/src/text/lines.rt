@@ -1,7 +1,7 @@
 //! The lines of a text, one after another.
 
 ghost use Rattle.std.specs.Prelude.{◌≡◌};
-ghost use Rattle.tgap_model.specs.Lines.{all_lines, line_at, is_over};
+ghost use Rattle.line_forms.specs.Lines.{all_lines, line_at, is_over};
 ghost use Rattle.plain_io.specs.Taking.{Takes};
 
 use super::pieces::Pieces;
@@ -15,7 +15,7 @@ pub struct Lines<'a> {
 }
 
 impl<'a> Model for Lines<'a> {
-    ghost use Rattle.tgap_model.specs.Lines.{Lines as LinesLeft};
+    ghost use Rattle.line_forms.specs.Lines.{Lines as LinesLeft};
     ghost use Rattle.plain_io.specs.Taking.{rows};
 
     ghost Value = { LinesLeft };

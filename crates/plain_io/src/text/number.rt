@@ -3,7 +3,7 @@
 ghost use Rattle.std.specs.Prelude.{◌≡◌, ◌≢◌, ℤ, ◌≤ℤ◌, ◌++◌, ◌∷◌, ◌↔◌, FitsSigned, Some, IfSome, IfNone, IsTrue, decimal, is_ok, if◌then◌else◌};
 ghost use Rattle.std.specs.Int.{w64};
 ghost use Rattle.std.specs.Fmt.{signed_decimal};
-ghost use Rattle.tgap_model.specs.Texts.{number_of};
+ghost use Rattle.line_forms.specs.Texts.{number_of};
 
 use itoa::Buffer;
 use std::alloc::Global;

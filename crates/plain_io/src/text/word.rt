@@ -1,7 +1,7 @@
 //! The words of a line, one after another. A step that finds nothing of its form takes nothing.
 
 ghost use Rattle.std.specs.Prelude.{◌≡◌, ◌≤◌, ◌≤ℤ◌, IfSome};
-ghost use Rattle.tgap_model.specs.Words.{after_word, number_at, natural_at, count_at, after_count, ended};
+ghost use Rattle.line_forms.specs.Words.{after_word, number_at, natural_at, count_at, after_count, ended};
 ghost use Rattle.plain_io.specs.Taking.{Takes, Skips};
 
 use super::number::read_number;

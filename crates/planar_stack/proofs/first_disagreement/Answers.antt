@@ -2,7 +2,7 @@
 use Rattle.std.proofs.Common.{List, None, AllPairs, IfOk, ◌≡◌, sym, ◌∙◌, subst}
 use Rattle.tgap_model.specs.declared.segment.LabelledSegment.{LabelledSegment}
 use Rattle.tgap_model.specs.Partition.{AreApart}
-use Rattle.tgap_model.specs.Evidence.{IsFirstStackGap}
+use Rattle.grid_geo.specs.Evidence.{IsFirstStackGap}
 use Rattle.planar_stack.specs.Sweep.{FacesAgree}
 use Rattle.planar_stack.proofs.Swept.{answer_agrees, answer_only, answer_shown}
 use Rattle.planar_stack.proofs.first_disagreement.Goals as goal

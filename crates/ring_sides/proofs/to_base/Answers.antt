@@ -3,8 +3,8 @@ use Rattle.std.proofs.Common.{◌≡◌, ◌∙◌, ap, sym, subst, Ok, List, le
 use Rattle.tgap_model.specs.declared.geometry.Point.{Point}
 use Rattle.tgap_model.specs.declared.topology.RawPolygon.{RawPolygon}
 use Rattle.tgap_model.specs.Base.{BaseMap}
-use Rattle.tgap_model.specs.Json.{try_fold}
-use Rattle.tgap_model.specs.Rings.{nothing_taken, polygon_taken, sided_from, based}
+use Rattle.line_forms.specs.Json.{try_fold}
+use Rattle.topology_forms.specs.Rings.{nothing_taken, polygon_taken, sided_from, based}
 use Rattle.ring_sides.specs.Taking.{HasSides}
 use Rattle.ring_sides.proofs.Read.{raw_map_facts, rings_formed, made_some}
 use Rattle.ring_sides.proofs.RingSides.{sides_told, fault_shown}

@@ -3,7 +3,7 @@ use Rattle.std.specs.Prelude.{count_by}
 use Rattle.std.proofs.lemmas.List.{length-map}
 use Rattle.serde_json.specs.View.{view}
 use Rattle.tgap_model.specs.declared.limits.TheConstants.{MAX_ARCS, MAX_POINTS, MAX_FACES}
-use Rattle.tgap_model.specs.Topology.{has_ring}
+use Rattle.topology_forms.specs.Topology.{has_ring}
 use Rattle.topo_read.proofs.ArcForm.{arcs_read}
 use Rattle.topo_read.proofs.MapForm.{raw_map}
 use Rattle.topo_read.proofs.read_parts.Goals as goal

@@ -1,6 +1,6 @@
 use Rattle.std.proofs.Common.{◌≡◌, Some, option_map, sym, ap, ◌∙◌, arith}
 use Rattle.serde_json.specs.View.{view}
-use Rattle.tgap_model.specs.Json.{tree}
+use Rattle.line_forms.specs.Json.{tree}
 use Rattle.topo_read.proofs.Sizes.{size_of_tree}
 use Rattle.topo_read.proofs.InParts.{tree_goes_on, tree_stops}
 use Rattle.topo_read.proofs.read_topology.Goals as goal

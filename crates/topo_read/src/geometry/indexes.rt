@@ -6,9 +6,9 @@ ghost use Rattle.std.specs.Option.{ok_or};
 ghost use Rattle.serde_json.specs.View.{view};
 ghost use Rattle.tgap_model.specs.declared.fault.MapFault.TheVariants as fault;
 ghost use Rattle.tgap_model.specs.declared.failure.Or.TheVariants as or;
-ghost use Rattle.tgap_model.specs.Json.{try_fold};
-ghost use Rattle.tgap_model.specs.Topology.{ring_of, rings_of, polygons_of, names_arc, index_read, ring_read};
-ghost use Rattle.tgap_model.specs.Rings.{is_raw_ring};
+ghost use Rattle.line_forms.specs.Json.{try_fold};
+ghost use Rattle.topology_forms.specs.Topology.{ring_of, rings_of, polygons_of, names_arc, index_read, ring_read};
+ghost use Rattle.topology_forms.specs.Rings.{is_raw_ring};
 ghost use Rattle.plain_io.specs.Taking.{GivesWhole};
 
 use plain_io::json::{items_of, whole_of};

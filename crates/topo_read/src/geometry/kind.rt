@@ -4,8 +4,8 @@ ghost use Rattle.std.specs.Prelude.{◌≡◌, codes, option_map, option_and_the
 ghost use Rattle.serde_json.specs.View.{view};
 ghost use Rattle.serde_json.specs.Find.{get};
 ghost use Rattle.std.specs.Fmt.{signed_decimal};
-ghost use Rattle.tgap_model.specs.Json.{whole_of};
-ghost use Rattle.tgap_model.specs.Topology.{text_of};
+ghost use Rattle.line_forms.specs.Json.{whole_of};
+ghost use Rattle.topology_forms.specs.Topology.{text_of};
 
 use plain_io::json::whole_of;
 use plain_io::put_number;

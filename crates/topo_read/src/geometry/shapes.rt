@@ -5,8 +5,8 @@ ghost use Rattle.std.specs.Option.{ok_or};
 ghost use Rattle.serde_json.specs.View.{view};
 ghost use Rattle.serde_json.specs.Find.{as_object};
 ghost use Rattle.tgap_model.specs.declared.fault.MapFault.TheVariants as fault;
-ghost use Rattle.tgap_model.specs.Json.{ensured};
-ghost use Rattle.tgap_model.specs.Topology.{geometry_of, shapes_of};
+ghost use Rattle.line_forms.specs.Json.{ensured};
+ghost use Rattle.topology_forms.specs.Topology.{geometry_of, shapes_of};
 ghost use Rattle.plain_io.specs.Taking.{GivesWhole};
 ghost use Rattle.topo_read.specs.Walk.{viewed, named_type, members_read};
 

@@ -3,8 +3,8 @@
 ghost use Rattle.std.specs.Prelude.{◌≡◌, ◌≤◌, IsTrue};
 ghost use Rattle.std.specs.List.{list_all};
 ghost use Rattle.serde_json.specs.View.{view};
-ghost use Rattle.tgap_model.specs.Json.{try_fold};
-ghost use Rattle.tgap_model.specs.Topology.{no_geometries, kind_of, polygon_read};
+ghost use Rattle.line_forms.specs.Json.{try_fold};
+ghost use Rattle.topology_forms.specs.Topology.{no_geometries, kind_of, polygon_read};
 ghost use Rattle.plain_io.specs.Taking.{LeavesWhole};
 ghost use Rattle.topo_read.specs.Walk.{walk_of, are_raw};
 
@@ -62,7 +62,7 @@ pub fn push_polygons(
 }
 
 /// Puts a polygon after those before, where each index of its rings names an arc.
-#[tactic(auto, unfolding(tgap_model::specs::Topology::polygon_read))]
+#[tactic(auto, unfolding(topology_forms::specs::Topology::polygon_read))]
 fn push_polygon(
     arcs: usize,
     kind: Option<Text>,

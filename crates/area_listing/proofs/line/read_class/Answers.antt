@@ -5,9 +5,9 @@ use Rattle.tgap_model.specs.declared.fault.MapFault.TheVariants.{BadLine}
 use Rattle.tgap_model.specs.declared.fault.MapFault.{MapFault}
 use Rattle.tgap_model.specs.declared.failure.Or.TheVariants.{Fault}
 use Rattle.tgap_model.specs.declared.limits.TheConstants.{MAX_WEIGHT, MAX_COMPATIBILITY}
-use Rattle.tgap_model.specs.Words.{after_word, after_count, natural_at}
-use Rattle.tgap_model.specs.Lines.{Lines, line_at}
-use Rattle.tgap_model.specs.ListingLines.{naturals_at}
+use Rattle.line_forms.specs.Words.{after_word, after_count, natural_at}
+use Rattle.line_forms.specs.Lines.{Lines, line_at}
+use Rattle.line_forms.specs.ListingLines.{naturals_at}
 use Rattle.plain_io.specs.Taking.{Refuses}
 use Rattle.area_listing.specs.Reading.{class_onto}
 use Rattle.plain_io.proofs.Loops.{reads, found, passed}

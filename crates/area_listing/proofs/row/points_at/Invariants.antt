@@ -1,5 +1,5 @@
 use Rattle.std.proofs.Common.{◌≡◌, ◌-◌}
-use Rattle.tgap_model.specs.ListingLines.{points_at}
+use Rattle.line_forms.specs.ListingLines.{points_at}
 use Rattle.plain_io.specs.Fronts.{with_front}
 use Rattle.area_listing.proofs.row.points_at.Given as goal
 

@@ -4,7 +4,7 @@ use Rattle.std.proofs.lemmas.Result.{err_from_is_err_and}
 use Rattle.tgap_model.specs.declared.fault.MapFault.TheVariants.{BadLine}
 use Rattle.tgap_model.specs.declared.failure.Or.TheVariants.{Fault}
 use Rattle.tgap_model.specs.declared.limits.TheConstants.{MAX_COMPATIBILITY}
-use Rattle.tgap_model.specs.Words.{natural_at}
+use Rattle.line_forms.specs.Words.{natural_at}
 use Rattle.plain_io.proofs.Loops.{reads, found, missing, refused_at}
 use Rattle.area_listing.proofs.Loops.{numbers_go_on, numbers_stop, numbers_done}
 use Rattle.area_listing.proofs.row.push_compatibilities.Goals as goal

@@ -1,6 +1,6 @@
 use Rattle.std.proofs.Common.{◌≡◌, ◌-◌}
 use Rattle.tgap_model.specs.declared.limits.TheConstants.{MAX_COMPATIBILITY}
-use Rattle.tgap_model.specs.ListingLines.{naturals_at}
+use Rattle.line_forms.specs.ListingLines.{naturals_at}
 use Rattle.plain_io.specs.Fronts.{with_front}
 use Rattle.area_listing.proofs.row.push_compatibilities.Given as goal
 

@@ -1,7 +1,7 @@
 use Rattle.std.proofs.Common.{map, sym, ◌∙◌, arith}
 use Rattle.std.proofs.lemmas.List.{length-map}
 use Rattle.serde_json.specs.View.{view}
-use Rattle.tgap_model.specs.RulesFile.{class_of}
+use Rattle.map_forms.specs.RulesFile.{class_of}
 use Rattle.area_listing.proofs.EachOf.{gathers_all}
 use Rattle.area_listing.proofs.RulesReading.{class_behind, classes_in_limit}
 use Rattle.area_listing.proofs.rules.collect_classes.Goals as goal

@@ -1,7 +1,7 @@
 use Rattle.std.proofs.Common.{◌≡◌, map, drop, length, []}
 use Rattle.serde_json.specs.View.{view}
-use Rattle.tgap_model.specs.Json.{each_of}
-use Rattle.tgap_model.specs.RulesFile.{class_of}
+use Rattle.line_forms.specs.Json.{each_of}
+use Rattle.map_forms.specs.RulesFile.{class_of}
 use Rattle.area_listing.proofs.EachOf.{gathered}
 use Rattle.area_listing.proofs.RulesReading.{class_behind}
 use Rattle.area_listing.proofs.rules.collect_classes.Given as goal

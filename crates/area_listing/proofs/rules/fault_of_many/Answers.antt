@@ -3,7 +3,7 @@ use Rattle.std.proofs.lemmas.List.{length-map}
 use Rattle.serde_json.specs.View.{view}
 use Rattle.tgap_model.specs.declared.fault.LimitKind.TheVariants.{Classes}
 use Rattle.tgap_model.specs.declared.fault.MapFault.TheVariants.{Limit}
-use Rattle.tgap_model.specs.RulesFile.{class_of}
+use Rattle.map_forms.specs.RulesFile.{class_of}
 use Rattle.area_listing.proofs.EachOf.{passed_by, gathers_all}
 use Rattle.area_listing.proofs.RulesReading.{classes_beyond}
 use Rattle.area_listing.proofs.rules.fault_of_many.Goals as goal

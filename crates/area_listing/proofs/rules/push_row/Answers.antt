@@ -4,7 +4,7 @@ use Rattle.serde_json.specs.View.{view}
 use Rattle.tgap_model.specs.declared.failure.Or.TheVariants.{Fault}
 use Rattle.tgap_model.specs.declared.fault.MapFault.TheVariants.{BadRules}
 use Rattle.tgap_model.specs.declared.limits.TheConstants.{MAX_COMPATIBILITY}
-use Rattle.tgap_model.specs.Json.{each_of, natural_in}
+use Rattle.line_forms.specs.Json.{each_of, natural_in}
 use Rattle.area_listing.specs.RulesReading.{so_many}
 use Rattle.area_listing.proofs.EachOf.{behind, gathers_all, gathered_behind}
 use Rattle.area_listing.proofs.RulesReading.{found_at, exactly_is}

@@ -1,7 +1,7 @@
 use Rattle.std.proofs.Common.{◌≡◌, map, drop}
 use Rattle.serde_json.specs.View.{view}
 use Rattle.tgap_model.specs.declared.limits.TheConstants.{MAX_COMPATIBILITY}
-use Rattle.tgap_model.specs.Json.{each_of, natural_in}
+use Rattle.line_forms.specs.Json.{each_of, natural_in}
 use Rattle.area_listing.proofs.EachOf.{gathered, behind}
 use Rattle.area_listing.proofs.rules.push_row.Given as goal
 

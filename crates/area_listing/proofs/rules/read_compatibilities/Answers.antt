@@ -7,8 +7,8 @@ use Rattle.serde_json.specs.Find.{get}
 use Rattle.tgap_model.specs.declared.failure.Or.TheVariants.{Fault}
 use Rattle.tgap_model.specs.declared.fault.MapFault.TheVariants.{BadRules}
 use Rattle.tgap_model.specs.declared.limits.TheConstants.{MAX_COMPATIBILITY}
-use Rattle.tgap_model.specs.Json.{each_of, natural_in}
-use Rattle.tgap_model.specs.RulesFile.{exactly}
+use Rattle.line_forms.specs.Json.{each_of, natural_in}
+use Rattle.map_forms.specs.RulesFile.{exactly}
 use Rattle.area_listing.specs.RulesReading.{so_many}
 use Rattle.area_listing.proofs.EachOf.{gathers_all, gathers_none, gathered_joined}
 use Rattle.area_listing.proofs.RulesReading.{found_at, compat_is, refused_part}

@@ -1,8 +1,8 @@
 use Rattle.std.proofs.Common.{◌≡◌, ◌++◌, [], map, drop}
 use Rattle.serde_json.specs.View.{view}
 use Rattle.tgap_model.specs.declared.limits.TheConstants.{MAX_COMPATIBILITY}
-use Rattle.tgap_model.specs.Json.{each_of, natural_in}
-use Rattle.tgap_model.specs.RulesFile.{exactly}
+use Rattle.line_forms.specs.Json.{each_of, natural_in}
+use Rattle.map_forms.specs.RulesFile.{exactly}
 use Rattle.area_listing.proofs.EachOf.{gathered}
 use Rattle.area_listing.proofs.rules.read_compatibilities.Given as goal
 

@@ -1,6 +1,6 @@
 use Rattle.std.proofs.Common.{◌∙◌, sym}
 use Rattle.std.proofs.lemmas.Result.{err_from_is_err_and}
-use Rattle.tgap_model.specs.Listing.{arc_at}
+use Rattle.map_forms.specs.Listing.{arc_at}
 use Rattle.plain_io.proofs.Loops.{refused}
 use Rattle.area_listing.proofs.Loops.{arcs_go_on, arcs_stop, arcs_done}
 use Rattle.area_listing.proofs.Sections.{arc_at_is}

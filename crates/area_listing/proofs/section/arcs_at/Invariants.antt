@@ -1,6 +1,6 @@
 use Rattle.std.proofs.Common.{◌≡◌, ◌-◌, ◌≤◌}
 use Rattle.tgap_model.specs.declared.limits.TheConstants.{MAX_POINTS}
-use Rattle.tgap_model.specs.Listing.{arcs_at}
+use Rattle.map_forms.specs.Listing.{arcs_at}
 use Rattle.plain_io.specs.Fronts.{in_front}
 use Rattle.area_listing.proofs.section.arcs_at.Given as goal
 

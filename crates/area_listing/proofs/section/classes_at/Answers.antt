@@ -1,8 +1,8 @@
 use Rattle.std.proofs.Common.{◌∙◌, sym}
 use Rattle.std.proofs.lemmas.Result.{err_from_is_err_and}
 use Rattle.tgap_model.specs.declared.fault.MapFault.TheVariants.{BadLine}
-use Rattle.tgap_model.specs.Lines.{read_line}
-use Rattle.tgap_model.specs.ListingLines.{read_class}
+use Rattle.line_forms.specs.Lines.{read_line}
+use Rattle.line_forms.specs.ListingLines.{read_class}
 use Rattle.area_listing.specs.Reading.{class_onto}
 use Rattle.plain_io.proofs.Loops.{refused}
 use Rattle.area_listing.proofs.Loops.{classes_go_on, classes_stop, classes_done}

@@ -1,5 +1,5 @@
 use Rattle.std.proofs.Common.{◌≡◌, ◌-◌}
-use Rattle.tgap_model.specs.Listing.{classes_at}
+use Rattle.map_forms.specs.Listing.{classes_at}
 use Rattle.area_listing.proofs.Loops.{with_fronts}
 use Rattle.area_listing.proofs.section.classes_at.Given as goal
 

@@ -3,8 +3,8 @@ use Rattle.std.specs.Option.{ok_or}
 use Rattle.std.proofs.lemmas.Result.{err_from_is_err_and}
 use Rattle.tgap_model.specs.declared.fault.MapFault.TheVariants.{BadLine}
 use Rattle.tgap_model.specs.declared.failure.Or.TheVariants.{Fault}
-use Rattle.tgap_model.specs.Lines.{read_row, read_line}
-use Rattle.tgap_model.specs.ListingLines.{read_face}
+use Rattle.line_forms.specs.Lines.{read_row, read_line}
+use Rattle.line_forms.specs.ListingLines.{read_face}
 use Rattle.plain_io.proofs.Loops.{found, missing, refused, refused_at}
 use Rattle.area_listing.proofs.Loops.{faces_go_on, faces_stop, faces_done}
 use Rattle.area_listing.proofs.section.faces_at.Goals as goal

@@ -1,5 +1,5 @@
 use Rattle.std.proofs.Common.{◌≡◌, ◌+◌, ◌-◌}
-use Rattle.tgap_model.specs.Listing.{faces_at}
+use Rattle.map_forms.specs.Listing.{faces_at}
 use Rattle.plain_io.specs.Fronts.{in_front}
 use Rattle.area_listing.proofs.section.faces_at.Given as goal
 

@@ -1,6 +1,6 @@
 use Rattle.std.proofs.Common.{◌≡◌, ◌++◌, map, take, length, codes}
-use Rattle.tgap_model.specs.Texts.{line, lines}
-use Rattle.tgap_model.specs.Listing.{count_words, arc_words}
+use Rattle.line_forms.specs.Texts.{line, lines}
+use Rattle.map_forms.specs.Listing.{count_words, arc_words}
 use Rattle.area_listing.proofs.write.put_arcs.Given as goal
 
 -- the line of their number, and the lines of the arcs so far

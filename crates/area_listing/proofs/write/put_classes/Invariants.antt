@@ -1,6 +1,6 @@
 use Rattle.std.proofs.Common.{◌≡◌, ◌++◌, ◌-◌, ◌*◌, length, drop}
-use Rattle.tgap_model.specs.Texts.{lines}
-use Rattle.tgap_model.specs.Listing.{class_rows}
+use Rattle.line_forms.specs.Texts.{lines}
+use Rattle.map_forms.specs.Listing.{class_rows}
 use Rattle.area_listing.proofs.write.put_classes.Given as goal
 
 -- what is put, and the lines of the classes that are left, with the compatibilities that are left

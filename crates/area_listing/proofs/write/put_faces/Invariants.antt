@@ -1,6 +1,6 @@
 use Rattle.std.proofs.Common.{◌≡◌, ◌++◌, ◌+◌, drop}
-use Rattle.tgap_model.specs.Texts.{lines}
-use Rattle.tgap_model.specs.Listing.{face_rows}
+use Rattle.line_forms.specs.Texts.{lines}
+use Rattle.map_forms.specs.Listing.{face_rows}
 use Rattle.area_listing.specs.Written.{all_face_rows}
 use Rattle.area_listing.proofs.write.put_faces.Given as goal
 

@@ -1,6 +1,6 @@
 use Rattle.std.proofs.Common.{◌≡◌, ◌++◌, take}
 use Rattle.std.specs.Prelude.{flat_map}
-use Rattle.tgap_model.specs.Listing.{point_words}
+use Rattle.map_forms.specs.Listing.{point_words}
 use Rattle.plain_io.specs.Fields.{fields}
 use Rattle.area_listing.proofs.write.put_points.Given as goal
 

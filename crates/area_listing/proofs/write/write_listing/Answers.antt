@@ -3,8 +3,8 @@ use Rattle.tgap_model.specs.declared.base.Transform.{Transform}
 use Rattle.tgap_model.specs.declared.base.Rules.{Rules}
 use Rattle.tgap_model.specs.declared.base.BaseArc.{BaseArc}
 use Rattle.tgap_model.specs.Base.{is_rules}
-use Rattle.tgap_model.specs.Texts.{line, lines}
-use Rattle.tgap_model.specs.Listing.{transform_words, listing_text}
+use Rattle.line_forms.specs.Texts.{line, lines}
+use Rattle.map_forms.specs.Listing.{transform_words, listing_text}
 use Rattle.tgap_model.proofs.BaseFacts.{base_facts}
 use Rattle.area_listing.specs.Written.{rules_rows, all_face_rows, all_arc_rows}
 use Rattle.area_listing.proofs.Writing.{listing_put, listing_read}

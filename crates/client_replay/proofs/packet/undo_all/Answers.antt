@@ -1,7 +1,7 @@
 use Rattle.std.proofs.Common.{◌≡◌, ◌+◌, None, drop, sym, ap, ◌∙◌}
 use Rattle.std.proofs.lemmas.List.Sums.{AllPass-from_list_all}
 use Rattle.tgap_model.specs.declared.slice.Slice.{Slice}
-use Rattle.tgap_model.specs.SliceForms.{has_room, is_record_row}
+use Rattle.slice_forms.specs.SliceForms.{has_room, is_record_row}
 use Rattle.tgap_model.specs.Records.{broken_rule, undo}
 use Rattle.client_replay.specs.Replaying.{undone, after}
 use Rattle.client_replay.specs.Working.{slice_of}

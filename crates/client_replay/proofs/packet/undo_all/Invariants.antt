@@ -1,5 +1,5 @@
 use Rattle.std.proofs.Common.{◌≡◌, IsTrue, drop}
-use Rattle.tgap_model.specs.SliceForms.{is_slice_row, has_room}
+use Rattle.slice_forms.specs.SliceForms.{is_slice_row, has_room}
 use Rattle.client_replay.specs.Replaying.{undone}
 use Rattle.client_replay.specs.Working.{slice_of, IsSound}
 use Rattle.client_replay.proofs.packet.undo_all.Given as goal

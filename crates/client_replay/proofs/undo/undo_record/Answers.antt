@@ -1,5 +1,5 @@
 use Rattle.std.proofs.Common.{ℕ, Bool, true, false, cond, Some, None, Option, sym, ap, ◌∙◌}
-use Rattle.tgap_model.specs.SliceForms.{is_slice_row}
+use Rattle.slice_forms.specs.SliceForms.{is_slice_row}
 use Rattle.client_replay.specs.Working.{slice_of}
 use Rattle.client_replay.proofs.Form.{undone_form}
 use Rattle.client_replay.proofs.Changing.{keys_tested}

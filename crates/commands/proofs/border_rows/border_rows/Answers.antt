@@ -3,7 +3,7 @@ use Rattle.std.proofs.lemmas.Result.{IfOk-weaker}
 use Rattle.std.proofs.lemmas.List.Elements.{recursion_from_All}
 use Rattle.tgap_model.specs.declared.border.BorderRow.{BorderRow}
 use Rattle.tgap_model.specs.History.{label_after}
-use Rattle.tgap_model.specs.Border.{border_by}
+use Rattle.commands.specs.Border.{border_by}
 use Rattle.tgap_model.proofs.BaseFacts.{ArcFacts, base_facts, each_arc}
 use Rattle.face_tree.specs.Tree.{AreLabels}
 use Rattle.commands.proofs.Sides.{same_border, sides_below}

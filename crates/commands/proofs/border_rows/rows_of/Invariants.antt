@@ -1,5 +1,5 @@
 use Rattle.std.proofs.Common.{◌≡◌, ◌++◌, slice_index, drop}
-use Rattle.tgap_model.specs.Border.{border_by}
+use Rattle.commands.specs.Border.{border_by}
 use Rattle.commands.proofs.border_rows.rows_of.Given as goal
 
 -- the rows so far and those of the arcs that are left are those of all

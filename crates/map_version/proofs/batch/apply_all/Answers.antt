@@ -1,7 +1,7 @@
 use Rattle.std.proofs.Common.{◌∙◌, ℕ, Result, Err, sym, ap, subst}
 use Rattle.tgap_model.specs.Base.{BaseMap}
-use Rattle.tgap_model.specs.Lines.{Lines, is_over}
-use Rattle.tgap_model.specs.Edits.{edit_rows}
+use Rattle.line_forms.specs.Lines.{Lines, is_over}
+use Rattle.edit_laws.specs.Edits.{edit_rows}
 use Rattle.map_version.specs.Faults.{GivesEdited}
 use Rattle.map_version.proofs.Batches.{line_taken, line_applied, line_refused, over_gives, refused_with}
 use Rattle.map_version.proofs.batch.apply_all.Goals as goal

@@ -1,5 +1,5 @@
 use Rattle.std.proofs.Common.{◌≡◌, ◌≤◌, length}
-use Rattle.tgap_model.specs.Edits.{edit_rows}
+use Rattle.edit_laws.specs.Edits.{edit_rows}
 use Rattle.map_version.proofs.batch.apply_all.Given as goal
 
 -- what is left makes of the map what the whole made

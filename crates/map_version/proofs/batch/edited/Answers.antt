@@ -1,5 +1,5 @@
 use Rattle.std.proofs.Common.{◌≤◌, length, sym, subst}
-use Rattle.tgap_model.specs.Lines.{Lines}
+use Rattle.line_forms.specs.Lines.{Lines}
 use Rattle.map_version.proofs.Batches.{some_row}
 use Rattle.map_version.proofs.batch.edited.Goals as goal
 

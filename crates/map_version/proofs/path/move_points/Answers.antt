@@ -1,6 +1,6 @@
 use Rattle.std.proofs.Common.{Bool, cond, get_or, set, sym, ap, ◌∙◌, pos}
 use Rattle.tgap_model.specs.declared.geometry.Point.{Point}
-use Rattle.tgap_model.specs.Edits.{moved}
+use Rattle.edit_laws.specs.Edits.{moved}
 use Rattle.map_version.proofs.Positions.{moved_more, kept_more}
 use Rattle.map_version.proofs.path.move_points.Goals as goal
 use Rattle.map_version.proofs.path.move_points.Goals.{then-eq, else-eq}

@@ -1,5 +1,5 @@
 use Rattle.std.proofs.Common.{◌≡◌, ◌++◌, map, take, drop}
-use Rattle.tgap_model.specs.Edits.{moved}
+use Rattle.edit_laws.specs.Edits.{moved}
 use Rattle.map_version.proofs.path.move_points.Given as goal
 
 -- the points so far are moved

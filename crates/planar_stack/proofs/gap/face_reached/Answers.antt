@@ -1,5 +1,5 @@
 use Rattle.std.proofs.Common.{◌≡◌, ◌<◌, ◌-◌, suc, length, map, sym, ap, ◌∙◌, arith}
-use Rattle.tgap_model.specs.Evidence.{face_above}
+use Rattle.grid_geo.specs.Evidence.{face_above}
 use Rattle.planar_stack.specs.Sweep.{sides_at}
 use Rattle.planar_stack.proofs.Seams.{reached_below}
 use Rattle.planar_stack.proofs.gap.face_reached.Goals as goal

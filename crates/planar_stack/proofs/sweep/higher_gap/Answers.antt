@@ -2,7 +2,7 @@
 use Rattle.std.proofs.Common.{◌≡◌, ◌-◌, ◌<ℤ◌, ◌≤ℤ◌, ℕ, ℤ, true, map, to_z, of_z, sym, ◌∙◌, subst, arith}
 use Rattle.std.specs.Int.{w64}
 use Rattle.std.proofs.lemmas.Int.{ints}
-use Rattle.tgap_model.specs.Evidence.{face_above, face_below}
+use Rattle.grid_geo.specs.Evidence.{face_above, face_below}
 use Rattle.planar_stack.specs.Sweep.{left_end, segment_at, sides_at, crossed_at, IsPlace}
 use Rattle.planar_stack.proofs.Ends.{crossed_from_ends, ends_from_crossed}
 use Rattle.planar_stack.proofs.Ordered.{member_above, only_place}

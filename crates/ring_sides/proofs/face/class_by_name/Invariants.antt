@@ -1,6 +1,6 @@
 -- No class so far has the name: the first that has it is among the rest.
 use Rattle.std.proofs.Common.{◌≡◌, drop}
-use Rattle.tgap_model.specs.Rings.{class_from}
+use Rattle.topology_forms.specs.Rings.{class_from}
 use Rattle.ring_sides.proofs.face.class_by_name.Given as goal
 
 abbrev pub invariant-loop-class : goal.invariant-loop-class

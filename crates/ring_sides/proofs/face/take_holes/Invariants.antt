@@ -1,6 +1,6 @@
 -- What the holes so far took, with what the rest takes, is what all take.
 use Rattle.std.proofs.Common.{◌≡◌, drop}
-use Rattle.tgap_model.specs.Rings.{holes_taken}
+use Rattle.topology_forms.specs.Rings.{holes_taken}
 use Rattle.ring_sides.specs.Taking.{KeepsForm}
 use Rattle.ring_sides.proofs.face.take_holes.Given as goal
 

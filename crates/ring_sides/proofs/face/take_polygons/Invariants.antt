@@ -1,9 +1,9 @@
 -- What the polygons so far took, with what the rest takes, is what all take, and there is room for the faces of the rest.
 use Rattle.std.proofs.Common.{◌≡◌, ◌≤◌, ◌+◌, drop, length, count_by}
 use Rattle.tgap_model.specs.declared.limits.TheConstants.{MAX_FACES}
-use Rattle.tgap_model.specs.Json.{try_fold}
-use Rattle.tgap_model.specs.Topology.{has_ring}
-use Rattle.tgap_model.specs.Rings.{nothing_taken, polygon_taken}
+use Rattle.line_forms.specs.Json.{try_fold}
+use Rattle.topology_forms.specs.Topology.{has_ring}
+use Rattle.topology_forms.specs.Rings.{nothing_taken, polygon_taken}
 use Rattle.ring_sides.specs.Taking.{HasSides}
 use Rattle.ring_sides.proofs.face.take_polygons.Given as goal
 

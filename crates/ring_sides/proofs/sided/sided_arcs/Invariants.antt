@@ -1,6 +1,6 @@
 -- The arcs so far, in front of those of the rest, are all.
 use Rattle.std.proofs.Common.{◌≡◌, drop}
-use Rattle.tgap_model.specs.Rings.{sided_from}
+use Rattle.topology_forms.specs.Rings.{sided_from}
 use Rattle.ring_sides.specs.Taking.{in_front}
 use Rattle.ring_sides.proofs.sided.sided_arcs.Given as goal
 

@@ -1,7 +1,7 @@
 -- What becomes of the version that is to be published.
 use Rattle.std.proofs.Common.{◌≡◌, ◌∙◌, ◌+◌, sym, ap, codes, Some}
 use Rattle.std.specs.Arc.{arc_value}
-use Rattle.tgap_model.specs.Texts.{line}
+use Rattle.line_forms.specs.Texts.{line}
 use Rattle.session.specs.Answers.{plain, numbered}
 use Rattle.session.specs.Outcomes.{sent}
 use Rattle.session.proofs.Kept.{pin_kept}

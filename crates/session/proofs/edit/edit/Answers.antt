@@ -1,6 +1,6 @@
 -- What becomes of a batch that is refused.
 use Rattle.std.proofs.Common.{◌∙◌, Err, refl, sym, ap, subst}
-use Rattle.tgap_model.specs.Edits.{edited}
+use Rattle.edit_laws.specs.Edits.{edited}
 use Rattle.http_face.specs.declared.request.Route.TheVariants.{Edit as EditRoute}
 use Rattle.session.specs.declared.turn.Turned.{Turned}
 use Rattle.session.specs.Items.{Route as RouteAsked}

@@ -1,7 +1,7 @@
 -- A window of a step that there is, and the word for one that there is not.
 use Rattle.std.proofs.Common.{◌≡◌, Err, ap, sym, ◌∙◌}
-use Rattle.tgap_model.specs.SliceTexts.{window_text}
-use Rattle.tgap_model.specs.Texts.{step_too_high_text}
+use Rattle.wire_text.specs.SliceTexts.{window_text}
+use Rattle.line_forms.specs.Texts.{step_too_high_text}
 use Rattle.session.specs.Answers.{plain}
 use Rattle.session.proofs.Steps.{at_step_there, at_step_above, gave}
 use Rattle.session.proofs.read.ordered_window_answer.Goals as goal

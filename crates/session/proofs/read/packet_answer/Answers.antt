@@ -1,7 +1,7 @@
 -- A packet that there is, and the word for steps that there are not.
 use Rattle.std.proofs.Common.{Err, ap, sym, ◌∙◌}
-use Rattle.tgap_model.specs.SliceTexts.{packet_text}
-use Rattle.tgap_model.specs.Texts.{step_too_high_text}
+use Rattle.wire_text.specs.SliceTexts.{packet_text}
+use Rattle.line_forms.specs.Texts.{step_too_high_text}
 use Rattle.session.specs.Answers.{plain}
 use Rattle.session.proofs.Steps.{at_step_there, at_step_above, gave_packet, finer_answer}
 use Rattle.session.proofs.read.packet_answer.Goals as goal

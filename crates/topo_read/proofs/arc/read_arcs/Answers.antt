@@ -1,7 +1,7 @@
 use Rattle.std.proofs.Common.{◌++◌, ◌∷◌, [], ◌+◌, length, length-append, ◌∙◌, ap}
 use Rattle.std.proofs.lemmas.Result.{err_from_is_err_and}
 use Rattle.serde_json.specs.View.{view}
-use Rattle.tgap_model.specs.Topology.{arc_read}
+use Rattle.topology_forms.specs.Topology.{arc_read}
 use Rattle.plain_io.proofs.Loops.{refused}
 use Rattle.topo_read.specs.Arcs.{arc_points}
 use Rattle.topo_read.proofs.ArcForm.{arc_stops, arc_goes_on}

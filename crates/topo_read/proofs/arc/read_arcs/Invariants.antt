@@ -1,7 +1,7 @@
 use Rattle.std.proofs.Common.{◌≡◌, [], length, map, drop}
 use Rattle.serde_json.specs.View.{view}
-use Rattle.tgap_model.specs.Json.{try_fold}
-use Rattle.tgap_model.specs.Topology.{arc_read}
+use Rattle.line_forms.specs.Json.{try_fold}
+use Rattle.topology_forms.specs.Topology.{arc_read}
 use Rattle.topo_read.proofs.arc.read_arcs.Given as goal
 
 -- the arcs that are left make of those before them what all of them make of none

@@ -1,7 +1,7 @@
 use Rattle.std.proofs.Common.{◌≡◌, map, drop}
 use Rattle.serde_json.specs.View.{view}
-use Rattle.tgap_model.specs.Json.{try_fold}
-use Rattle.tgap_model.specs.Topology.{no_positions, position_read}
+use Rattle.line_forms.specs.Json.{try_fold}
+use Rattle.topology_forms.specs.Topology.{no_positions, position_read}
 use Rattle.topo_read.proofs.arc.read_positions.Given as goal
 
 -- the positions that are left make of the arc so far what all of them make of none

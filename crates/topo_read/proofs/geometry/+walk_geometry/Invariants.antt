@@ -1,7 +1,7 @@
 use Rattle.std.proofs.Common.{◌≡◌, ◌-◌, map, drop, true}
 use Rattle.serde_json.specs.View.{view}
-use Rattle.tgap_model.specs.Json.{try_fold}
-use Rattle.tgap_model.specs.Topology.{geometry_read}
+use Rattle.line_forms.specs.Json.{try_fold}
+use Rattle.topology_forms.specs.Topology.{geometry_read}
 use Rattle.topo_read.specs.Walk.{walk_of, are_raw}
 use Rattle.topo_read.proofs.geometry.+walk_geometry.Given as goal
 

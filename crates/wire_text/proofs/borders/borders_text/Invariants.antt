@@ -1,5 +1,5 @@
 use Rattle.std.proofs.Common.{◌≡◌, ◌++◌, [], ◌∷◌, map, take, codes, decimal}
-use Rattle.tgap_model.specs.Texts.{line, lines, border_words}
+use Rattle.line_forms.specs.Texts.{line, lines, border_words}
 use Rattle.wire_text.proofs.borders.borders_text.Given as goal
 
 -- the first line, and the lines of the rows so far

@@ -1,7 +1,7 @@
 use Rattle.std.proofs.Common.{◌≡◌, ◌++◌, take}
 use Rattle.std.specs.Prelude.{flat_map}
-use Rattle.tgap_model.specs.Texts.{lines}
-use Rattle.tgap_model.specs.SliceTexts.{mend_rows}
+use Rattle.line_forms.specs.Texts.{lines}
+use Rattle.wire_text.specs.SliceTexts.{mend_rows}
 use Rattle.wire_text.proofs.packet.put_mends.Given as goal
 
 -- the lines of the mends so far

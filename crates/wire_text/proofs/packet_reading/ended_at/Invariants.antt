@@ -1,5 +1,5 @@
 use Rattle.std.proofs.Common.{◌≡◌, ◌-◌}
-use Rattle.tgap_model.specs.SliceReading.{ended_at}
+use Rattle.wire_text.specs.SliceReading.{ended_at}
 use Rattle.plain_io.specs.Fronts.{in_front}
 use Rattle.wire_text.specs.Reading.{bad_text}
 use Rattle.wire_text.proofs.packet_reading.ended_at.Given as goal

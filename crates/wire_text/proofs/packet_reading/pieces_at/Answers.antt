@@ -1,7 +1,7 @@
 use Rattle.std.proofs.Common.{◌∙◌, sym}
 use Rattle.std.proofs.lemmas.Result.{err_from_is_err_and}
-use Rattle.tgap_model.specs.Lines.{read_line}
-use Rattle.tgap_model.specs.SliceReading.{pieces_at, read_piece}
+use Rattle.line_forms.specs.Lines.{read_line}
+use Rattle.wire_text.specs.SliceReading.{pieces_at, read_piece}
 use Rattle.wire_text.specs.Reading.{bad_text}
 use Rattle.wire_text.proofs.Each.{each_go_on, each_done}
 use Rattle.wire_text.proofs.Loops.{line_found, line_refused, each_refused}

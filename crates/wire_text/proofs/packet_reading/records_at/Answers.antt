@@ -1,6 +1,6 @@
 use Rattle.std.proofs.Common.{◌-◌, ◌∙◌, sym}
 use Rattle.std.proofs.lemmas.Result.{err_from_is_err_and}
-use Rattle.tgap_model.specs.SliceReading.{records_at, record_at}
+use Rattle.wire_text.specs.SliceReading.{records_at, record_at}
 use Rattle.wire_text.specs.Reading.{bad_text}
 use Rattle.wire_text.proofs.Each.{each_go_on, each_done}
 use Rattle.wire_text.proofs.Loops.{each_refused}

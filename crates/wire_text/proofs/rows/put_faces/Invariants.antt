@@ -1,6 +1,6 @@
 use Rattle.std.proofs.Common.{◌≡◌, ◌++◌, map, take}
-use Rattle.tgap_model.specs.Texts.{lines}
-use Rattle.tgap_model.specs.SliceTexts.{face_words}
+use Rattle.line_forms.specs.Texts.{lines}
+use Rattle.wire_text.specs.SliceTexts.{face_words}
 use Rattle.wire_text.proofs.rows.put_faces.Given as goal
 
 -- the lines of the faces so far

@@ -1,6 +1,6 @@
 use Rattle.std.proofs.Common.{◌≡◌, ◌++◌, ◌∷◌, length, take, decimal}
 use Rattle.std.specs.Prelude.{flat_map}
-use Rattle.tgap_model.specs.Listing.{point_words}
+use Rattle.map_forms.specs.Listing.{point_words}
 use Rattle.plain_io.specs.Fields.{fields}
 use Rattle.wire_text.proofs.rows.put_points.Given as goal
 

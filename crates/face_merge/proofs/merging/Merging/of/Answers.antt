@@ -9,10 +9,9 @@ use Rattle.face_merge.specs.Linking.{link_of}
 use Rattle.face_merge.specs.Links.{length_at}
 use Rattle.face_merge.specs.Measures.{IsMeasured, measure_of}
 use Rattle.face_merge.specs.Merging.{AreAreas, IsLabelled, MergeState, after_steps, begin}
-use Rattle.face_merge.specs.Queue.{waits}
-use Rattle.face_merge.specs.Running.{AreInSlots}
+use Rattle.face_merge.specs.Running.{AreInSlots, IsQueueOf}
 use Rattle.face_merge.proofs.Start.{base_measured, merging_start}
-use Rattle.face_merge.proofs.Begun.{first_slots}
+use Rattle.face_merge.proofs.Begun.{first_slots, first_queue}
 use Rattle.face_merge.proofs.merging.Merging.of.Goals as goal
 
 pub classes_with_room-requires : goal.classes_with_room-requires
@@ -91,10 +90,15 @@ returns-clause-running c =
     let m = c.args.base.now in
     let areas = subst (λ (k : ℕ). AreAreas k (map labelled m.arcs) c.in_ok-areas.areas.items) n (subst (λ (xs : List LabelledArc). AreAreas c.len-faces.result xs c.in_ok-areas.areas.items) e c.in_ok-areas.ensures) in
     let count : length c.in_ok-numbers.numbers.items ≡ length m.classes + 1 = omega (arith, c.in_ok-numbers.ensures.count, n) in
-    let slots = first_slots m (merging_start m c.arcs.ensures.base) c.in_ok-numbers.numbers.items c.in_ok-areas.areas.items (length_at c.in_ok-links.links) (waits c.in_ok-queue.queue) count
-    (λ k p. c.in_ok-numbers.ensures.numbers k (omega (arith, p, n))) areas (λ s t. c.in_ok-links.ensures s t ∙ ap (λ (xs : List LabelledArc). link_of xs s t) e) c.in_ok-queue.ensures in
+    let links : (s t : ℕ) → length_at c.in_ok-links.links s t ≡ link_of (map labelled m.arcs) s t = λ s t. c.in_ok-links.ensures s t ∙ ap (λ (xs : List LabelledArc). link_of xs s t) e in
+    let known = merging_start m c.arcs.ensures.base in
+    let slots = first_slots m known c.in_ok-numbers.numbers.items c.in_ok-areas.areas.items (length_at c.in_ok-links.links) c.in_ok-queue.queue count
+    (λ k p. c.in_ok-numbers.ensures.numbers k (omega (arith, p, n))) areas links c.in_ok-queue.ensures in
+    let queue = first_queue m known c.in_ok-numbers.numbers.items c.in_ok-areas.areas.items (length_at c.in_ok-links.links) c.in_ok-queue.queue count
+    (λ k p. c.in_ok-numbers.ensures.numbers k (omega (arith, p, n))) areas links c.in_ok-queue.ensures in
     let state : after_steps m c.new.result ≡ begin m = ap (after_steps m) c.new.ensures in
     record {
       classes = c.in_ok-classes.ensures ∙ (c.as_slice.ensures ∙ c.classes.ensures.value) ∙ sym (ap (λ (x : MergeState). x.classes) state);
-      slots = subst (λ (x : MergeState). AreInSlots x c.in_ok-numbers.numbers.items c.in_ok-areas.areas.items (length_at c.in_ok-links.links) (waits c.in_ok-queue.queue)) (sym state) slots;
+      slots = subst (λ (x : MergeState). AreInSlots x c.in_ok-numbers.numbers.items c.in_ok-areas.areas.items (length_at c.in_ok-links.links)) (sym state) slots;
+      queue = subst (λ (x : MergeState). IsQueueOf x c.in_ok-numbers.numbers.items c.in_ok-queue.queue) (sym state) queue;
     }

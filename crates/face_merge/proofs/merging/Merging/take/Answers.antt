@@ -1,16 +1,21 @@
 -- The two faces are live and differ, their sums fit, and what is held afterwards is the map after the step.
-use Rattle.std.proofs.Common.{◌≡◌, ◌∙◌, ◌⊎◌, inl, inr, true, ap, sym, subst, refl, arith, ℕ, false, List, [], ◌∷◌, ◌++◌, set, ◌+ℤ◌, ◌+◌, length, to_z, of_z}
+use Rattle.std.proofs.Common.{◌≡◌, ◌<◌, ◌∙◌, inl, inr, ap, sym, subst, refl, arith, ℕ, List, [], ◌∷◌, ◌++◌, set, ◌+ℤ◌, ◌+◌, length, to_z, of_z}
 use Rattle.std.specs.Int.{w128}
+use Rattle.std.specs.List.{All}
+use Rattle.std.proofs.lemmas.List.Elements.{All-weaker}
 use Rattle.tgap_model.specs.declared.base.Rules.{Rules}
 use Rattle.tgap_model.specs.declared.merge.MergeStep.{MergeStep}
+use Rattle.face_merge.specs.declared.links.Link.{Link}
+use Rattle.face_merge.specs.declared.queue.Place.{Place}
 use Rattle.face_merge.specs.Links.{length_at}
 use Rattle.face_merge.specs.Merging.{MergeState, after, after_steps}
-use Rattle.face_merge.specs.Queue.{waits}
-use Rattle.face_merge.specs.Running.{AreInSlots, state_of, number_in, step_of}
+use Rattle.face_merge.specs.Running.{AreInSlots, AreNeighboursAfter, IsLinkOf, IsNeighbourAfter, IsQueueOf, state_of, number_in, step_of}
 use Rattle.face_merge.proofs.Steps.{same_step}
 use Rattle.face_merge.proofs.Slots.{slots_paired}
 use Rattle.face_merge.proofs.Held.{held, held_pair, importance_back, one_more_step, rules_are}
-use Rattle.face_merge.proofs.Taken.{both_fit, ends_inside, new_importance, sum_is, sum_small, taken}
+use Rattle.face_merge.proofs.Taken.{both_fit, ends_inside, many, new_importance, number_from, number_other, number_to, sum_is, sum_small, taken}
+use Rattle.face_merge.proofs.Requeued.{faces_inside, place_inside, requeued, set_many}
+use Rattle.face_merge.proofs.Best.{links_are}
 use Rattle.face_merge.proofs.merging.Merging.take.Goals as goal
 
 pub face-loser-requires-clause-live : goal.face-loser-requires-clause-live
@@ -39,7 +44,7 @@ pub join-requires-clause-links : goal.join-requires-clause-links
 join-requires-clause-links c = c.requires.next.links
 
 pub join-requires-clause-paired : goal.join-requires-clause-paired
-join-requires-clause-paired c = slots_paired _ _ _ _ _ c.requires.running.slots
+join-requires-clause-paired c = slots_paired _ _ _ _ c.requires.running.slots
 
 pub join-requires-clause-fit : goal.join-requires-clause-fit
 join-requires-clause-fit c = both_fit c.args.self c.args.pair c.requires.running c.requires.next c.args.pair.loser c.args.pair.winner (inl (refl, refl))
@@ -47,8 +52,35 @@ join-requires-clause-fit c = both_fit c.args.self c.args.pair c.requires.running
 pub join-requires-clause-fit_back : goal.join-requires-clause-fit_back
 join-requires-clause-fit_back c = both_fit c.args.self c.args.pair c.requires.running c.requires.next c.args.pair.winner c.args.pair.loser (inr (refl, refl))
 
-pub wait-requires : goal.wait-requires
-wait-requires c = (ends_inside c.args.self c.args.pair c.requires.running c.requires.next c.in_ok-ends.ends c.in_ok-ends.ensures.ends).3
+pub neighbours_after-requires-clause-links : goal.neighbours_after-requires-clause-links
+neighbours_after-requires-clause-links c =
+    let r = c.args.self in
+    subst (All (IsLinkOf r (number_in r c.args.pair.loser))) (sym c.deref.ensures.value) (links_are r c.requires.running c.args.pair.loser c.args.pair.links.items c.requires.next.links)
+
+pub set-requires : goal.set-requires
+set-requires c = (faces_inside c.args.self c.args.pair c.requires.running c.requires.next).0
+
+pub set-requires-2 : goal.set-requires-2
+set-requires-2 c =
+    let inside = (faces_inside c.args.self c.args.pair c.requires.running c.requires.next).1 in
+    omega (arith, inside, set_many c.args.self.queue c.set.new.self c.args.pair.loser 0 c.in_ok-set.ensures.counts)
+
+pub set-requires-3 : goal.set-requires-3
+set-requires-3 c =
+    let inside = (ends_inside c.args.self c.args.pair c.requires.running c.requires.next c.in_ok-ends.ends c.in_ok-ends.ensures.ends).1 in
+    let one = set_many c.args.self.queue c.set.new.self c.args.pair.loser 0 c.in_ok-set.ensures.counts in
+    let two = set_many c.set.new.self c.set-2.new.self c.args.pair.winner 0 c.in_ok-set-2.ensures.counts in
+    omega (arith, inside, one, two, c.requires.running.queue.slots)
+
+pub set_all-requires : goal.set_all-requires
+set_all-requires c =
+    let r = c.args.self in
+    let one = set_many r.queue c.set.new.self c.args.pair.loser 0 c.in_ok-set.ensures.counts in
+    let two = set_many c.set.new.self c.set-2.new.self c.args.pair.winner 0 c.in_ok-set-2.ensures.counts in
+    let three = set_many c.set-2.new.self c.set-3.new.self c.in_ok-ends.ends.to c.permitted_of_made-permitted.result c.in_ok-set-3.ensures.counts in
+    subst (All (λ (place : Place). place.slot < length c.set-3.new.self.counts.items)) (sym c.deref-2.ensures.value)
+    (All-weaker (IsNeighbourAfter r c.args.pair) (λ (place : Place). place.slot < length c.set-3.new.self.counts.items)
+    (λ place is. omega (arith, place_inside r c.args.pair place c.requires.running is, one, two, three)) c.in_ok-neighbours.neighbours.items c.in_ok-neighbours.ensures.each)
 
 pub index_mut-requires : goal.index_mut-requires
 index_mut-requires c =
@@ -64,11 +96,6 @@ pub index_mut-requires-3 : goal.index_mut-requires-3
 index_mut-requires-3 c =
     let inside = (ends_inside c.args.self c.args.pair c.requires.running c.requires.next c.in_ok-ends.ends c.in_ok-ends.ensures.ends).2 in
     omega (arith, inside, c.args.self.areas.ok.0)
-
--- the number of the new face in other words
-renumbered : {A B D E : Type 0} (f n k : ℕ) → n ≡ k → A ⊎ (B × (f ≡ n) × D × E) → A ⊎ (B × (f ≡ k) × D × E)
-renumbered f n k e (inl a) = inl a
-renumbered f n k e (inr h) = inr (h.0, h.1 ∙ e, h.2, h.3)
 
 pub returns-clause-running : goal.returns-clause-running
 returns-clause-running c =
@@ -89,20 +116,28 @@ returns-clause-running c =
     let class = c.in_ok-push.ensures.items ∙ (ap (λ (ks : List ℕ). ks ++ c.face-winner.result.class ∷ []) running.classes ∙ ap (λ (k : ℕ). (state_of r).classes ++ k ∷ []) c.face-winner.ensures.class) in
     let numbers = set (set r.numbers.items ends.from 0) ends.to (c.len.result + 1) in
     let areas = set r.areas.items ends.to (to_z w128 (of_z w128 (to_z w128 (of_z w128 c.face-loser.result.area) +ℤ to_z w128 (of_z w128 c.face-winner.result.area)))) in
-    let slots = taken r pair running next ends c.in_ok-ends.ensures.ends numbers areas (length_at c.join.new.links) (waits c.remove.new.self) (waits c.remove-2.new.self) (waits c.wait.new.queue)
-    (to_z w128 (of_z w128 (to_z w128 (of_z w128 c.face-loser.result.area) +ℤ to_z w128 (of_z w128 c.face-winner.result.area))))
+    let area = to_z w128 (of_z w128 (to_z w128 (of_z w128 c.face-loser.result.area) +ℤ to_z w128 (of_z w128 c.face-winner.result.area))) in
+    let numbers_are = ap (set (set r.numbers.items ends.from 0) ends.to) count in
+    let slots = taken r pair running next ends c.in_ok-ends.ensures.ends numbers areas (length_at c.join.new.links) area numbers_are refl sum c.in_ok-ends.ensures.joined inside.0 inside.1 inside.2 in
+    let at_from = number_from r pair running next ends c.in_ok-ends.ensures.ends numbers areas (length_at c.join.new.links) area numbers_are refl sum c.in_ok-ends.ensures.joined inside.0 inside.1 inside.2 in
+    let at_to = number_to r pair running next ends c.in_ok-ends.ensures.ends numbers areas (length_at c.join.new.links) area numbers_are refl sum c.in_ok-ends.ensures.joined inside.0 inside.1 inside.2 in
+    let at_other = number_other r pair running next ends c.in_ok-ends.ensures.ends numbers areas (length_at c.join.new.links) area numbers_are refl sum c.in_ok-ends.ensures.joined inside.0 inside.1 inside.2 in
+    let as_many = many r pair running next ends c.in_ok-ends.ensures.ends numbers areas (length_at c.join.new.links) area numbers_are refl sum c.in_ok-ends.ensures.joined inside.0 inside.1 inside.2 in
+    let listed = subst (λ (ls : List Link). AreNeighboursAfter r pair ls c.in_ok-neighbours.neighbours.items) c.deref.ensures.value c.in_ok-neighbours.ensures in
+    let places = c.deref-2.result.now in
+    let beside = subst (AreNeighboursAfter r pair pair.links.items) (sym c.deref-2.ensures.value) listed in
+    let queue = requeued r pair running next ends.from ends.to c.in_ok-ends.ensures.ends numbers as_many at_from at_to at_other places beside
+    c.set.new.self c.set-2.new.self c.set-3.new.self c.set_all.new.self
     (to_z w128 (of_z w128 c.face-loser.result.importance)) (to_z w128 (of_z w128 c.face-winner.result.importance)) (to_z w128 (of_z w128 c.importance-importance.result))
-    (ap (set (set r.numbers.items ends.from 0) ends.to) count) refl sum
+    c.face-loser.result.number c.face-winner.result.number (c.len.result + 1) c.permitted_of_made-permitted.result
     (importance_back (state_of r) (number_in r pair.loser) c.face-loser.result.importance running.slots.known c.face-loser.ensures.importance)
     (importance_back (state_of r) (number_in r pair.winner) c.face-winner.result.importance running.slots.known c.face-winner.ensures.importance)
     (new_importance r pair running next _ c.face-winner.result.class c.rules.result.now c.rules.ensures.value sum c.face-winner.ensures.class c.importance-importance.result c.importance-importance.ensures)
-    c.in_ok-ends.ensures.joined
-    c.remove.ensures.kept c.remove.ensures.only (subst (λ (f : ℕ). waits c.remove.new.self (to_z w128 (of_z w128 c.face-loser.result.importance)) f pair.loser ≡ false) c.face-loser.ensures.number c.remove.ensures.gone)
-    c.remove-2.ensures.kept c.remove-2.ensures.only (subst (λ (f : ℕ). waits c.remove-2.new.self (to_z w128 (of_z w128 c.face-winner.result.importance)) f pair.winner ≡ false) c.face-winner.ensures.number c.remove-2.ensures.gone)
-    (λ u some. subst (λ (f : ℕ). waits c.wait.new.queue (to_z w128 (of_z w128 c.importance-importance.result)) f ends.to ≡ true) count (c.in_ok-wait.ensures.added u some))
-    c.in_ok-wait.ensures.kept (λ i f t e. renumbered f (c.len.result + 1) s.made count (c.in_ok-wait.ensures.only i f t e))
-    inside.0 inside.1 inside.2 in
+    c.face-loser.ensures.number c.face-winner.ensures.number count c.permitted_of_made-permitted.ensures
+    c.in_ok-set.ensures.waits c.in_ok-set.ensures.counts c.in_ok-set-2.ensures.waits c.in_ok-set-2.ensures.counts c.in_ok-set-3.ensures.waits c.in_ok-set-3.ensures.counts
+    c.in_ok-set_all.ensures.waiting c.in_ok-set_all.ensures.counts c.in_ok-set_all.ensures.slots in
     record {
       classes = class ∙ sym (ap (λ (m : MergeState). m.classes) state);
-      slots = subst (λ (m : MergeState). AreInSlots m numbers areas (length_at c.join.new.links) (waits c.wait.new.queue)) (sym state) slots;
+      slots = subst (λ (m : MergeState). AreInSlots m numbers areas (length_at c.join.new.links)) (sym state) slots;
+      queue = subst (λ (m : MergeState). IsQueueOf m numbers c.set_all.new.self) (sym state) queue;
     }

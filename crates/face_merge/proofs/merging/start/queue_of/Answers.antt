@@ -1,19 +1,21 @@
 -- One more face, with its importance, where it has a link.
-use Rattle.std.proofs.Common.{◌≡◌, ◌<◌, ◌≤◌, ◌+◌, ◌-◌, ◌*ℤ◌, ◌∙◌, refl, ap, sym, subst, arith, ℕ, ℤ, pos, unsigned_abs, List, length, map, get_or, slice_index, to_z, of_z}
+use Rattle.std.proofs.Common.{◌≡◌, ◌<◌, ◌≤◌, ◌+◌, ◌-◌, ◌*ℤ◌, ◌∙◌, refl, ap, sym, subst, arith, ℕ, ℤ, pos, unsigned_abs, List, length, map, get_or, replicate, slice_index, to_z, of_z}
 use Rattle.std.specs.Int.{w128}
+use Rattle.std.specs.Prelude.{count_by}
+use Rattle.std.specs.List.{All}
 use Rattle.std.proofs.lemmas.List.Elements.{All-get_or}
 use Rattle.tgap_model.specs.declared.base.Rules.{Rules}
 use Rattle.tgap_model.specs.Bounds.{max_area}
 use Rattle.tgap_model.specs.History.{area_of, class_of, labelled}
 use Rattle.tgap_model.proofs.BaseFacts.{base_facts}
+use Rattle.face_merge.specs.declared.links.Link.{Link}
 use Rattle.face_merge.specs.Links.{length_at}
-use Rattle.face_merge.specs.Merging.{begin, importance_of}
-use Rattle.face_merge.specs.Queue.{waits}
+use Rattle.face_merge.specs.Merging.{begin, importance_of, permits_in, permitted_count}
 use Rattle.face_merge.specs.Running.{IsQueueBelow}
 use Rattle.face_merge.proofs.Start.{merging_start}
 use Rattle.face_merge.proofs.Sums.{area_small, face_area_is}
 use Rattle.face_merge.proofs.Held.{importance_back}
-use Rattle.face_merge.proofs.Begun.{no_queue, queue_more}
+use Rattle.face_merge.proofs.Begun.{no_queue, own_count, own_links, queue_more}
 use Rattle.face_merge.proofs.merging.start.queue_of.Goals as goal
 
 -- the area of the face, as it is handed over
@@ -46,17 +48,22 @@ importance-importance-requires-clause-area c =
     let known = merging_start m c.classes.ensures.base in
     subst (λ (z : ℤ). unsigned_abs z ≤ max_area) (sym (area_is c).1) (area_small c.loop-slot.slot (map labelled m.arcs) known.measured known.few_arcs)
 
-pub overflow_cast-slot : goal.overflow_cast-slot
-overflow_cast-slot c = omega (arith, c.loop-slot-test.true, c.requires.areas.count, (base_facts c.args.base.now c.classes.ensures.base).few_faces)
+pub overflow_cast-face : goal.overflow_cast-face
+overflow_cast-face c = omega (arith, c.loop-slot-test.true, c.requires.areas.count, (base_facts c.args.base.now c.classes.ensures.base).few_faces)
 
-pub overflow_cast-slot-in-loop-slot : goal.overflow_cast-slot-in-loop-slot
-overflow_cast-slot-in-loop-slot c = omega (arith, c.loop-slot-test.true, c.requires.areas.count, (base_facts c.args.base.now c.classes.ensures.base).few_faces)
+pub of-requires : goal.of-requires
+of-requires c = omega (arith, c.loop-slot-test.true, c.requires.areas.count, (base_facts c.args.base.now c.classes.ensures.base).few_faces)
 
-pub wait-requires : goal.wait-requires
-wait-requires c = omega (arith, c.loop-slot-test.true, c.requires.areas.count, (base_facts c.args.base.now c.classes.ensures.base).few_faces)
+pub permitted_of-requires-clause-links : goal.permitted_of-requires-clause-links
+permitted_of-requires-clause-links c =
+    let m = c.args.base.now in
+    subst (All (λ (link : Link). (0 < link.slot) × (link.slot ≤ length m.classes))) (sym c.deref.ensures.value)
+    (own_links m (merging_start m c.classes.ensures.base) (length_at c.args.links.now) c.requires.links c.loop-slot.slot c.in_ok-own.own.items c.in_ok-own.ensures.links)
 
 pub loop-slot-init : goal.loop-slot-init
-loop-slot-init c = no_queue (begin c.args.base.now) (waits c.new-queue.result) c.new-queue.ensures
+loop-slot-init c =
+    no_queue (begin c.args.base.now) (length c.args.base.now.classes + 1) c.in_ok-queue.queue c.in_ok-queue.ensures.none
+    (c.in_ok-queue.ensures.counts ∙ ap (λ (n : ℕ). replicate n 0) c.requires.areas.count)
 
 pub loop-slot-preserved : goal.loop-slot-preserved
 loop-slot-preserved c =
@@ -68,9 +75,12 @@ loop-slot-preserved c =
     let class = ap (λ (ks : List ℕ). get_or ks (k - 1) 0) (c.as_slice-classes.ensures ∙ c.classes.ensures.value) in
     let value : c.importance-importance.result ≡ importance_of (begin m) k =
     c.importance-importance.ensures ∙ importance_same _ _ c.rules.result.now m.rules _ _ area c.rules.ensures.value class in
-    queue_more (begin m) k (waits c.loop-slot.queue) (waits c.wait.new.queue) (length_at c.args.links.now) (to_z w128 (of_z w128 c.importance-importance.result))
-    c.loop-slot.invariant c.requires.links (importance_back (begin m) k c.importance-importance.result known value)
-    c.in_ok-wait.ensures.added c.in_ok-wait.ensures.kept c.in_ok-wait.ensures.only
+    let count : c.permitted_of.result ≡ permitted_count (begin m) k =
+    c.permitted_of.ensures ∙ (ap (count_by (λ (link : Link). permits_in (begin m) k link.slot)) c.deref.ensures.value
+    ∙ own_count m known (length_at c.args.links.now) c.requires.links k c.in_ok-own.own.items c.in_ok-own.ensures.links c.in_ok-own.ensures.once) in
+    queue_more (begin m) (length m.classes + 1) k c.permitted_of.result c.loop-slot.queue c.set.new.self (to_z w128 (of_z w128 c.importance-importance.result))
+    (omega (arith, below)) c.loop-slot.invariant (importance_back (begin m) k c.importance-importance.result known value) count
+    c.in_ok-set.ensures.waits c.in_ok-set.ensures.counts
   where
     importance_same : (a b : ℤ) (r s : Rules) (j k : ℕ) → a ≡ b → r ≡ s → j ≡ k → a *ℤ pos (slice_index r.weights j) ≡ b *ℤ pos (slice_index s.weights k)
     importance_same a b r s j k p q e = rw (p, q, e) refl
@@ -78,4 +88,4 @@ loop-slot-preserved c =
 pub returns : goal.returns
 returns c =
     let end : c.loop-slot.slot ≡ length c.args.base.now.classes + 1 = omega (arith, c.loop-slot-test.false, c.loop-slot.auto.slot-end, c.requires.areas.count) in
-    subst (λ (k : ℕ). IsQueueBelow (begin c.args.base.now) k (waits c.loop-slot.queue)) end c.loop-slot.invariant
+    subst (λ (k : ℕ). IsQueueBelow (begin c.args.base.now) (length c.args.base.now.classes + 1) k c.loop-slot.queue) end c.loop-slot.invariant

@@ -1,7 +1,7 @@
 use Rattle.std.proofs.Common.{◌<◌, ◌∙◌, List, length, insert, sym, ap, subst}
 use Rattle.tgap_model.specs.declared.geometry.Point.{Point}
 use Rattle.tgap_model.specs.declared.base.BaseArc.{BaseArc}
-use Rattle.tgap_model.specs.Edits.{has_point}
+use Rattle.edit_laws.specs.Edits.{has_point}
 use Rattle.map_version.specs.Places.{listed, Covers}
 use Rattle.map_version.specs.Positions.{changed_at}
 use Rattle.map_version.proofs.Firsts.{written_is_changed}

@@ -1,6 +1,6 @@
 use Rattle.std.proofs.Common.{◌≡◌, ◌∙◌, length, sym, ap, subst, arith}
 use Rattle.tgap_model.specs.declared.base.BaseArc.{BaseArc}
-use Rattle.tgap_model.specs.Edits.{has_point, move_all}
+use Rattle.edit_laws.specs.Edits.{has_point, move_all}
 use Rattle.map_version.specs.Places.{listed, Covers}
 use Rattle.map_version.proofs.Moves.{points_apart, covers_moved, all_written}
 use Rattle.map_version.proofs.arcs.IndexedArcs.move_all.Goals as goal

@@ -4,7 +4,7 @@ use Rattle.std.proofs.lemmas.Bool.{not-true, ltb-true}
 use Rattle.tgap_model.specs.declared.base.BaseArc.{BaseArc}
 use Rattle.tgap_model.specs.declared.limits.TheConstants.{MAX_POINTS}
 use Rattle.tgap_model.specs.Base.{BaseMap, is_base, count_points}
-use Rattle.tgap_model.specs.Edits.{has_point, add_point}
+use Rattle.edit_laws.specs.Edits.{has_point, add_point}
 use Rattle.edit_laws.proofs.Laws.{add_again, put_count}
 use Rattle.map_version.specs.Positions.{segment_at, first_place}
 use Rattle.map_version.proofs.Positions.{segment_within}

@@ -2,7 +2,7 @@ use Rattle.std.proofs.Common.{◌≡◌, ◌∙◌, length, not, true, false, Ok
 use Rattle.std.proofs.lemmas.Bool.{not-true}
 use Rattle.plain_io.specs.Taking.{GivesWhole}
 use Rattle.tgap_model.specs.Base.{BaseMap}
-use Rattle.tgap_model.specs.Edits.{has_point, is_node, drop_point}
+use Rattle.edit_laws.specs.Edits.{has_point, is_node, drop_point}
 use Rattle.tgap_model.proofs.BaseFacts.{base_facts}
 use Rattle.map_version.specs.Drops.{dropped_at}
 use Rattle.map_version.proofs.Drafts.{ensured_holds, drop_goes, have_points}

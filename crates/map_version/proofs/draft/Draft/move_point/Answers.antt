@@ -3,7 +3,7 @@ use Rattle.std.proofs.lemmas.Bool.{not-true}
 use Rattle.tgap_model.specs.declared.base.BaseArc.{BaseArc}
 use Rattle.std.specs.Prelude.{List}
 use Rattle.tgap_model.specs.Base.{BaseMap, is_base, count_points}
-use Rattle.tgap_model.specs.Edits.{has_point}
+use Rattle.edit_laws.specs.Edits.{has_point}
 use Rattle.edit_laws.proofs.Laws.{move_again, moved_count}
 use Rattle.map_version.proofs.Drafts.{ensured_holds}
 use Rattle.map_version.proofs.draft.Draft.move_point.Goals as goal

@@ -6,7 +6,7 @@ use Rattle.std.proofs.lemmas.Bool.{ne_eqb}
 use Rattle.std.proofs.lemmas.Int.{ints}
 use Rattle.tgap_model.specs.declared.geometry.Point.{Point}
 use Rattle.tgap_model.specs.Base.{same_point}
-use Rattle.tgap_model.specs.Rings.{points_named}
+use Rattle.topology_forms.specs.Rings.{points_named}
 use Rattle.ring_sides.proofs.RawArcs.{not_at}
 use Rattle.ring_sides.proofs.arcs.Arcs.is_at.Goals as goal
 

@@ -1,7 +1,7 @@
 use Rattle.std.proofs.Common.{◌≡◌, ◌∙◌, sym, ap, to_z, of_z, arith}
 use Rattle.std.specs.Int.{w64}
 use Rattle.std.proofs.lemmas.Int.{ints}
-use Rattle.tgap_model.specs.Rings.{start_named}
+use Rattle.topology_forms.specs.Rings.{start_named}
 use Rattle.ring_sides.specs.Arcs.{are_at}
 use Rattle.ring_sides.proofs.RingLoops.{collapsed_from}
 use Rattle.ring_sides.proofs.arcs.Arcs.is_collapsed.Goals as goal

@@ -1,6 +1,6 @@
 -- No place so far is open: the first open place is that of the rest.
 use Rattle.std.proofs.Common.{◌≡◌, drop, pos, slice_index_or}
-use Rattle.tgap_model.specs.Rings.{open_place, open_from}
+use Rattle.topology_forms.specs.Rings.{open_place, open_from}
 use Rattle.ring_sides.proofs.arcs.Arcs.open_place.Given as goal
 
 abbrev pub invariant-loop-place : goal.invariant-loop-place

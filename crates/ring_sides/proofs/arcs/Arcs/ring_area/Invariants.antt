@@ -1,6 +1,6 @@
 -- What is summed so far, with the sum of the rest, is the whole.
 use Rattle.std.proofs.Common.{◌≡◌, ◌≤◌, ◌*◌, ◌+ℤ◌, unsigned_abs, drop}
-use Rattle.tgap_model.specs.Rings.{ring_area}
+use Rattle.topology_forms.specs.Rings.{ring_area}
 use Rattle.tgap_model.specs.Bounds.{max_arc_area}
 use Rattle.ring_sides.proofs.arcs.Arcs.ring_area.Given as goal
 

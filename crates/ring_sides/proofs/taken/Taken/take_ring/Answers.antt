@@ -3,7 +3,7 @@ use Rattle.std.proofs.Common.{◌≡◌, ◌∙◌, sym, ap, to_z, of_z, arith, 
 use Rattle.std.specs.Int.{w64}
 use Rattle.std.proofs.lemmas.Int.{ints}
 use Rattle.std.proofs.lemmas.Result.{err_from_is_err_and}
-use Rattle.tgap_model.specs.Rings.{index_taken}
+use Rattle.topology_forms.specs.Rings.{index_taken}
 use Rattle.ring_sides.specs.Taking.{is_exterior, is_left}
 use Rattle.ring_sides.proofs.RawArcs.{ring_names}
 use Rattle.ring_sides.proofs.Steps.{fold_next, fold_stop, fold_done, ring_from}

@@ -1,7 +1,7 @@
 -- What the indexes so far took, with what the rest takes, is what all take.
 use Rattle.std.proofs.Common.{◌≡◌, drop}
-use Rattle.tgap_model.specs.Json.{try_fold}
-use Rattle.tgap_model.specs.Rings.{index_taken}
+use Rattle.line_forms.specs.Json.{try_fold}
+use Rattle.topology_forms.specs.Rings.{index_taken}
 use Rattle.ring_sides.specs.Taking.{KeepsForm, is_left}
 use Rattle.ring_sides.proofs.taken.Taken.take_ring.Given as goal
 

@@ -2,7 +2,7 @@ use Rattle.std.proofs.Common.{◌∙◌, sym, ap, rules, arith, pos, get_or, Ok}
 use Rattle.std.specs.Int.{w64}
 use Rattle.std.specs.Prelude.{FitsSigned}
 use Rattle.std.proofs.lemmas.Int.{to_z-of_z}
-use Rattle.tgap_model.specs.Topology.{names_arc, index_read}
+use Rattle.topology_forms.specs.Topology.{names_arc, index_read}
 use Rattle.topo_read.proofs.Indexes.{through_none, index_more, index_stop, index_done, index_raw}
 use Rattle.topo_read.proofs.geometry.indexes.check_ring.Goals as goal
 

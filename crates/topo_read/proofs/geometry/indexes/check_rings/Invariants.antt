@@ -1,5 +1,5 @@
-use Rattle.tgap_model.specs.Topology.{ring_read}
-use Rattle.tgap_model.specs.Rings.{is_raw_ring}
+use Rattle.topology_forms.specs.Topology.{ring_read}
+use Rattle.topology_forms.specs.Rings.{is_raw_ring}
 use Rattle.topo_read.proofs.Indexes.{IsThrough}
 use Rattle.topo_read.proofs.geometry.indexes.check_rings.Given as goal
 

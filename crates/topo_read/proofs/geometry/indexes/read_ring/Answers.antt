@@ -7,7 +7,7 @@ use Rattle.std.proofs.lemmas.Result.{err_from_is_err_and}
 use Rattle.serde_json.specs.View.{view}
 use Rattle.tgap_model.specs.declared.fault.MapFault.TheVariants.{Shape}
 use Rattle.tgap_model.specs.declared.failure.Or.TheVariants.{Fault}
-use Rattle.tgap_model.specs.Json.{each_of, whole_of}
+use Rattle.line_forms.specs.Json.{each_of, whole_of}
 use Rattle.plain_io.proofs.Loops.{refused_at}
 use Rattle.topo_read.proofs.Indexes.{none_before, array_more, array_stop, array_done, some_of_ok, none_of_err}
 use Rattle.topo_read.proofs.geometry.indexes.read_ring.Goals as goal

@@ -1,4 +1,4 @@
-use Rattle.tgap_model.specs.Json.{whole_of}
+use Rattle.line_forms.specs.Json.{whole_of}
 use Rattle.topo_read.proofs.Indexes.{IsReadTo}
 use Rattle.topo_read.proofs.geometry.indexes.read_ring.Given as goal
 

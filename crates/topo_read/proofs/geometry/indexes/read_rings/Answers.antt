@@ -4,8 +4,8 @@ use Rattle.std.proofs.lemmas.Result.{err_from_is_err_and}
 use Rattle.serde_json.specs.View.{view}
 use Rattle.tgap_model.specs.declared.fault.MapFault.TheVariants.{Shape}
 use Rattle.tgap_model.specs.declared.failure.Or.TheVariants.{Fault}
-use Rattle.tgap_model.specs.Json.{each_of}
-use Rattle.tgap_model.specs.Topology.{ring_of}
+use Rattle.line_forms.specs.Json.{each_of}
+use Rattle.topology_forms.specs.Topology.{ring_of}
 use Rattle.plain_io.proofs.Loops.{refused}
 use Rattle.topo_read.proofs.Indexes.{none_before, array_more, array_stop, array_done, some_of_ok, fault_of_none}
 use Rattle.topo_read.proofs.geometry.indexes.read_rings.Goals as goal

@@ -1,4 +1,4 @@
-use Rattle.tgap_model.specs.Topology.{ring_of}
+use Rattle.topology_forms.specs.Topology.{ring_of}
 use Rattle.topo_read.proofs.Indexes.{IsReadTo}
 use Rattle.topo_read.proofs.geometry.indexes.read_rings.Given as goal
 

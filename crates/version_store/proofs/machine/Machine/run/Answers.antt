@@ -1,6 +1,6 @@
 use Rattle.std.proofs.Common.{List, subst, sym, ap, ◌∙◌}
-use Rattle.tgap_model.specs.declared.machine.Outcome.{Outcome}
-use Rattle.tgap_model.specs.Machine.{Versions}
+use Rattle.version_store.specs.declared.event.Outcome.{Outcome}
+use Rattle.version_store.specs.Machine.{Versions}
 use Rattle.version_store.specs.Versions.{AreVersions}
 use Rattle.version_store.proofs.Laws.{run_done, run_tells, run_grows, sound, all_published, all_read, pins_kept}
 use Rattle.version_store.proofs.machine.Machine.run.Goals as goal

@@ -1,6 +1,6 @@
 use Rattle.std.proofs.Common.{◌≡◌, ◌≤◌, ◌++◌, ◌+◌, length}
 use Rattle.std.specs.Vec.{vec_len, vec_capacity}
-use Rattle.tgap_model.specs.Machine.{run}
+use Rattle.version_store.specs.Machine.{run}
 use Rattle.version_store.proofs.machine.Machine.run.Given as goal
 
 -- what came of the events so far, and what is to come of those that are left, come of all; and there is room for the latter

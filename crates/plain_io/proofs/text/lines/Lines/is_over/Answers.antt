@@ -1,5 +1,5 @@
 use Rattle.std.proofs.Common.{◌∙◌, ap}
-use Rattle.tgap_model.specs.Lines.{Lines, is_over}
+use Rattle.line_forms.specs.Lines.{Lines, is_over}
 use Rattle.plain_io.proofs.LineEnds.{over_tested}
 use Rattle.plain_io.proofs.text.lines.Lines.is_over.Goals as goal
 

@@ -1,0 +1,4 @@
+pub mod TextExamples
+pub mod ListingExamples
+pub mod TopologyExamples
+pub mod WindowTexts
