@@ -8,6 +8,13 @@ sys.path.insert(0, str(pathlib.Path(__file__).resolve().parents[1] / "tests"))
 from lib import arc_text, bent_grid, grid, listing_lines  # noqa: E402
 
 
+# The greatest coordinate of a map and the length of a large cell's side, in units, and what a listing of version 1 may
+# have.
+MOST = 2 ** 31
+CELL = 2 ** 20
+MOST_POINTS_1 = 131072
+
+
 def cells(side):
     """Square cells, side by side."""
     faces, count, arcs = grid(side)
@@ -18,6 +25,38 @@ def bent_cells(side):
     """Cells whose sides have a bend that a larger neighbour does not need."""
     faces, count, arcs = bent_grid(side)
     return faces, count, 3 * count, arcs
+
+
+def jagged_cells(side):
+    """Cells whose sides have eight points each, in a zigzag."""
+    faces, count, arcs = grid(side)
+    zigzag = [(0, 0), (3, 1), (5, 0), (7, 1), (9, 0), (11, 1), (13, 0), (16, 0)]
+
+    def jagged(points):
+        (x, y), (u, _) = points
+        return [(16 * x + across, 16 * y + along) if x == u else (16 * x + along, 16 * y + across) for along, across in zigzag]
+
+    return faces, count, 8 * count, ((left, right, jagged(points)) for left, right, points in arcs)
+
+
+def placed_cells(side, corner):
+    """Square cells of 2^20 units, of which this is the corner with the greatest coordinates."""
+    faces, count, arcs = grid(side)
+
+    def placed(points):
+        return [(corner - (side - x) * CELL, corner - (side - y) * CELL) for x, y in points]
+
+    return faces, count, 2 * count, ((left, right, placed(points)) for left, right, points in arcs)
+
+
+def middle_cells(side):
+    """Cells in the middle of the plane."""
+    return placed_cells(side, side * CELL // 2)
+
+
+def corner_cells(side):
+    """The same cells in the corner of the plane, where both coordinates are near the greatest."""
+    return placed_cells(side, MOST)
 
 
 def saw(teeth):
@@ -75,6 +114,17 @@ def star(reach):
     return count, 2 * count, 4 * count, arcs()
 
 
+def long_star(reach):
+    """The same star, in which each arc is straight and has eight points."""
+    faces, count, _, arcs = star(reach)
+
+    def lengthened(points):
+        (x, y), (u, v) = points
+        return [((7 - part) * x + part * u, (7 - part) * y + part * v) for part in range(8)]
+
+    return faces, count, 8 * count, ((left, right, lengthened(points)) for left, right, points in arcs)
+
+
 def stripes(side):
     """Square cells, side by side, of which each row is of another class than the next."""
     return cells(side)
@@ -117,14 +167,18 @@ def classes_of(shape, size, faces):
     return [[1, 0], [0, 1]], [BARRED[shape][0](size, face) for face in range(faces)]
 
 
-# Each shape with its ratio, and with sizes that about double the points, up to what a map may have: 131,072 points,
+# Each shape with its ratio, and with sizes that about double the points, up to what a map may have: 524,288 points,
 # 65,536 arcs and 32,768 faces.
 SHAPES = {
     "grid of cells": (cells, 0, [22, 32, 45, 64, 90, 128, 180]),
-    "bent cells": (bent_cells, 16, [18, 26, 40, 64, 91, 128, 147]),
-    "one long arc": (saw, 0, [1024, 2048, 4096, 8192, 16384, 32768, 65534]),
-    "comb": (comb, 0, [512, 1024, 2048, 4096, 8192, 16384, 32767]),
+    "middle cells": (middle_cells, 0, [45, 90, 180]),
+    "corner cells": (corner_cells, 0, [45, 90, 180]),
+    "bent cells": (bent_cells, 16, [18, 26, 40, 64, 91, 128, 180]),
+    "jagged cells": (jagged_cells, 16, [16, 22, 32, 45, 64, 90, 128, 180]),
+    "one long arc": (saw, 0, [1024, 2048, 4096, 8192, 16384, 32768, 65534, 131072, 262142]),
+    "comb": (comb, 0, [512, 1024, 2048, 4096, 8192, 16384, 32767, 65536, 131071]),
     "star": (star, 0, [64, 128, 256, 512, 1024, 2048, 4096]),
+    "long star": (long_star, 0, [64, 128, 256, 512, 1024, 2048, 4096]),
     "stripes": (stripes, 0, [22, 32, 45, 64, 90, 128, 180]),
     "barred hub": (hub, 0, [42, 85, 170, 341, 682, 1365, 2730]),
 }
@@ -172,11 +226,17 @@ def write_longest(path):
         file.write(head + "[0,0]," * (room // 6) + " " * (room % 6) + tail)
 
 
+def version_of(shape, points):
+    """The first version of the listing that may hold a map: programs before the second one read it too."""
+    return 2 if shape is corner_cells or points > MOST_POINTS_1 else 1
+
+
 def write(path, shape, size, ratio=0):
     """Writes the listing of a map to a file. With a ratio above 0 vertices of it are removed."""
-    faces, count, _, arcs = shape(size)
+    faces, count, points, arcs = shape(size)
     compat, kinds = classes_of(shape, size, faces)
     rows = [" ".join(str(number) for number in [1, *row]) for row in compat]
     with open(path, "w", encoding="ascii") as file:
         file.writelines(listing_lines(faces, count, (arc_text(*arc) for arc in arcs), ratio=ratio, classes=rows,
-                                      class_of={face: kind for face, kind in enumerate(kinds, 1) if kind}))
+                                      class_of={face: kind for face, kind in enumerate(kinds, 1) if kind},
+                                      version=version_of(shape, points)))

@@ -226,10 +226,10 @@ def reply(status, reason, version, body, close=False, allow=None):
 # ---- listings
 
 
-def listing_lines(faces, count, arcs, ratio=16, classes=("1 1",), class_of=None):
+def listing_lines(faces, count, arcs, ratio=16, classes=("1 1",), class_of=None, version=1):
     """The lines of the listing of a base map: the classes without their numbers, the number of arcs and the arcs
     without their word, and the classes that are not 0 by face."""
-    yield f"tgap 1\ntransform 1 1 0 0\nratio {ratio}\nclasses {len(classes)}\n"
+    yield f"tgap {version}\ntransform 1 1 0 0\nratio {ratio}\nclasses {len(classes)}\n"
     yield from (f"class {number} {row}\n" for number, row in enumerate(classes))
     yield f"faces {faces}\n"
     yield from (f"face {face} {(class_of or {}).get(face, 0)}\n" for face in range(1, faces + 1))

@@ -36,11 +36,11 @@ export class Unreachable extends Error {
 }
 
 /** The greatest coordinate of a map. */
-export const FARTHEST = 2 ** 28;
+export const FARTHEST = 2 ** 31;
 
 const TRIES = 5;
 // A face of any map is whole in a window that has been doubled so often.
-const DOUBLINGS = 30;
+const DOUBLINGS = 33;
 const OF_A_FRONT_SERVER = [502, 504];
 
 export class Client {

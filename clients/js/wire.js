@@ -1,7 +1,7 @@
 // The texts of slices, windows and packets, read and written (docs/formats.md). A reader throws BadText with the first line that is not of its form.
 
 const MAX_COUNT = 0xffffffff;
-const MAX_COORDINATE = 2 ** 28;
+const MAX_COORDINATE = 2 ** 31;
 
 /** A text that is none of its kind: `line` is the first line, from 1, that is not what must come there. */
 export class BadText extends Error {

@@ -67,7 +67,11 @@ CHECK = [
     ("check hole_with_face", 0, "ok faces 2 arcs 2 points 10\n"),
     ("check hole", 0, "ok faces 1 arcs 2 points 10\n"),
     ("check spike", 0, "ok faces 3 arcs 4 points 15\n"),
+    ("check two_squares_2", 0, "ok faces 2 arcs 3 points 10\n"),
     ("check widest", 0, "ok faces 1 arcs 1 points 4\n"),
+    ("check widest_1", 0, "ok faces 1 arcs 1 points 4\n"),
+    ("check longest", 0, "ok faces 1 arcs 1 points 524288\n"),
+    ("check longest_1", 0, "ok faces 1 arcs 1 points 131072\n"),
     ("check crossing", 4, "refused 15 meets 0 1 125 125 50\n"),
     ("check touching", 4, "refused 15 meets 0 1 250 0 50\n"),
     ("check overlapping", 4, "refused 15 meets 0 1 14 0 2\n"),
@@ -117,7 +121,11 @@ SLICE = [
 
 # Lines in place of a line of the two squares, and the fault that is told then. Each command tells it.
 BAD_LINES = [
-    (1, b"tgap 2", "18 bad-line 1"),
+    (1, b"tgap 3", "18 bad-line 1"),
+    (1, b"tgap 0", "18 bad-line 1"),
+    (1, b"tgap 02", "18 bad-line 1"),
+    (1, b"tgap", "18 bad-line 1"),
+    (1, b"tgap 1 2", "18 bad-line 1"),
     (1, b"tgap 1\r", "18 bad-line 1"),
     (1, b"\xff\xfe", "18 bad-line 1"),
     (2, b"transform 1 1 0 2147483648", "18 bad-line 2"),
@@ -131,9 +139,23 @@ BAD_LINES = [
     (9, b"arcs 65537", "9 limit arcs 65537"),
     (10, b"arc 1 1 4 10 10 0 10 0 0 10 0", "18 bad-line 10"),
     (10, b"arc 1 0 131073", "9 limit points 131073"),
+    (11, b"arc 2 0 131069 and more", "9 limit points 131073"),
+    (10, b"arc 1 0 2 268435457 0 0 0", "18 bad-line 10"),
     (11, b"arc 2 0 4 10 0 10 0 20 10 10 10", "18 bad-line 11"),
     (12, b"arc 1 2 2 10 0 10 +10", "18 bad-line 12"),
     (13, b"end ", "18 bad-line 13"),
+]
+
+# The same in the two squares of version 2: what is too much for version 1 alone is in form.
+BAD_LINES_2 = [
+    (3, b"ratio 016", "18 bad-line 3"),
+    (10, b"arc 1 0 131073", "18 bad-line 10"),
+    (10, b"arc 1 0 524288", "18 bad-line 10"),
+    (10, b"arc 1 0 524289", "9 limit points 524289"),
+    (11, b"arc 2 0 524285 and more", "9 limit points 524289"),
+    (10, b"arc 1 0 2 2147483648 0 0 0 0", "18 bad-line 10"),
+    (10, b"arc 1 0 2 2147483649 0 0 0", "18 bad-line 10"),
+    (10, b"arc 1 0 2 0 -2147483649 0 0", "18 bad-line 10"),
 ]
 
 FILES = [
@@ -142,6 +164,11 @@ FILES = [
     ("cut_line", 4, "refused 18 bad-line 13\n"),
     ("more", 4, "refused 18 bad-line 14\n"),
     ("too_wide", 4, "refused 18 bad-line 9\n"),
+    ("too_wide_1", 4, "refused 18 bad-line 9\n"),
+    ("widest_in_version_1", 4, "refused 18 bad-line 9\n"),
+    ("too_many_points", 4, "refused 9 limit points 524289\n"),
+    ("too_many_points_1", 4, "refused 9 limit points 131073\n"),
+    ("version_3", 4, "refused 18 bad-line 1\n"),
     ("lonely_face", 4, "refused 18 bad-line 9\n"),
     ("blanks", 4, "refused 18 bad-line 1\n"),
     ("too_long", 4, "refused 20 input-long 16777216\n"),
@@ -157,9 +184,10 @@ FILES = [
     # Its first read fails, which is no end of file.
     ("/proc/self/mem", 3, "load fault map\n"),
 ]
-for number, (place, line, fault) in enumerate(BAD_LINES):
-    MAPS[f"bad_{number}"] = two_squares_with(place, line)
-    FILES.append((f"bad_{number}", 4, f"refused {fault}\n"))
+for version, bad in ((1, BAD_LINES), (2, BAD_LINES_2)):
+    for number, (place, line, fault) in enumerate(bad):
+        MAPS[f"bad_{version}_{number}"] = two_squares_with(place, line, version)
+        FILES.append((f"bad_{version}_{number}", 4, f"refused {fault}\n"))
 ANY_FILE = [case for name, status, text in FILES for case in ((["check", name], status, text), (["borders", name, "0"], status, text), (["slice", name, "0"], status, text))]
 
 NO_COMMAND = [(words, 2, USAGE) for words in [

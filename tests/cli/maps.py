@@ -4,7 +4,19 @@ from lib import listing
 SQUARE = "0 0 10 0 10 10 0 10 0 0"
 LARGE_SQUARE = "0 0 30 0 30 30 0 30 0 0"
 INNER_SQUARE = "10 10 20 10 20 20 10 20 10 10"
-MOST = 268435456
+MOST, MOST_1 = 2147483648, 268435456  # the greatest coordinates of a map, and of a listing of version 1
+MOST_POINTS, MOST_POINTS_1 = 524288, 131072  # and the greatest numbers of points
+
+
+def triangle(most, right):
+    """An arc round a triangle that is as wide as coordinates up to this one allow, with another one at its right corner."""
+    return f"1 0 4 -{most} -{most} {right} -{most} 0 {most} -{most} -{most}"
+
+
+def row_of(count):
+    """A closed arc of this many points: a level row of them from (0,0) on, and one above the first."""
+    row = " ".join(f"{x} 0" for x in range(count - 2))
+    return f"1 0 {count} {row} 0 1 0 0"
 
 
 def with_line(text, number, line):
@@ -40,7 +52,11 @@ MAPS = {
     "spike_with_island": listing(3, SPIKE, ratio=10),
     "spike_without_island": listing(2, SPIKE[:3], ratio=10),
     "triangles": listing(2, ["1 0 3 0 0 12 0 6 6", "2 0 3 6 6 0 12 0 0", "2 1 2 0 0 6 6"], ratio=1),
-    "widest": listing(1, [f"1 0 4 -{MOST} -{MOST} {MOST} -{MOST} 0 {MOST} -{MOST} -{MOST}"]),
+    "two_squares_2": listing(2, TWO_SQUARES, version=2),
+    "widest": listing(1, [triangle(MOST, MOST)], version=2),
+    "widest_1": listing(1, [triangle(MOST_1, MOST_1)]),
+    "longest": listing(1, [row_of(MOST_POINTS)], version=2),
+    "longest_1": listing(1, [row_of(MOST_POINTS_1)]),
     # maps that are no planar partition
     "crossing": listing(2, ["1 0 2 0 0 5 5", "2 0 2 0 5 5 0"]),
     "touching": listing(2, ["1 0 2 0 0 10 0", "2 0 2 5 0 5 5"]),
@@ -53,7 +69,12 @@ MAPS = {
     "empty": b"",
     "blanks": b" " * 16777216,
     "too_long": b" " * 16777217,
-    "too_wide": listing(1, [f"1 0 4 -{MOST} -{MOST} {MOST + 1} -{MOST} 0 {MOST} -{MOST} -{MOST}"]),
+    "too_wide": listing(1, [triangle(MOST, MOST + 1)], version=2),
+    "too_wide_1": listing(1, [triangle(MOST_1, MOST_1 + 1)]),
+    "widest_in_version_1": listing(1, [triangle(MOST, MOST)]),
+    "too_many_points": listing(1, [row_of(MOST_POINTS + 1)], version=2),
+    "too_many_points_1": listing(1, [row_of(MOST_POINTS_1 + 1)]),
+    "version_3": listing(1, [f"1 0 5 {SQUARE}"], version=3),
     "lonely_face": listing(1, []),
 }
 MAPS["cut"] = MAPS["two_squares"][: -len(b"end\n")]
@@ -62,9 +83,9 @@ MAPS["more"] = MAPS["two_squares"] + b"\n"
 MAPS["a name with spaces"] = MAPS["carte_é"] = MAPS["two_squares"]
 
 
-def two_squares_with(number, line):
+def two_squares_with(number, line, version=1):
     """The listing of the two squares, with another line in place of the one with this number."""
-    return with_line(MAPS["two_squares"], number, line)
+    return with_line(MAPS["two_squares" if version == 1 else "two_squares_2"], number, line)
 
 
 def crossing_lines(count):
@@ -72,7 +93,7 @@ def crossing_lines(count):
     and nothing at its right. Every two of them meet, and no two faces are neighbours. With 65,536 arcs it is near all
     limits, and about 4 MB long."""
     high, low = f"-{MOST} {MOST - 1}", f"-{MOST - 1} -{MOST}"
-    return listing(count // 2, [f"{arc // 2 + 1} 0 2 {high} {low}" for arc in range(count)])
+    return listing(count // 2, [f"{arc // 2 + 1} 0 2 {high} {low}" for arc in range(count)], version=2)
 
 
 def large_borders():

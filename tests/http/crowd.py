@@ -1,4 +1,6 @@
 """Many readers and editors at once: one chain of published versions, no pin falls, nothing acknowledged is lost."""
+import concurrent.futures
+import contextlib
 import http.client
 import re
 import threading
@@ -83,4 +85,22 @@ def a_crowd(tests):
         client.close()
 
 
-TESTS = [a_crowd]
+def sixteen_editors(tests):
+    """Sixteen clients that pinned the first version send an edit, in turn and at once: one is published, and the others are
+    stale."""
+    batch = b"move 20 0 21 0\n"
+
+    def edit(client):
+        return ask(client, "POST", "/edit", batch)[:3]
+
+    for name, way in [("in turn", map), ("at once", concurrent.futures.ThreadPoolExecutor(16).map)]:
+        with Server(tests.executable, FOUR, 16, VERSIONS) as server, contextlib.ExitStack() as stack:
+            clients = [stack.enter_context(contextlib.closing(server.client())) for _ in range(16)]
+            tests.same(f"sixteen pins {name}", [ask(client, "GET", "/info")[1] for client in clients], [0] * 16)
+            answers = list(way(edit, clients))
+            wanted = [(200, 1, b"published 1\n"), *[(409, 0, b"stale 1\n")] * 15]
+            tests.same(f"sixteen edits {name}", answers if way is map else sorted(answers), wanted)
+            tests.same(f"sixteen newest versions {name}", [ask(client, "POST", "/pin")[1] for client in clients], [1] * 16)
+
+
+TESTS = [a_crowd, sixteen_editors]

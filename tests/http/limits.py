@@ -104,11 +104,13 @@ def heads(tests):
     headers = [f"H{number}: x" for number in range(HEADERS)]
     # Each request has a header of its own already.
     most, more = request("GET", "/info", b"", *headers[1:]), request("GET", "/info", b"", *headers)
+    endless = b"GET /info HTTP/1.1\r\nH: ".ljust(HEAD, b"x")
     with Server(tests.executable, MAP, 2, 1) as server:
         for name, sent, wanted in [
             ("a head of 8,192 bytes", padded(HEAD), GOOD), ("two heads of 8,192 bytes", padded(HEAD) * 2, GOOD * 2),
             ("a head of 8,193 bytes", padded(HEAD + 1), BAD), ("a head of 9,000 bytes", padded(9000), BAD),
             ("64 headers", most, GOOD), ("65 headers", more, BAD),
+            ("8,192 bytes of a header without an end", endless, BAD), ("8,191 bytes of it", endless[:-1], b""),
         ]:
             tests.same(name, exchange(server, sent), wanted)
             tests.same(f"{name}, in pieces", exchange(server, sent, 1000), wanted)

@@ -3,9 +3,11 @@ import shutil
 import subprocess
 
 from lib import SECONDS, TOP, Server, Skipped, ask, exchange, reply, request
+from model import window_of
 
 MAP = TOP / "examples/two_squares.tgap"
 INFO = b"version 0 steps 1 faces 2 arcs 3 points 10\n"
+WIDEST = "/window/0/-2147483648/-2147483648/2147483648/2147483648"
 WINDOW = b"window 0 12 2 30 4\nfaces 1\nface 2 0\nedges 1\nedge 1 2 0 4 10 0 20 0 20 10 10 10\nend\n"
 
 
@@ -17,12 +19,14 @@ def each_route(tests):
                            ("/packet/1/0", tests.text("packet", MAP, 1, 0)), ("/packet/0/0", b"packet 0 0\nend\n")]:
             tests.same(path, ask(client, "GET", path)[:3], (200, 0, text))
         tests.same("a window", ask(client, "GET", "/window/0/12/2/30/4")[:3], (200, 0, WINDOW))
+        tests.same("the widest window", ask(client, "GET", WIDEST)[:3], (200, 0, window_of(tests.text("slice", MAP, 0), (-2147483648, -2147483648, 2147483648, 2147483648))))
         tests.same("pin", ask(client, "POST", "/pin")[:3], (200, 0, b"pin 0\n"))
         tests.same("behind", ask(client, "POST", "/pin/1")[:3], (409, 0, b"behind 0\n"))
         for method, path, status, text in [
             ("GET", "/nothing", 404, b"no route\n"), ("GET", "/slice/", 404, b"no route\n"), ("GET", "/slice/0/1", 404, b"no route\n"),
             ("GET", "/slice/01", 400, b"bad number\n"), ("GET", "/slice/4294967296", 400, b"bad number\n"),
             ("GET", "/window/0/2/0/1/0", 400, b"bad number\n"), ("GET", "/slice/2", 400, b"step too high 1\n"),
+            ("GET", "/window/0/0/0/2147483649/0", 400, b"bad number\n"), ("GET", "/window/0/-2147483649/0/0/0", 400, b"bad number\n"),
             ("GET", "/packet/0/1", 400, b"not coarser 0 1\n"), ("GET", "/packet/2/0", 400, b"step too high 1\n"),
         ]:
             tests.same(f"{method} {path}", ask(client, method, path)[:3], (status, 0, text))

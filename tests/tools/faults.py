@@ -22,7 +22,7 @@ CASES = [
     (("type",), "FeatureCollection", "refused 2 shape 2 0", ["'type' is not 'Topology'", "FeatureCollection"]),
     (("objects",), {"sea": {"type": "Point"}}, "refused 3 no-object", ["'sea'"]),
     (("arcs", 0, 0), [10.5, 10], "refused 5 not-whole 0 0", ["position 0 of arc 0", WEST, "[10.5, 10]"]),
-    (("arcs", 2, 0), [300000000, 0], "refused 6 out-of-range 2 0", ["position 0 of arc 2", WEST, EAST]),
+    (("arcs", 2, 0), [3000000000, 0], "refused 6 out-of-range 2 0", ["position 0 of arc 2", WEST, EAST]),
     (("arcs", 2), [[10, 0]], "refused 7 arc-short 2", ["fewer than two positions", "arc 2", WEST, EAST]),
     ((*GEOMETRIES, 0, "arcs", 0, 1), 7, "refused 8 arc-index 0 1 7", ["ring 0", WEST, "index 7", "there are 3 arcs"]),
     ((*GEOMETRIES, 1, "arcs"), [[1]], "refused 11 ring-open 1 0", [EAST, "is open", "ends at 105, 205", "starts at 105, 200"]),

@@ -99,7 +99,7 @@ def refusals(tests, examples):
         ("no coordinate system", [columbus, "--t_srs", "EPSG:3035"], 4, ["columbus.json does not say its coordinate system", "--s_srs"]),
         ("an unknown coordinate system", [africa, "--t_srs", "EPSG:0"], 4, ["EPSG:0"]),
         ("degrees", [africa, "--t_srs", "EPSG:4326"], 4, ["counts in degrees"]),
-        ("too fine a grid", [africa, "--keep", "--cell", "1e-9"], 4, ["268,435,456", "greater --cell"]),
+        ("too fine a grid", [africa, "--keep", "--cell", "1e-9"], 4, ["2,147,483,648", "greater --cell"]),
         ("no grid", [africa], 2, ["--t_srs --quantize --keep"]),
         ("two grids", [africa, "--keep", "--quantize", 100], 2, ["not allowed with"]),
         ("a cell that is no number", [africa, "--keep", "--cell", "x"], 2, ["--cell"]),

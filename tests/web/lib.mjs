@@ -91,18 +91,19 @@ const SIDE = 1000;
 
 /**
  * The listing of a map of size by size areas of four classes, whose corners are moved from a grid of 1,000 units by a third at most, with a vertex in the middle of each
- * border.
+ * border. The grid may have another side and begin elsewhere; no coordinate is beyond `most` then.
  */
-export function gridListing(size) {
+export function gridListing(size, { side = SIDE, first = 0, most = Infinity, version = 1 } = {}) {
   const random = dice(size);
-  const shift = () => Math.round((random() - 0.5) * SIDE * 0.6);
+  const within = (z) => Math.max(-most, Math.min(most, Math.round(z)));
+  const placed = (i) => within(first + i * side + (random() - 0.5) * side * 0.6);
   const at = (i, j) => i * (size + 1) + j;
   const corners = [];
-  for (let i = 0; i <= size; i++) for (let j = 0; j <= size; j++) corners.push([i * SIDE + shift(), j * SIDE + shift()]);
+  for (let i = 0; i <= size; i++) for (let j = 0; j <= size; j++) corners.push([placed(i), placed(j)]);
   const face = (i, j) => (i < 0 || j < 0 || i >= size || j >= size ? 0 : 1 + i * size + j);
   const arcs = [];
   const arc = (left, right, p, q) => {
-    const middle = [0, 1].map((axis) => Math.round((p[axis] + q[axis]) / 2 + (random() - 0.5) * SIDE * 0.1));
+    const middle = [0, 1].map((axis) => within((p[axis] + q[axis]) / 2 + (random() - 0.5) * side * 0.1));
     arcs.push(`arc ${left} ${right} 3 ${[...p, ...middle, ...q].join(" ")}`);
   };
   for (let i = 0; i <= size; i++) {
@@ -113,5 +114,5 @@ export function gridListing(size) {
   }
   const classes = [0, 1, 2, 3].map((it) => `class ${it} ${it + 1} ${[0, 1, 2, 3].map((other) => (other === it ? 9 : 1)).join(" ")}`);
   const faces = [...Array(size * size).keys()].map((it) => `face ${it + 1} ${Math.floor(random() * 4)}`);
-  return ["tgap 1", "transform 1 1 0 0", "ratio 4", "classes 4", ...classes, `faces ${faces.length}`, ...faces, `arcs ${arcs.length}`, ...arcs, "end", ""].join("\n");
+  return [`tgap ${version}`, "transform 1 1 0 0", "ratio 4", "classes 4", ...classes, `faces ${faces.length}`, ...faces, `arcs ${arcs.length}`, ...arcs, "end", ""].join("\n");
 }

@@ -8,6 +8,7 @@ import { Tally, examples, gridListing } from "./lib.mjs";
 import { largeMap } from "./large_map.mjs";
 import { Served } from "./served.mjs";
 import { smallMap } from "./small_map.mjs";
+import { wideMap } from "./wide_map.mjs";
 
 const [executable, chromium, folder] = process.argv.slice(2).map((it) => path.resolve(it));
 const room = mkdtempSync(path.join(tmpdir(), "web-page-"));
@@ -30,6 +31,9 @@ async function over(browser, map, work) {
 const rules = path.join(room, "rules.json");
 const grid = path.join(room, "grid.tgap");
 const SIDE = 40;
+const wide = path.join(room, "wide.tgap");
+const MOST = 2 ** 31;
+const WIDE_SIDE = 16;
 let browser;
 // Where the time is up, nothing of it goes on.
 process.on("SIGTERM", () => {
@@ -41,9 +45,11 @@ try {
   const columbus = "columbus.rules.json";
   writeFileSync(rules, JSON.stringify({ ...JSON.parse(readFileSync(path.join(examples, columbus))), title: "Neighbourhoods of Columbus, Ohio" }));
   writeFileSync(grid, gridListing(SIDE));
+  writeFileSync(wide, gridListing(WIDE_SIDE, { side: (2 * MOST) / WIDE_SIDE, first: -MOST, most: MOST, version: 2 }));
   browser = await Browser.start(chromium, "1100,700");
   await over(browser, ["columbus.json", "areas", rules], smallMap);
   await over(browser, [grid], largeMap);
+  await over(browser, [wide], wideMap);
 } finally {
   await browser?.stop();
   rmSync(room, { recursive: true, force: true });

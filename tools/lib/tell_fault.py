@@ -141,7 +141,7 @@ def in_map(tell):
 TELLERS = {
     1: not_json, 2: shape, 3: objects, 4: objects,
     5: raw("position", "a coordinate is not whole: {}; the grid is missing, which tools/import or topoquantize makes"),
-    6: raw("position", "a coordinate is beyond 268435456 in one direction: {}; take a coarser grid, or an origin that is nearer"),
+    6: raw("position", "a coordinate is beyond 2147483648 in one direction: {}; take a coarser grid, or an origin that is nearer"),
     7: raw("of_arc", "there are fewer than two positions in {}"),
     8: raw("index", "{}"),
     9: sentence("{map} has {1} {0}, which is more than the program takes at once; take a smaller region, or simpler borders"),

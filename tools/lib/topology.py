@@ -6,8 +6,8 @@ from dataclasses import dataclass, field
 from command import Failure, read_text
 
 # The program's own limits, as docs/rules.md has them.
-MOST = {"faces": 32_768, "arcs": 65_536, "points": 131_072, "classes": 256}
-FARTHEST = 268_435_456
+MOST = {"faces": 32_768, "arcs": 65_536, "points": 524_288, "classes": 256}
+FARTHEST = 2_147_483_648
 MOST_BYTES = 16_777_216
 
 

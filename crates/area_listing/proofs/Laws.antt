@@ -18,14 +18,17 @@ use Rattle.line_forms.specs.Texts.{rows_of}
 use Rattle.line_forms.specs.Words.{Row, read_words}
 use Rattle.line_forms.specs.Lines.{◌>>=◌, Lines, all_lines, next_number, read_line, is_over}
 use Rattle.line_forms.specs.ListingLines.{read_transform, read_count}
-use Rattle.map_forms.specs.Listing.{transform_words, count_words, class_rows, face_rows, arc_words, listing_rows, IsListing, count_line, classes_at, rules_at, all_faces_at, all_arcs_at, map_at, bordered, end_at, listing}
+use Rattle.map_forms.specs.declared.version.Version.{Version}
+use Rattle.map_forms.specs.declared.version.Version.TheVariants.{One, Two}
+use Rattle.map_forms.specs.Version.{points_of, heading_words, read_heading}
+use Rattle.map_forms.specs.Listing.{transform_words, count_words, class_rows, face_rows, arc_words, rows_in, all_inside, keeps_to, IsListing, count_line, classes_at, rules_at, all_faces_at, all_arcs_at, map_at, bordered, end_at, listing}
 use Rattle.tgap_model.specs.declared.failure.Or.{Or}
 use Rattle.tgap_model.specs.declared.failure.Or.TheVariants.{Fault, Memory}
 use Rattle.plain_io.specs.Taking.{GivesWhole, Refuses}
 use Rattle.plain_io.proofs.Words.{same_bytes}
 use Rattle.plain_io.proofs.Rows.{is_plain_row, lines_from_rows, rows_again}
 use Rattle.plain_io.proofs.Steps.{bound, read_words_is, read_line_is, read_line_again, number_after, lines_from, some_rows}
-use Rattle.area_listing.proofs.OneLine.{AreFrom, read_transform_is, read_transform_again, read_count_is, read_count_again}
+use Rattle.area_listing.proofs.OneLine.{AreFrom, points_few, read_heading_is, read_heading_again, read_transform_is, read_transform_again, read_count_is, read_count_again}
 use Rattle.area_listing.proofs.Plain.{transform_plain, count_plain, classes_plain, faces_plain, arcs_plain}
 use Rattle.area_listing.proofs.Sections.{count_line_is, count_line_again, classes_at_is, classes_at_again, faces_at_is, faces_at_again, arcs_at_is, arcs_at_again}
 
@@ -104,55 +107,59 @@ all_faces_at_is c lines x e =
     record { spelled = spelled; few = omega (arith, count.high, f2); classes = faces.classes })
 
 -- all arcs that are read are spelled so
-pub record AreAllArcs (n : ℕ) (lines : Lines) (x : List BaseArc × Lines) : Type 0 where
+pub record AreAllArcs (v : Version) (n : ℕ) (lines : Lines) (x : List BaseArc × Lines) : Type 0 where
   pub spelled : lines.rows ≡ count_words (codes "arcs") (length x.0) ∷ map arc_words x.0 ++ x.1.rows
   pub few : length x.0 ≤ MAX_ARCS
   pub arcs : list_all (is_arc n) x.0 ≡ true
-  pub few_points : count_points x.0 ≤ MAX_POINTS
+  pub inside : list_all (all_inside v) x.0 ≡ true
+  pub few_points : count_points x.0 ≤ points_of v
 
-all_arcs_at_is : (n : ℕ) (lines : Lines) (x : List BaseArc × Lines) → all_arcs_at n lines ≡ Ok x → AreAllArcs n lines x
+all_arcs_at_is : (v : Version) (n : ℕ) (lines : Lines) (x : List BaseArc × Lines) → all_arcs_at v n lines ≡ Ok x → AreAllArcs v n lines x
 unfolding all_arcs_at
-all_arcs_at_is n lines x e =
+all_arcs_at_is v n lines x e =
     bound _ (count_line Arcs 0 lines) x e (λ m e0 r0.
     let count = count_line_is Arcs 0 lines m e0 in
-    let arcs = arcs_at_is n 0 m.0 m.1 x (omega arith) r0 in
+    let arcs = arcs_at_is v n 0 m.0 m.1 x (omega arith) r0 in
     let f0 = count.spelled in
     let f1 = arcs.spelled in
     let f2 = arcs.count in
     let spelled : lines.rows ≡ count_words (codes "arcs") (length x.0) ∷ map arc_words x.0 ++ x.1.rows = cc in
-    record { spelled = spelled; few = omega (arith, count.high, f2); arcs = arcs.arcs; few_points = omega (arith, arcs.few) })
+    record { spelled = spelled; few = omega (arith, count.high, f2); arcs = arcs.arcs; inside = arcs.inside; few_points = omega (arith, arcs.few) })
 
 -- the rows of a map up to its last line, one section after another
-abbrev sections : BaseMap → List Row → List Row
-sections m rest =
-    (codes "tgap" ∷ codes "1" ∷ []) ∷ transform_words m.transform ∷ count_words (codes "ratio") m.rules.ratio
+abbrev sections : Version → BaseMap → List Row → List Row
+sections v m rest =
+    heading_words v ∷ transform_words m.transform ∷ count_words (codes "ratio") m.rules.ratio
     ∷ count_words (codes "classes") (length m.rules.weights) ∷ (class_rows (length m.rules.weights) 0 m.rules.weights m.rules.compat
     ++ (count_words (codes "faces") (length m.classes) ∷ (face_rows 1 m.classes
     ++ (count_words (codes "arcs") (length m.arcs) ∷ (map arc_words m.arcs ++ rest)))))
 
 -- the rows of a listing, section after section
-regrouped : (m : BaseMap) (rest : List Row) → listing_rows m ++ rest ≡ sections m ((codes "end" ∷ []) ∷ rest)
-regrouped m rest = simp append_assoc
+regrouped : (v : Version) (m : BaseMap) (rest : List Row) → rows_in v m ++ rest ≡ sections v m ((codes "end" ∷ []) ∷ rest)
+regrouped v m rest = simp append_assoc
 
--- a map that is read is spelled so, and is a base map where each face has a border
+-- A map that is read is spelled so in some version, within the limits of that, and is a base map where each face has a border.
 pub record IsMap (lines : Lines) (x : BaseMap × Lines) : Type 0 where
-  pub spelled : lines.rows ≡ sections x.0 x.1.rows
+  pub version : Version
+  pub spelled : lines.rows ≡ sections version x.0 x.1.rows
+  pub limits : keeps_to version x.0 ≡ true
   pub base : is_base x.0 ≡ all_faces_bordered (length x.0.classes) x.0.arcs
 
 pub map_at_is : (lines : Lines) (x : BaseMap × Lines) → map_at lines ≡ Ok x → IsMap lines x
 unfolding map_at is_base
 map_at_is lines x e =
-    bound _ (read_line BadLine (read_words (codes "tgap" ∷ codes "1" ∷ [])) lines) x e (λ head e0 r0.
+    bound _ (read_line BadLine read_heading lines) x e (λ head e0 r0.
     bound _ (read_line BadLine read_transform head.1) x r0 (λ transform e1 r1.
     bound _ (rules_at transform.1) x r1 (λ rules e2 r2.
     bound _ (all_faces_at (length rules.0.weights) rules.1) x r2 (λ classes e3 r3.
-    bound _ (all_arcs_at (length classes.0) classes.1) x r3 (λ arcs e4 r4.
+    bound _ (all_arcs_at head.0 (length classes.0) classes.1) x r3 (λ arcs e4 r4.
     let row = read_line_is BadLine read_transform head.1 transform e1 in
     let of_transform = read_transform_is row.0 transform.0 row.2 in
     let of_rules = rules_at_is transform.1 rules e2 in
     let of_faces = all_faces_at_is (length rules.0.weights) rules.1 classes e3 in
-    let of_arcs = all_arcs_at_is (length classes.0) classes.1 arcs e4 in
-    let f0 = worded (codes "tgap" ∷ codes "1" ∷ []) lines head e0 in
+    let of_arcs = all_arcs_at_is head.0 (length classes.0) classes.1 arcs e4 in
+    let first = read_line_is BadLine read_heading lines head e0 in
+    let f0 = first.1 ∙ ap (λ (r : Row). r ∷ head.1.rows) (read_heading_is first.0 head.0 first.2) in
     let f1 = row.1 in
     let f2 = of_transform.0 in
     let f3 = of_rules.spelled in
@@ -160,7 +167,7 @@ map_at_is lines x e =
     let f5 = of_arcs.spelled in
     let m : BaseMap = record { transform = transform.0; rules = rules.0; classes = classes.0; arcs = arcs.0 } in
     let made : (m, arcs.1) ≡ x = cc in
-    let spelled : lines.rows ≡ sections m arcs.1.rows = cc in
+    let spelled : lines.rows ≡ sections head.0 m arcs.1.rows = cc in
     let facts = rules_facts rules.0 of_rules.rules in
     let base : is_base m ≡ all_faces_bordered (length classes.0) arcs.0 = rw (
       of_transform.1,
@@ -168,10 +175,11 @@ map_at_is lines x e =
       le-leb (length classes.0) MAX_FACES of_faces.few,
       below_test (length rules.0.weights) classes.0 facts.some_class of_faces.classes,
       le-leb (length arcs.0) MAX_ARCS of_arcs.few,
-      le-leb (count_points arcs.0) MAX_POINTS of_arcs.few_points,
+      le-leb (count_points arcs.0) MAX_POINTS (omega (arith, of_arcs.few_points, points_few head.0)),
       of_arcs.arcs,
     ) refl in
-    subst (λ (y : BaseMap × Lines). IsMap lines y) made (record { spelled = spelled; base = base }))))))
+    let limits = and_from (list_all (all_inside head.0) arcs.0) (nat_le (count_points arcs.0) (points_of head.0)) of_arcs.inside (le-leb (count_points arcs.0) (points_of head.0) of_arcs.few_points) in
+    subst (λ (y : BaseMap × Lines). IsMap lines y) made (record { version = head.0; spelled = spelled; limits = limits; base = base }))))))
 
 -- nothing is left but one row, of one empty word
 over_is : (rows : List Row) → is_over rows ≡ true → rows ≡ ([] ∷ []) ∷ []
@@ -208,8 +216,10 @@ listing_spelled bytes m e =
     let last = end_at_is x.1 end e2 in
     let one : base ≡ m = cc in
     let same : x.0 ≡ m = border.1 ∙ one in
-    let rows : rows_of bytes ≡ listing_rows x.0 ++ ([] ∷ []) ∷ [] = is.spelled ∙ ap (sections x.0) last ∙ sym (regrouped x.0 (([] ∷ []) ∷ [])) in
-    subst (λ (b : BaseMap). IsListing bytes b) same (record { base = is.base ∙ border.0; spelled = lines_from_rows bytes (listing_rows x.0) rows }))))
+    let v = is.version in
+    let rows : rows_of bytes ≡ rows_in v x.0 ++ ([] ∷ []) ∷ [] = is.spelled ∙ ap (sections v x.0) last ∙ sym (regrouped v x.0 (([] ∷ []) ∷ [])) in
+    subst (λ (b : BaseMap). IsListing bytes b) same
+    (record { version = v; base = is.base ∙ border.0; limits = is.limits; spelled = lines_from_rows bytes (rows_in v x.0) rows }))))
 
 -- ---- what is spelled so is read
 
@@ -234,19 +244,24 @@ test_below c (k ∷ ks) h =
     let below : k < c = ltb-true k c parts.0 in
     ((omega arith, omega arith), test_below c ks parts.1)
 
--- what the rows of a map rest on
-record IsSpelled (m : BaseMap) : Type 0 where
+-- what the rows of a map in a version rest on
+record IsSpelled (v : Version) (m : BaseMap) : Type 0 where
+  inside : list_all (all_inside v) m.arcs ≡ true
+  few_points : count_points m.arcs ≤ points_of v
   facts : BaseFacts m
   rules : RulesFacts m.rules
   weights : AreFrom 1 MAX_WEIGHT m.rules.weights
   compat : AreFrom 0 MAX_COMPATIBILITY m.rules.compat
   classes : AreFrom 0 (length m.rules.weights - 1) m.classes
 
-is_spelled : (m : BaseMap) → is_base m ≡ true → IsSpelled m
-is_spelled m h =
+is_spelled : (v : Version) (m : BaseMap) → is_base m ≡ true → keeps_to v m ≡ true → IsSpelled v m
+is_spelled v m h keeps =
     let facts = base_facts m h in
     let rules = rules_facts m.rules facts.rules in
+    let limits = and_parts (list_all (all_inside v) m.arcs) (nat_le (count_points m.arcs) (points_of v)) keeps in
     record {
+      inside = limits.0;
+      few_points = leb-true (count_points m.arcs) (points_of v) limits.1;
       facts = facts;
       rules = rules;
       weights = test_from 1 MAX_WEIGHT m.rules.weights rules.weights;
@@ -267,11 +282,11 @@ abbrev from_faces : BaseMap → List Row
 from_faces m = count_words (codes "faces") (length m.classes) ∷ (face_rows 1 m.classes ++ from_arcs m)
 
 -- the rules are read again
-rules_again : (n : ℕ) (m : BaseMap) → IsSpelled m
+rules_again : (v : Version) (n : ℕ) (m : BaseMap) → IsSpelled v m
     → rules_at (lines_from n (count_words (codes "ratio") m.rules.ratio ∷ count_words (codes "classes") (length m.rules.weights) ∷ (class_rows (length m.rules.weights) 0 m.rules.weights m.rules.compat ++ from_faces m)))
     ≡ Ok (m.rules, lines_from (number_after (length m.rules.weights) (next_number (next_number n))) (from_faces m))
 unfolding rules_at
-rules_again n m is =
+rules_again v n m is =
     let c = length m.rules.weights in
     let of_classes : List Row = class_rows c 0 m.rules.weights m.rules.compat ++ from_faces m in
     let some : of_classes ≢ [] = some_rows (class_rows c 0 m.rules.weights m.rules.compat) (from_faces m) (λ e. cc) in
@@ -283,9 +298,9 @@ rules_again n m is =
     ) refl
 
 -- the spelling of the faces is read again
-faces_again : (n : ℕ) (m : BaseMap) → IsSpelled m → all_faces_at (length m.rules.weights) (lines_from n (from_faces m)) ≡ Ok (m.classes, lines_from (number_after (length m.classes) (next_number n)) (from_arcs m))
+faces_again : (v : Version) (n : ℕ) (m : BaseMap) → IsSpelled v m → all_faces_at (length m.rules.weights) (lines_from n (from_faces m)) ≡ Ok (m.classes, lines_from (number_after (length m.classes) (next_number n)) (from_arcs m))
 unfolding all_faces_at
-faces_again n m is =
+faces_again v n m is =
     let of_faces : List Row = face_rows 1 m.classes ++ from_arcs m in
     let some : of_faces ≢ [] = some_rows (face_rows 1 m.classes) (from_arcs m) (λ e. cc) in
     rw (
@@ -294,14 +309,14 @@ faces_again n m is =
     ) refl
 
 -- and the arcs
-arcs_again : (n : ℕ) (m : BaseMap) → IsSpelled m → all_arcs_at (length m.classes) (lines_from n (from_arcs m)) ≡ Ok (m.arcs, lines_from (number_after (length m.arcs) (next_number n)) last_rows)
+arcs_again : (v : Version) (n : ℕ) (m : BaseMap) → IsSpelled v m → all_arcs_at v (length m.classes) (lines_from n (from_arcs m)) ≡ Ok (m.arcs, lines_from (number_after (length m.arcs) (next_number n)) last_rows)
 unfolding all_arcs_at
-arcs_again n m is =
+arcs_again v n m is =
     let of_arcs : List Row = map arc_words m.arcs ++ last_rows in
     let some : of_arcs ≢ [] = some_rows (map arc_words m.arcs) last_rows (λ e. cc) in
     rw (
       count_line_again Arcs 0 n (length m.arcs) of_arcs some (omega arith) is.facts.few_arcs (omega (arith, is.facts.few_arcs)),
-      arcs_at_again (length m.classes) 0 (next_number n) m.arcs last_rows (λ e. cc) (omega (arith, is.facts.few_faces)) is.facts.arcs (omega (arith, is.facts.few_points)),
+      arcs_at_again v (length m.classes) 0 (next_number n) m.arcs last_rows (λ e. cc) (omega (arith, is.facts.few_faces)) is.facts.arcs is.inside (omega (arith, is.few_points)),
     ) refl
 
 -- the last line is read again
@@ -314,20 +329,27 @@ abbrev end_number : BaseMap → ℕ
 end_number m = number_after (length m.arcs) (next_number (number_after (length m.classes) (next_number (number_after (length m.rules.weights) (next_number (next_number (next_number (next_number 1))))))))
 
 -- the rows of the map are read as that map
-map_again : (m : BaseMap) → IsSpelled m → map_at (lines_from 1 (sections m last_rows)) ≡ Ok (m, lines_from (end_number m) last_rows)
+map_again : (v : Version) (m : BaseMap) → IsSpelled v m → map_at (lines_from 1 (sections v m last_rows)) ≡ Ok (m, lines_from (end_number m) last_rows)
 unfolding map_at
-map_again m is =
+map_again v m is =
     let of_rules : List Row = count_words (codes "ratio") m.rules.ratio ∷ count_words (codes "classes") (length m.rules.weights) ∷ (class_rows (length m.rules.weights) 0 m.rules.weights m.rules.compat ++ from_faces m) in
+    let of_map : List Row = transform_words m.transform ∷ of_rules in
     rw (
+      read_line_again {F = MapFault} BadLine read_heading 1 (heading_words v) of_map v (λ e. cc) (read_heading_again v),
       read_line_again {F = MapFault} BadLine read_transform (next_number 1) (transform_words m.transform) of_rules m.transform (λ e. cc) (read_transform_again m.transform is.facts.transform),
-      rules_again (next_number (next_number 1)) m is,
-      faces_again (number_after (length m.rules.weights) (next_number (next_number (next_number (next_number 1))))) m is,
-      arcs_again (number_after (length m.classes) (next_number (number_after (length m.rules.weights) (next_number (next_number (next_number (next_number 1))))))) m is,
+      rules_again v (next_number (next_number 1)) m is,
+      faces_again v (number_after (length m.rules.weights) (next_number (next_number (next_number (next_number 1))))) m is,
+      arcs_again v (number_after (length m.classes) (next_number (number_after (length m.rules.weights) (next_number (next_number (next_number (next_number 1))))))) m is,
     ) refl
 
+-- the heading of a version
+heading_plain : (v : Version) → is_plain_row (heading_words v) ≡ true
+heading_plain One = refl
+heading_plain Two = refl
+
 -- no word of the listing of a base map has a separator
-listing_plain : (m : BaseMap) → IsSpelled m → list_all is_plain_row (listing_rows m) ≡ true
-listing_plain m is =
+listing_plain : (v : Version) (m : BaseMap) → IsSpelled v m → list_all is_plain_row (rows_in v m) ≡ true
+listing_plain v m is =
     let c = length m.rules.weights in
     let few = is.rules.few_classes in
     let last : List Row = (codes "end" ∷ []) ∷ [] in
@@ -336,17 +358,18 @@ listing_plain m is =
     let of_faces = list_all-append is_plain_row (face_rows 1 m.classes) (count_words (codes "arcs") (length m.arcs) ∷ (map arc_words m.arcs ++ last)) ∙ and_from _ _ (faces_plain 1 (c - 1) m.classes (omega (arith, is.facts.few_faces)) (omega arith) is.classes) with_arcs in
     let with_faces : list_all is_plain_row (count_words (codes "faces") (length m.classes) ∷ (face_rows 1 m.classes ++ (count_words (codes "arcs") (length m.arcs) ∷ (map arc_words m.arcs ++ last)))) ≡ true = and_from _ _ (count_plain (codes "faces") (length m.classes) refl (omega (arith, is.facts.few_faces))) of_faces in
     let of_classes = list_all-append is_plain_row (class_rows c 0 m.rules.weights m.rules.compat) _ ∙ and_from _ _ (classes_plain c 0 m.rules.weights m.rules.compat (omega arith) is.weights is.compat) with_faces in
-    let whole : list_all is_plain_row (sections m last) ≡ true =
-    and_from _ _ (transform_plain m.transform is.facts.transform) (and_from _ _ (count_plain (codes "ratio") m.rules.ratio refl (omega (arith, is.rules.ratio))) (and_from _ _ (count_plain (codes "classes") c refl (omega arith)) of_classes)) in
-    ap (list_all is_plain_row) (sym (append-nil (listing_rows m)) ∙ regrouped m []) ∙ whole
+    let whole : list_all is_plain_row (sections v m last) ≡ true =
+    and_from _ _ (heading_plain v) (and_from _ _ (transform_plain m.transform is.facts.transform) (and_from _ _ (count_plain (codes "ratio") m.rules.ratio refl (omega (arith, is.rules.ratio))) (and_from _ _ (count_plain (codes "classes") c refl (omega arith)) of_classes))) in
+    ap (list_all is_plain_row) (sym (append-nil (rows_in v m)) ∙ regrouped v m []) ∙ whole
 
 -- What is spelled so is read.
 pub listing_again : (bytes : List ℕ) (m : BaseMap) → IsListing bytes m → listing bytes ≡ Ok m
 unfolding listing
 listing_again bytes m is =
-    let spelled = is_spelled m is.base in
-    let rows : rows_of bytes ≡ sections m last_rows = ap rows_of is.spelled ∙ rows_again (listing_rows m) (listing_plain m spelled) ∙ regrouped m (([] ∷ []) ∷ []) in
-    let read : map_at (all_lines bytes) ≡ Ok (m, lines_from (end_number m) last_rows) = ap (λ (r : List Row). map_at (lines_from 1 r)) rows ∙ map_again m spelled in
+    let v = is.version in
+    let spelled = is_spelled v m is.base is.limits in
+    let rows : rows_of bytes ≡ sections v m last_rows = ap rows_of is.spelled ∙ rows_again (rows_in v m) (listing_plain v m spelled) ∙ regrouped v m (([] ∷ []) ∷ []) in
+    let read : map_at (all_lines bytes) ≡ Ok (m, lines_from (end_number m) last_rows) = ap (λ (r : List Row). map_at (lines_from 1 r)) rows ∙ map_again v m spelled in
     rw (read, spelled.facts.bordered, end_again (end_number m)) refl
 
 -- ---- what the calls answer

@@ -12,7 +12,8 @@ use Rattle.tgap_model.specs.declared.failure.Or.{Or}
 use Rattle.tgap_model.specs.declared.failure.Or.TheVariants.{Fault, Memory}
 use Rattle.line_forms.specs.Words.{Row, ◌>>=◌, natural_at, after_word, after_count, ended}
 use Rattle.line_forms.specs.Lines.{Lines, line_at, read_line, ◌>>=◌ as ◌or>>=◌}
-use Rattle.line_forms.specs.ListingLines.{coordinate_at, naturals_at, points_at, read_class, read_face}
+use Rattle.line_forms.specs.ListingLines.{coordinate_to, naturals_at, points_at, read_class, read_face}
+use Rattle.map_forms.specs.declared.version.Version.{Version}
 use Rattle.map_forms.specs.Listing.{arc_at, classes_at, faces_at, arcs_at}
 use Rattle.plain_io.specs.Taking.{Refuses}
 use Rattle.plain_io.specs.Fronts.{with_front, in_front}
@@ -61,25 +62,25 @@ first_x (Some x) next more = first_y x.0 (next x.1) more
 first_x None next more = refl
 
 -- one point more is a point, and those after it
-one_point_more : (n : ℕ) (words : Row) → points_at (suc n) words ≡ (point_at words >>= then_points (points_at n))
+one_point_more : (most : ℤ) (n : ℕ) (words : Row) → points_at most (suc n) words ≡ (point_at most words >>= then_points (points_at most n))
 unfolding points_at
-one_point_more n words = first_x (coordinate_at words) coordinate_at (points_at n)
+one_point_more most n words = first_x (coordinate_to most words) (coordinate_to most) (points_at most n)
 
 -- a point more
-pub points_go_on : (front : List Point) (n i : ℕ) (words : Row) (p : Point) (rest : Row) → i < n → point_at words ≡ Some (p, rest)
-    → with_front (front ++ p ∷ []) (points_at (n - (i + 1)) rest) ≡ with_front front (points_at (n - i) words)
-points_go_on front n i words p rest lt e =
-    with_front_more front p (points_at (n - (i + 1)) rest) (points_at (n - i) words) (rw (one_left n i lt, one_point_more (n - (i + 1)) words, e) refl)
+pub points_go_on : (most : ℤ) (front : List Point) (n i : ℕ) (words : Row) (p : Point) (rest : Row) → i < n → point_at most words ≡ Some (p, rest)
+    → with_front (front ++ p ∷ []) (points_at most (n - (i + 1)) rest) ≡ with_front front (points_at most (n - i) words)
+points_go_on most front n i words p rest lt e =
+    with_front_more front p (points_at most (n - (i + 1)) rest) (points_at most (n - i) words) (rw (one_left n i lt, one_point_more most (n - (i + 1)) words, e) refl)
 
 -- no point where there was to be one
-pub points_stop : (front : List Point) (n i : ℕ) (words : Row) → i < n → point_at words ≡ None → with_front front (points_at (n - i) words) ≡ None
-points_stop front n i words lt e =
-    with_front_stop front (points_at (n - i) words) (rw (one_left n i lt, one_point_more (n - (i + 1)) words, e) refl)
+pub points_stop : (most : ℤ) (front : List Point) (n i : ℕ) (words : Row) → i < n → point_at most words ≡ None → with_front front (points_at most (n - i) words) ≡ None
+points_stop most front n i words lt e =
+    with_front_stop front (points_at most (n - i) words) (rw (one_left n i lt, one_point_more most (n - (i + 1)) words, e) refl)
 
 -- all points
-pub points_done : (front : List Point) (n i : ℕ) (words : Row) → n ≤ i → with_front front (points_at (n - i) words) ≡ Some (front, words)
+pub points_done : (most : ℤ) (front : List Point) (n i : ℕ) (words : Row) → n ≤ i → with_front front (points_at most (n - i) words) ≡ Some (front, words)
 unfolding points_at
-points_done front n i words le = with_front_done front words (points_at (n - i) words) (rw (none_left n i le) refl)
+points_done most front n i words le = with_front_done front words (points_at most (n - i) words) (rw (none_left n i le) refl)
 
 -- ---- faces
 
@@ -104,22 +105,22 @@ faces_done c front n i lines le = in_front_done front lines (faces_at c (i + 1) 
 -- ---- arcs
 
 -- an arc more
-pub arcs_go_on : (faces before : ℕ) (front : List BaseArc) (n i : ℕ) (lines : Lines) (a : BaseArc) (rest : Lines) → i < n → arc_at faces before lines ≡ Ok (a, rest)
-    → in_front (front ++ a ∷ []) (arcs_at faces (before + length a.points) (n - (i + 1)) rest) ≡ in_front front (arcs_at faces before (n - i) lines)
+pub arcs_go_on : (v : Version) (faces before : ℕ) (front : List BaseArc) (n i : ℕ) (lines : Lines) (a : BaseArc) (rest : Lines) → i < n → arc_at v faces before lines ≡ Ok (a, rest)
+    → in_front (front ++ a ∷ []) (arcs_at v faces (before + length a.points) (n - (i + 1)) rest) ≡ in_front front (arcs_at v faces before (n - i) lines)
 unfolding arcs_at
-arcs_go_on faces before front n i lines a rest lt e =
-    in_front_more front a (arcs_at faces (before + length a.points) (n - (i + 1)) rest) (arcs_at faces before (n - i) lines) (rw (one_left n i lt, e) refl)
+arcs_go_on v faces before front n i lines a rest lt e =
+    in_front_more front a (arcs_at v faces (before + length a.points) (n - (i + 1)) rest) (arcs_at v faces before (n - i) lines) (rw (one_left n i lt, e) refl)
 
 -- no arc where there was to be one
-pub arcs_stop : (faces before : ℕ) (front : List BaseArc) (n i : ℕ) (lines : Lines) (f : MapFault) → i < n → arc_at faces before lines ≡ Err f
-    → in_front front (arcs_at faces before (n - i) lines) ≡ Err f
+pub arcs_stop : (v : Version) (faces before : ℕ) (front : List BaseArc) (n i : ℕ) (lines : Lines) (f : MapFault) → i < n → arc_at v faces before lines ≡ Err f
+    → in_front front (arcs_at v faces before (n - i) lines) ≡ Err f
 unfolding arcs_at
-arcs_stop faces before front n i lines f lt e = in_front_stop front f (arcs_at faces before (n - i) lines) (rw (one_left n i lt, e) refl)
+arcs_stop v faces before front n i lines f lt e = in_front_stop front f (arcs_at v faces before (n - i) lines) (rw (one_left n i lt, e) refl)
 
 -- all arcs
-pub arcs_done : (faces before : ℕ) (front : List BaseArc) (n i : ℕ) (lines : Lines) → n ≤ i → in_front front (arcs_at faces before (n - i) lines) ≡ Ok (front, lines)
+pub arcs_done : (v : Version) (faces before : ℕ) (front : List BaseArc) (n i : ℕ) (lines : Lines) → n ≤ i → in_front front (arcs_at v faces before (n - i) lines) ≡ Ok (front, lines)
 unfolding arcs_at
-arcs_done faces before front n i lines le = in_front_done front lines (arcs_at faces before (n - i) lines) (rw (none_left n i le) refl)
+arcs_done v faces before front n i lines le = in_front_done front lines (arcs_at v faces before (n - i) lines) (rw (none_left n i le) refl)
 
 -- ---- classes
 

@@ -1,6 +1,6 @@
 -- The readers of one line: what is read is spelled so, and what is spelled so is read.
 use Rattle.std.proofs.Common.{◌≡◌, ℕ, zero, suc, ◌-◌, ◌^◌, ◌<◌, ◌≤◌, Bool, true, false, cond, eqb, ◌&&◌, List, [], ◌∷◌, ◌++◌, length, map, Option, Some, None, refl, sym, ap, subst, ◌∙◌, arith}
-use Rattle.std.specs.Prelude.{ℤ, pos, negsuc, neg_ℤ, unsigned_abs, decimal, codes}
+use Rattle.std.specs.Prelude.{ℤ, pos, negsuc, neg_ℤ, unsigned_abs, decimal, codes, bytes_eq}
 use Rattle.std.specs.Fmt.{signed_decimal}
 use Rattle.std.specs.List.{list_all, flat_map, AllByRecursion}
 use Rattle.std.proofs.lemmas.Bool.{and_parts, and_from}
@@ -9,11 +9,15 @@ use Rattle.std.proofs.lemmas.List.{append-nil}
 use Rattle.std.proofs.lemmas.Option.{option_and_then_some}
 use Rattle.tgap_model.specs.declared.geometry.Point.{Point}
 use Rattle.tgap_model.specs.declared.base.Transform.{Transform}
-use Rattle.tgap_model.specs.declared.limits.TheConstants.{MAX_COORDINATE, MAX_WEIGHT, MAX_COMPATIBILITY}
+use Rattle.tgap_model.specs.declared.limits.TheConstants.{MAX_COORDINATE, MAX_POINTS, MAX_WEIGHT, MAX_COMPATIBILITY}
 use Rattle.tgap_model.specs.Base.{within, is_word, is_transform, in_limits, no_repeat}
 use Rattle.line_forms.specs.Words.{Row, after_word, natural_at, after_count, ended}
-use Rattle.line_forms.specs.ListingLines.{word_at, coordinate_at, read_transform, read_count, naturals_at, read_class, read_face, points_at, head_at, read_points}
+use Rattle.line_forms.specs.ListingLines.{word_at, coordinate_to, read_transform, read_count, naturals_at, read_class, read_face, points_at, head_at, read_points}
+use Rattle.map_forms.specs.declared.version.Version.{Version}
+use Rattle.map_forms.specs.declared.version.Version.TheVariants.{One, Two}
+use Rattle.map_forms.specs.Version.{coordinate_of, points_of, in_square, version_word, heading_words, version_at, read_heading}
 use Rattle.map_forms.specs.Listing.{transform_words, count_words, point_words}
+use Rattle.plain_io.proofs.Words.{same_bytes}
 use Rattle.plain_io.proofs.Steps.{after_word_is, number_at_is, natural_at_is, after_count_is, ended_is, after_word_again, number_at_again, natural_at_again, after_count_again}
 
 -- ---- what is read is spelled so
@@ -73,6 +77,34 @@ read_transform_is row t e =
     let fits : is_transform made ≡ true = and_from (is_word sx.0 && is_word sy.0 && is_word tx.0) (is_word ty.0) (and_from (is_word sx.0 && is_word sy.0) (is_word tx.0) (and_from (is_word sx.0) (is_word sy.0) g1.1 g2.1) g3.1) g4.1 in
     subst (λ (u : Transform). (row ≡ transform_words u) × (is_transform u ≡ true)) done.1 (spelled, fits))))))
 
+-- the word of the version that was read
+version_at_is : (row : Row) (x : Version × Row) → version_at row ≡ Some x → row ≡ version_word x.0 ∷ x.1
+version_at_is [] x e = absurd cc
+version_at_is (w ∷ row) x e = by (bytes_eq w (version_word One)) (bytes_eq w (version_word Two)) refl refl e
+  where
+    by : (one two : Bool) → bytes_eq w (version_word One) ≡ one → bytes_eq w (version_word Two) ≡ two
+        → cond one (Some (One, row)) (cond two (Some (Two, row)) None) ≡ Some x → w ∷ row ≡ version_word x.0 ∷ x.1
+    by true two is other given =
+        let made : (One, row) ≡ x = cc in
+        subst (λ (y : Version × Row). w ∷ row ≡ version_word y.0 ∷ y.1) made (ap (λ (word : List ℕ). word ∷ row) (same_bytes w (version_word One) is))
+    by false true other is given =
+        let made : (Two, row) ≡ x = cc in
+        subst (λ (y : Version × Row). w ∷ row ≡ version_word y.0 ∷ y.1) made (ap (λ (word : List ℕ). word ∷ row) (same_bytes w (version_word Two) is))
+    by false false other is given = absurd cc
+
+-- a row that is read as the heading is spelled so
+pub read_heading_is : (row : Row) (v : Version) → read_heading row ≡ Some v → row ≡ heading_words v
+unfolding read_heading
+read_heading_is row v e =
+    option_and_then_some _ (after_word (codes "tgap") row) v e (λ start e0 r0.
+    option_and_then_some _ (version_at start) v r0 (λ version e1 r1.
+    let f0 = after_word_is (codes "tgap") row start e0 in
+    let f1 = version_at_is start version e1 in
+    let done = ended_is version.0 v version.1 r1 in
+    let last = done.0 in
+    let spelled : row ≡ heading_words version.0 = cc in
+    subst (λ (w : Version). row ≡ heading_words w) done.1 spelled))
+
 -- class i, of c in all
 abbrev pub class_words : ℕ → ℕ → List ℕ → Row
 class_words i w compat = codes "class" ∷ decimal i ∷ decimal w ∷ map decimal compat
@@ -123,26 +155,26 @@ read_face_is c f row k e =
     subst (λ (j : ℕ). (row ≡ face_words f j) × (j ≤ c - 1)) done.1 (spelled, g2.2))))
 
 -- what is read as n points is spelled so
-pub points_at_is : (n : ℕ) (row : Row) (x : List Point × Row) → points_at n row ≡ Some x → (row ≡ flat_map point_words x.0 ++ x.1) × (length x.0 ≡ n) × (list_all in_limits x.0 ≡ true)
+pub points_at_is : (most : ℤ) (n : ℕ) (row : Row) (x : List Point × Row) → points_at most n row ≡ Some x → (row ≡ flat_map point_words x.0 ++ x.1) × (length x.0 ≡ n) × (list_all (in_square most) x.0 ≡ true)
 unfolding points_at
-points_at_is zero row x e =
+points_at_is most zero row x e =
     let made : ([], row) ≡ x = cc in
-    subst (λ (y : List Point × Row). (row ≡ flat_map point_words y.0 ++ y.1) × (length y.0 ≡ 0) × (list_all in_limits y.0 ≡ true)) made (refl, refl, refl)
-points_at_is (suc n) row x e =
-    option_and_then_some _ (coordinate_at row) x e (λ a e0 r0.
-    option_and_then_some _ (coordinate_at a.1) x r0 (λ b e1 r1.
-    option_and_then_some _ (points_at n b.1) x r1 (λ points e2 r2.
+    subst (λ (y : List Point × Row). (row ≡ flat_map point_words y.0 ++ y.1) × (length y.0 ≡ 0) × (list_all (in_square most) y.0 ≡ true)) made (refl, refl, refl)
+points_at_is most (suc n) row x e =
+    option_and_then_some _ (coordinate_to most row) x e (λ a e0 r0.
+    option_and_then_some _ (coordinate_to most a.1) x r0 (λ b e1 r1.
+    option_and_then_some _ (points_at most n b.1) x r1 (λ points e2 r2.
     let g0 = number_at_is _ _ row a e0 in
     let g1 = number_at_is _ _ a.1 b e1 in
     let f0 = g0.0 in
     let f1 = g1.0 in
-    let more = points_at_is n b.1 points e2 in
+    let more = points_at_is most n b.1 points e2 in
     let f2 = more.0 in
     let p : Point = record { x = a.0; y = b.0 } in
     let made : (p ∷ points.0, points.1) ≡ x = cc in
     let spelled : row ≡ flat_map point_words (p ∷ points.0) ++ points.1 = cc in
-    subst (λ (y : List Point × Row). (row ≡ flat_map point_words y.0 ++ y.1) × (length y.0 ≡ suc n) × (list_all in_limits y.0 ≡ true)) made
-    (spelled, ap suc more.1, and_from (in_limits p) (list_all in_limits points.0) (and_from _ _ g0.1 g1.1) more.2))))
+    subst (λ (y : List Point × Row). (row ≡ flat_map point_words y.0 ++ y.1) × (length y.0 ≡ suc n) × (list_all (in_square most) y.0 ≡ true)) made
+    (spelled, ap suc more.1, and_from (in_square most p) (list_all (in_square most) points.0) (and_from _ _ g0.1 g1.1) more.2))))
 
 -- what a test lets pass
 pub cond_then : {A : Type 0} (b : Bool) (o : Option A) (y : A) → cond b o None ≡ Some y → (b ≡ true) × (o ≡ Some y)
@@ -154,21 +186,21 @@ cond_else true o y e = absurd cc
 cond_else false o y e = (refl, e)
 
 -- the rest of a row that is read as n points is spelled so
-pub record ArePoints (n : ℕ) (row : Row) (points : List Point) : Type 0 where
+pub record ArePoints (most : ℤ) (n : ℕ) (row : Row) (points : List Point) : Type 0 where
   pub spelled : row ≡ flat_map point_words points
   pub count : length points ≡ n
-  pub inside : list_all in_limits points ≡ true
+  pub inside : list_all (in_square most) points ≡ true
   pub apart : no_repeat points ≡ true
 
-pub read_points_is : (n : ℕ) (row : Row) (points : List Point) → read_points n row ≡ Some points → ArePoints n row points
+pub read_points_is : (most : ℤ) (n : ℕ) (row : Row) (points : List Point) → read_points most n row ≡ Some points → ArePoints most n row points
 unfolding read_points
-read_points_is n row points e =
-    option_and_then_some _ (points_at n row) points e (λ x e0 r0.
-    let read = points_at_is n row x e0 in
+read_points_is most n row points e =
+    option_and_then_some _ (points_at most n row) points e (λ x e0 r0.
+    let read = points_at_is most n row x e0 in
     let apart = cond_then (no_repeat x.0) (ended x.0 x.1) points r0 in
     let done = ended_is x.0 points x.1 apart.1 in
     let spelled : row ≡ flat_map point_words x.0 = read.0 ∙ ap (λ (r : Row). flat_map point_words x.0 ++ r) done.0 ∙ append-nil (flat_map point_words x.0) in
-    subst (λ (ps : List Point). ArePoints n row ps) done.1 (record { spelled = spelled; count = read.1; inside = read.2; apart = apart.0 }))
+    subst (λ (ps : List Point). ArePoints most n row ps) done.1 (record { spelled = spelled; count = read.1; inside = read.2; apart = apart.0 }))
 
 -- the head of an arc is spelled so
 pub record IsHead (n : ℕ) (row : Row) (x : (ℕ × ℕ × ℕ) × Row) : Type 0 where
@@ -200,6 +232,12 @@ head_at_is n row x e =
 
 -- ---- what is spelled so is read
 
+-- the heading of a version is read as that version
+pub read_heading_again : (v : Version) → read_heading (heading_words v) ≡ Some v
+unfolding read_heading
+read_heading_again One = refl
+read_heading_again Two = refl
+
 -- the row of a count is read as that count
 pub read_count_again : (word : List ℕ) (least most n : ℕ) → least ≤ n → n ≤ most → n < 2 ^ 32 → read_count word least most (count_words word n) ≡ Some n
 unfolding read_count
@@ -214,6 +252,26 @@ word_small (negsuc n) fits = grind (arith, ints)
 pub coordinate_small : (z : ℤ) → within (neg_ℤ MAX_COORDINATE) MAX_COORDINATE z ≡ true → unsigned_abs z < 2 ^ 63
 coordinate_small (pos n) fits = grind (arith, ints)
 coordinate_small (negsuc n) fits = grind (arith, ints)
+
+-- the coordinates of a version are within the limits
+pub version_within : (v : Version) (z : ℤ) → within (neg_ℤ (coordinate_of v)) (coordinate_of v) z ≡ true → within (neg_ℤ MAX_COORDINATE) MAX_COORDINATE z ≡ true
+version_within One (pos n) fits = grind (arith, ints)
+version_within One (negsuc n) fits = grind (arith, ints)
+version_within Two z fits = fits
+
+-- and so are points of them
+pub points_within : (v : Version) (points : List Point) → list_all (in_square (coordinate_of v)) points ≡ true → list_all in_limits points ≡ true
+points_within v [] fits = refl
+points_within v (p ∷ points) fits =
+    let most = coordinate_of v in
+    let both = and_parts (in_square most p) (list_all (in_square most) points) fits in
+    let inside = and_parts (within (neg_ℤ most) most p.x) (within (neg_ℤ most) most p.y) both.0 in
+    and_from (in_limits p) (list_all in_limits points) (and_from _ _ (version_within v p.x inside.0) (version_within v p.y inside.1)) (points_within v points both.1)
+
+-- the points of a version are within their limit
+pub points_few : (v : Version) → points_of v ≤ MAX_POINTS
+points_few One = omega arith
+points_few Two = omega arith
 
 -- the spelling of a number of 32 bits with a sign is read again
 word_at_again : (z : ℤ) (rest : Row) → is_word z ≡ true → word_at (signed_decimal z ∷ rest) ≡ Some (z, rest)
@@ -246,24 +304,28 @@ pub read_face_again : (c f k : ℕ) → f < 2 ^ 32 → k ≤ c - 1 → k < 2 ^ 3
 unfolding read_face
 read_face_again c f k small_f high small_k = rw (after_count_again f (decimal k ∷ []) small_f, natural_at_again 0 (c - 1) k [] (omega arith) high (omega arith)) refl
 
--- the spelling of a coordinate is read again
-coordinate_at_again : (z : ℤ) (rest : Row) → within (neg_ℤ MAX_COORDINATE) MAX_COORDINATE z ≡ true → coordinate_at (signed_decimal z ∷ rest) ≡ Some (z, rest)
-coordinate_at_again z rest fits = number_at_again (neg_ℤ MAX_COORDINATE) MAX_COORDINATE z rest (coordinate_small z fits) fits
+-- the spelling of a coordinate of a version is read again
+coordinate_again : (v : Version) (z : ℤ) (rest : Row) → within (neg_ℤ (coordinate_of v)) (coordinate_of v) z ≡ true → coordinate_to (coordinate_of v) (signed_decimal z ∷ rest) ≡ Some (z, rest)
+coordinate_again v z rest fits = number_at_again (neg_ℤ (coordinate_of v)) (coordinate_of v) z rest (coordinate_small z (version_within v z fits)) fits
 
 -- the spelling of points is read as these points
-pub points_at_again : (points : List Point) (rest : Row) → list_all in_limits points ≡ true → points_at (length points) (flat_map point_words points ++ rest) ≡ Some (points, rest)
+pub points_at_again : (v : Version) (points : List Point) (rest : Row) → list_all (in_square (coordinate_of v)) points ≡ true
+    → points_at (coordinate_of v) (length points) (flat_map point_words points ++ rest) ≡ Some (points, rest)
 unfolding points_at
-points_at_again [] rest fits = refl
-points_at_again (p ∷ points) rest fits =
-    let both = and_parts (in_limits p) (list_all in_limits points) fits in
-    let inside = and_parts (within (neg_ℤ MAX_COORDINATE) MAX_COORDINATE p.x) (within (neg_ℤ MAX_COORDINATE) MAX_COORDINATE p.y) both.0 in
-    rw (coordinate_at_again p.x (signed_decimal p.y ∷ (flat_map point_words points ++ rest)) inside.0, coordinate_at_again p.y (flat_map point_words points ++ rest) inside.1, points_at_again points rest both.1) refl
+points_at_again v [] rest fits = refl
+points_at_again v (p ∷ points) rest fits =
+    let most = coordinate_of v in
+    let both = and_parts (in_square most p) (list_all (in_square most) points) fits in
+    let inside = and_parts (within (neg_ℤ most) most p.x) (within (neg_ℤ most) most p.y) both.0 in
+    rw (coordinate_again v p.x (signed_decimal p.y ∷ (flat_map point_words points ++ rest)) inside.0, coordinate_again v p.y (flat_map point_words points ++ rest) inside.1, points_at_again v points rest both.1) refl
 
 -- points that are the rest of the row, no two in a row equal, are read so
-pub read_points_again : (points : List Point) → list_all in_limits points ≡ true → no_repeat points ≡ true → read_points (length points) (flat_map point_words points) ≡ Some points
+pub read_points_again : (v : Version) (points : List Point) → list_all (in_square (coordinate_of v)) points ≡ true → no_repeat points ≡ true
+    → read_points (coordinate_of v) (length points) (flat_map point_words points) ≡ Some points
 unfolding read_points
-read_points_again points fits apart =
-    let all : points_at (length points) (flat_map point_words points) ≡ Some (points, []) = ap (points_at (length points)) (sym (append-nil (flat_map point_words points))) ∙ points_at_again points [] fits in
+read_points_again v points fits apart =
+    let all : points_at (coordinate_of v) (length points) (flat_map point_words points) ≡ Some (points, []) =
+    ap (points_at (coordinate_of v) (length points)) (sym (append-nil (flat_map point_words points))) ∙ points_at_again v points [] fits in
     rw (all, apart) refl
 
 -- the head of an arc is read again

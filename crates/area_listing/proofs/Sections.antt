@@ -10,17 +10,19 @@ use Rattle.tgap_model.specs.declared.fault.LimitKind.{LimitKind}
 use Rattle.tgap_model.specs.declared.fault.LimitKind.TheVariants.{Points}
 use Rattle.tgap_model.specs.declared.fault.MapFault.{MapFault}
 use Rattle.tgap_model.specs.declared.fault.MapFault.TheVariants.{BadLine, Limit}
-use Rattle.tgap_model.specs.declared.limits.TheConstants.{MAX_WEIGHT, MAX_COMPATIBILITY, MAX_POINTS}
+use Rattle.tgap_model.specs.declared.limits.TheConstants.{MAX_WEIGHT, MAX_COMPATIBILITY}
 use Rattle.tgap_model.specs.Limits.{limit_of, limit_word}
 use Rattle.tgap_model.specs.Base.{is_arc, count_points}
 use Rattle.line_forms.specs.Words.{Row}
 use Rattle.line_forms.specs.Lines.{Lines, next_number, line_at, read_line}
 use Rattle.line_forms.specs.ListingLines.{read_count, read_class, read_face, head_at, read_points}
-use Rattle.map_forms.specs.Listing.{count_words, class_rows, face_rows, point_words, arc_words, within_limit, count_line, classes_at, faces_at, arc_at, arcs_at}
+use Rattle.map_forms.specs.declared.version.Version.{Version}
+use Rattle.map_forms.specs.Version.{coordinate_of, points_of, in_square}
+use Rattle.map_forms.specs.Listing.{count_words, class_rows, face_rows, point_words, arc_words, at_most, within_limit, all_inside, count_line, classes_at, faces_at, arc_at, arcs_at}
 use Rattle.tgap_model.proofs.BaseFacts.{arc_facts}
 use Rattle.plain_io.proofs.Steps.{bound, ok_or_is, line_at_is, line_at_again, read_line_is, read_line_again, number_after, lines_from, some_rows}
 use Rattle.area_listing.proofs.Loops.{Classes}
-use Rattle.area_listing.proofs.OneLine.{AreFrom, read_count_is, read_count_again, class_words, read_class_is, read_class_again, face_words, read_face_is, read_face_again, read_points_is, read_points_again, head_at_is, head_at_again}
+use Rattle.area_listing.proofs.OneLine.{AreFrom, read_count_is, read_count_again, class_words, read_class_is, read_class_again, face_words, read_face_is, read_face_again, points_within, points_few, read_points_is, read_points_again, head_at_is, head_at_again}
 
 -- ---- limits
 
@@ -29,11 +31,17 @@ cond_ok : {A F : Type 0} (b : Bool) (x y : A) (f : F) → cond b (Ok x) (Err f) 
 cond_ok true x y f e = refl
 cond_ok false x y f e = absurd cc
 
+pub at_most_is : (which : LimitKind) (most n : ℕ) (x : Unit {0}) → at_most which most n ≡ Ok x → n ≤ most
+at_most_is which most n x e = leb-true n most (cond_ok (nat_le n most) tt x (Limit which n) e)
+
+pub at_most_again : (which : LimitKind) (most n : ℕ) → n ≤ most → at_most which most n ≡ Ok tt
+at_most_again which most n le = rw (le-leb n most le) refl
+
 pub within_limit_is : (which : LimitKind) (n : ℕ) (x : Unit {0}) → within_limit which n ≡ Ok x → n ≤ limit_of which
-within_limit_is which n x e = leb-true n (limit_of which) (cond_ok (nat_le n (limit_of which)) tt x (Limit which n) e)
+within_limit_is which n x e = at_most_is which (limit_of which) n x e
 
 pub within_limit_again : (which : LimitKind) (n : ℕ) → n ≤ limit_of which → within_limit which n ≡ Ok tt
-within_limit_again which n le = rw (le-leb n (limit_of which) le) refl
+within_limit_again which n le = at_most_again which (limit_of which) n le
 
 -- a line of a count is spelled so, and within its limit
 pub record IsCountLine (which : LimitKind) (least : ℕ) (lines : Lines) (x : ℕ × Lines) : Type 0 where
@@ -173,22 +181,23 @@ faces_at_again c f n (k ∷ classes) rest some room few from =
 
 -- ---- arcs
 
--- an arc that is read is spelled so, and leaves the points within their limit
-pub record IsArcLine (n before : ℕ) (lines : Lines) (x : BaseArc × Lines) : Type 0 where
+-- an arc that is read is spelled so, its points are within the coordinates of the version, and all points within its limit
+pub record IsArcLine (v : Version) (n before : ℕ) (lines : Lines) (x : BaseArc × Lines) : Type 0 where
   pub spelled : lines.rows ≡ arc_words x.0 ∷ x.1.rows
   pub arc : is_arc n x.0 ≡ true
-  pub few : before + length x.0.points ≤ MAX_POINTS
+  pub inside : list_all (in_square (coordinate_of v)) x.0.points ≡ true
+  pub few : before + length x.0.points ≤ points_of v
 
-pub arc_at_is : (n before : ℕ) (lines : Lines) (x : BaseArc × Lines) → arc_at n before lines ≡ Ok x → IsArcLine n before lines x
+pub arc_at_is : (v : Version) (n before : ℕ) (lines : Lines) (x : BaseArc × Lines) → arc_at v n before lines ≡ Ok x → IsArcLine v n before lines x
 unfolding arc_at is_arc
-arc_at_is n before lines x e =
+arc_at_is v n before lines x e =
     bound _ (ok_or (line_at lines) (BadLine lines.number)) x e (λ line e0 r0.
     bound _ (ok_or (head_at n line.0) (BadLine lines.number)) x r0 (λ head e1 r1.
-    bound _ (within_limit Points (before + head.0.2)) x r1 (λ u e2 r2.
-    bound _ (ok_or (read_points head.0.2 head.1) (BadLine lines.number)) x r2 (λ points e3 r3.
+    bound _ (at_most Points (points_of v) (before + head.0.2)) x r1 (λ u e2 r2.
+    bound _ (ok_or (read_points (coordinate_of v) head.0.2 head.1) (BadLine lines.number)) x r2 (λ points e3 r3.
     let f0 = line_at_is lines line (ok_or_is (line_at lines) (BadLine lines.number) line e0) in
     let one = head_at_is n line.0 head (ok_or_is (head_at n line.0) (BadLine lines.number) head e1) in
-    let all = read_points_is head.0.2 head.1 points (ok_or_is (read_points head.0.2 head.1) (BadLine lines.number) points e3) in
+    let all = read_points_is (coordinate_of v) head.0.2 head.1 points (ok_or_is (read_points (coordinate_of v) head.0.2 head.1) (BadLine lines.number) points e3) in
     let f1 = one.spelled in
     let f2 = all.spelled in
     let f3 = all.count in
@@ -197,56 +206,68 @@ arc_at_is n before lines x e =
     let spelled : lines.rows ≡ arc_words a ∷ line.1.rows = cc in
     let two : 2 ≤ length points = omega (arith, one.two, all.count) in
     let differ : not (eqb head.0.0 head.0.1) ≡ true = ap not one.differ in
-    let fits : is_arc n a ≡ true = rw (le-leb head.0.0 n one.left, le-leb head.0.1 n one.right, one.differ, le-leb 2 (length points) two, all.inside, all.apart) refl in
-    let room = within_limit_is Points (before + head.0.2) u e2 in
-    subst (λ (y : BaseArc × Lines). IsArcLine n before lines y) made
-    (record { spelled = spelled; arc = fits; few = omega (arith, room, all.count) })))))
+    let fits : is_arc n a ≡ true = rw (le-leb head.0.0 n one.left, le-leb head.0.1 n one.right, one.differ, le-leb 2 (length points) two, points_within v points all.inside, all.apart) refl in
+    let room = at_most_is Points (points_of v) (before + head.0.2) u e2 in
+    subst (λ (y : BaseArc × Lines). IsArcLine v n before lines y) made
+    (record { spelled = spelled; arc = fits; inside = all.inside; few = omega (arith, room, all.count) })))))
 
 -- the row of an arc is read as that arc
-pub arc_at_again : (n before k : ℕ) (a : BaseArc) (rest : List Row) → rest ≢ [] → n < 2 ^ 32 → is_arc n a ≡ true → before + length a.points ≤ MAX_POINTS
-    → arc_at n before (lines_from k (arc_words a ∷ rest)) ≡ Ok (a, lines_from (next_number k) rest)
+pub arc_at_again : (v : Version) (n before k : ℕ) (a : BaseArc) (rest : List Row) → rest ≢ [] → n < 2 ^ 32 → is_arc n a ≡ true → list_all (in_square (coordinate_of v)) a.points ≡ true
+    → before + length a.points ≤ points_of v → arc_at v n before (lines_from k (arc_words a ∷ rest)) ≡ Ok (a, lines_from (next_number k) rest)
 unfolding arc_at
-arc_at_again n before k a rest some few fits room =
+arc_at_again v n before k a rest some few fits inside room =
     let facts = arc_facts n a fits in
+    let most = points_few v in
     rw (
       line_at_again k (arc_words a) rest some,
       head_at_again n a.left a.right (length a.points) (flat_map point_words a.points) facts.left facts.right few facts.differ facts.two_points (omega arith),
-      within_limit_again Points (before + length a.points) room,
-      read_points_again a.points facts.in_limits facts.apart,
+      at_most_again Points (points_of v) (before + length a.points) room,
+      read_points_again v a.points inside facts.apart,
     ) refl
 
 -- m arcs that are read are spelled so
-pub record AreArcs (n before m : ℕ) (lines : Lines) (x : List BaseArc × Lines) : Type 0 where
+pub record AreArcs (v : Version) (n before m : ℕ) (lines : Lines) (x : List BaseArc × Lines) : Type 0 where
   pub spelled : lines.rows ≡ map arc_words x.0 ++ x.1.rows
   pub count : length x.0 ≡ m
   pub arcs : list_all (is_arc n) x.0 ≡ true
-  pub few : before + count_points x.0 ≤ MAX_POINTS
+  pub inside : list_all (all_inside v) x.0 ≡ true
+  pub few : before + count_points x.0 ≤ points_of v
 
-pub arcs_at_is : (n before m : ℕ) (lines : Lines) (x : List BaseArc × Lines) → before ≤ MAX_POINTS → arcs_at n before m lines ≡ Ok x → AreArcs n before m lines x
+pub arcs_at_is : (v : Version) (n before m : ℕ) (lines : Lines) (x : List BaseArc × Lines) → before ≤ points_of v → arcs_at v n before m lines ≡ Ok x → AreArcs v n before m lines x
 unfolding arcs_at
-arcs_at_is n before zero lines x room e =
+arcs_at_is v n before zero lines x room e =
     let made : ([], lines) ≡ x = cc in
-    subst (λ (y : List BaseArc × Lines). AreArcs n before 0 lines y) made (record { spelled = refl; count = refl; arcs = refl; few = omega arith })
-arcs_at_is n before (suc m) lines x room e =
-    bound _ (arc_at n before lines) x e (λ first e0 r0.
-    bound _ (arcs_at n (before + length first.0.points) m first.1) x r0 (λ more e1 r1.
-    let one = arc_at_is n before lines first e0 in
-    let rest = arcs_at_is n (before + length first.0.points) m first.1 more one.few e1 in
+    subst (λ (y : List BaseArc × Lines). AreArcs v n before 0 lines y) made (record { spelled = refl; count = refl; arcs = refl; inside = refl; few = omega arith })
+arcs_at_is v n before (suc m) lines x room e =
+    bound _ (arc_at v n before lines) x e (λ first e0 r0.
+    bound _ (arcs_at v n (before + length first.0.points) m first.1) x r0 (λ more e1 r1.
+    let one = arc_at_is v n before lines first e0 in
+    let rest = arcs_at_is v n (before + length first.0.points) m first.1 more one.few e1 in
     let made : (first.0 ∷ more.0, more.1) ≡ x = cc in
     let f0 = one.spelled in
     let f1 = rest.spelled in
     let spelled : lines.rows ≡ map arc_words (first.0 ∷ more.0) ++ more.1.rows = cc in
     let sum : count_points (first.0 ∷ more.0) ≡ length first.0.points + count_points more.0 = sum_by-cons (λ (b : BaseArc). length b.points) first.0 more.0 in
-    subst (λ (y : List BaseArc × Lines). AreArcs n before (suc m) lines y) made
-    (record { spelled = spelled; count = ap suc rest.count; arcs = and_from (is_arc n first.0) (list_all (is_arc n) more.0) one.arc rest.arcs; few = omega (arith, rest.few, sum) })))
+    subst (λ (y : List BaseArc × Lines). AreArcs v n before (suc m) lines y) made
+    (record {
+      spelled = spelled;
+      count = ap suc rest.count;
+      arcs = and_from (is_arc n first.0) (list_all (is_arc n) more.0) one.arc rest.arcs;
+      inside = and_from (all_inside v first.0) (list_all (all_inside v) more.0) one.inside rest.inside;
+      few = omega (arith, rest.few, sum);
+    })))
 
 -- the rows of arcs are read as these arcs
-pub arcs_at_again : (n before k : ℕ) (arcs : List BaseArc) (rest : List Row) → rest ≢ [] → n < 2 ^ 32 → list_all (is_arc n) arcs ≡ true → before + count_points arcs ≤ MAX_POINTS
-    → arcs_at n before (length arcs) (lines_from k (map arc_words arcs ++ rest)) ≡ Ok (arcs, lines_from (number_after (length arcs) k) rest)
+pub arcs_at_again : (v : Version) (n before k : ℕ) (arcs : List BaseArc) (rest : List Row) → rest ≢ [] → n < 2 ^ 32 → list_all (is_arc n) arcs ≡ true → list_all (all_inside v) arcs ≡ true
+    → before + count_points arcs ≤ points_of v → arcs_at v n before (length arcs) (lines_from k (map arc_words arcs ++ rest)) ≡ Ok (arcs, lines_from (number_after (length arcs) k) rest)
 unfolding arcs_at
-arcs_at_again n before k [] rest some few fits room = refl
-arcs_at_again n before k (a ∷ arcs) rest some few fits room =
+arcs_at_again v n before k [] rest some few fits inside room = refl
+arcs_at_again v n before k (a ∷ arcs) rest some few fits inside room =
     let parts = and_parts (is_arc n a) (list_all (is_arc n) arcs) fits in
+    let inner = and_parts (all_inside v a) (list_all (all_inside v) arcs) inside in
     let sum : count_points (a ∷ arcs) ≡ length a.points + count_points arcs = sum_by-cons (λ (b : BaseArc). length b.points) a arcs in
     let some_after = some_rows (map arc_words arcs) rest some in
-    rw (arc_at_again n before k a (map arc_words arcs ++ rest) some_after few parts.0 (omega arith), arcs_at_again n (before + length a.points) (next_number k) arcs rest some few parts.1 (omega arith)) refl
+    rw (
+      arc_at_again v n before k a (map arc_words arcs ++ rest) some_after few parts.0 inner.0 (omega arith),
+      arcs_at_again v n (before + length a.points) (next_number k) arcs rest some few parts.1 inner.1 (omega arith),
+    ) refl

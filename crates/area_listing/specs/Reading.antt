@@ -1,21 +1,21 @@
 -- What the steps of reading a listing answer, beside the definitions of what is read.
-use Rattle.std.specs.Prelude.{◌≡◌, ℕ, List, ◌++◌, Option, Some, None, Result, Ok, Err}
+use Rattle.std.specs.Prelude.{◌≡◌, ℕ, ℤ, List, ◌++◌, Option, Some, None, Result, Ok, Err}
 use Rattle.tgap_model.specs.declared.fault.MapFault.{MapFault}
 use Rattle.tgap_model.specs.declared.failure.Or.{Or}
 use Rattle.tgap_model.specs.declared.geometry.Point.{Point}
 use Rattle.tgap_model.specs.Base.{BaseMap}
 use Rattle.line_forms.specs.Words.{Row, ◌>>=◌}
 use Rattle.line_forms.specs.Lines.{Lines}
-use Rattle.line_forms.specs.ListingLines.{coordinate_at}
+use Rattle.line_forms.specs.ListingLines.{coordinate_to}
 use Rattle.plain_io.specs.Taking.{Refuses}
 use Rattle.area_listing.specs.declared.row.ArcHead.{ArcHead}
 use Rattle.area_listing.specs.declared.MapParts.{MapParts}
 
--- a point, of two coordinates
-abbrev pub point_at : Row → Option (Point × Row)
-point_at row = do
-  x ← coordinate_at row
-  y ← coordinate_at x.1
+-- a point, of two coordinates from -most to most
+abbrev pub point_at : ℤ → Row → Option (Point × Row)
+point_at most row = do
+  x ← coordinate_to most row
+  y ← coordinate_to most x.1
   Some (record { x = x.0; y = y.0 }, y.1)
 
 -- the head of an arc that was read, and what is left, or that there is none

@@ -1,12 +1,14 @@
-//! The plain listing of a base map, and the rules file. It stands on `tgap_model`, whose `Listing` says how a base map is
+//! The plain listing of a base map, and the rules file. It stands on `map_forms`, whose `Listing` says how a base map is
 //! spelled and what the first fault of other bytes is, as `RulesFile` does for rules, and on `plain_io`, which cuts a
 //! text into lines and words, reads and writes numbers, and looks into the JSON values of `serde_json`.
 #![tactic(auto)]
 
-ghost use Rattle.std.specs.Prelude.{◌≡◌, IfOk, Ok, Err};
-ghost use Rattle.tgap_model.specs.Base.{BaseMap};
+ghost use Rattle.std.specs.Prelude.{◌≡◌, IfOk, IsTrue, Ok, Err};
+ghost use Rattle.tgap_model.specs.Base.{BaseMap, is_base};
 ghost use Rattle.tgap_model.specs.declared.fault.MapFault.{MapFault as Fault};
-ghost use Rattle.map_forms.specs.Listing.{IsListing, listing, map_at};
+ghost use Rattle.map_forms.specs.declared.version.Version.{Version};
+ghost use Rattle.map_forms.specs.declared.version.Version.TheVariants.{Two};
+ghost use Rattle.map_forms.specs.Listing.{IsListing, keeps_to, listing, listing_text, map_at, text_in};
 ghost use Rattle.plain_io.specs.Taking.{GivesWhole};
 ghost use Rattle.area_listing.specs.Reading.{GivesParts};
 
@@ -28,8 +30,9 @@ pub use write::write_listing;
 
 /// The base map that a listing spells, by 'The area listing' of docs/formats.md.
 ///
-/// The faults are `BadLine`, with the number of the first line that is out of form, and `Limit`, where a line is in form
-/// but a count in it is above its limit. It is one pass over the bytes, in memory of a small multiple of them.
+/// Its first line tells its version, `tgap 1` or `tgap 2`, and with it the limits of coordinates and of points. The faults
+/// are `BadLine`, with the number of the first line that is out of form, and `Limit`, where a line is in form but a count in
+/// it is above its limit. It is one pass over the bytes, in memory of a small multiple of them.
 pub fn read_listing(alloc: Global, bytes: &[u8]) -> Result<Base, Or<MapFault>>
     // The base map, or the first fault, by the function that computes on small listings.
     ensures exact { GivesWhole result (listing bytes.now) }
@@ -42,6 +45,16 @@ pub fn read_listing(alloc: Global, bytes: &[u8]) -> Result<Base, Or<MapFault>>
 {
     read_checked(alloc, bytes)
 }
+
+/// What holds of the listings of each base map.
+pub fn listing_laws()
+    // The one that is written is read back to its base map.
+    ensures written { (m : BaseMap) → IsTrue (is_base m) → listing (listing_text m) ≡ Ok m }
+    // So is the one in any version within whose limits the map is.
+    ensures read { (v : Version) (m : BaseMap) → IsTrue (is_base m) → IsTrue (keeps_to v m) → listing (text_in v m) ≡ Ok m }
+    // Each base map is within the limits of version 2.
+    ensures kept { (m : BaseMap) → IsTrue (is_base m) → IsTrue (keeps_to Two m) }
+{}
 
 /// The base map that the bytes list, or their first fault. Only the border of each face is left to be asked for before
 /// the last line: all else of a base map is asked line by line.
@@ -73,11 +86,11 @@ struct MapParts {
 fn read_map(alloc: Global, lines: &mut Lines) -> Result<MapParts, Or<MapFault>>
     ensures { GivesParts result lines.new (map_at lines.old) }
 {
-    at_line(lines.number(), read_heading(lines))?;
+    let version = at_line(lines.number(), read_heading(lines))?;
     let transform = at_line(lines.number(), read_transform(lines))?;
     let rules = read_listed_rules(alloc, lines)?;
     let classes = read_faces(alloc, lines, rules.weights.len() as u32)?;
-    let arcs = read_arcs(alloc, lines, classes.len() as u32)?;
+    let arcs = read_arcs(alloc, lines, version, classes.len() as u32)?;
     Ok(MapParts {
         transform,
         rules,

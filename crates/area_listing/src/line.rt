@@ -7,24 +7,27 @@ ghost use Rattle.tgap_model.specs.Limits.{limit_of};
 ghost use Rattle.line_forms.specs.Words.{read_words};
 ghost use Rattle.line_forms.specs.Lines.{read_row, read_line};
 ghost use Rattle.line_forms.specs.ListingLines.{read_transform, read_count, read_class, read_face};
+ghost use Rattle.map_forms.specs.Version.{read_heading};
 ghost use Rattle.map_forms.specs.Listing.{count_line, arc_at, end_at};
 ghost use Rattle.plain_io.specs.Taking.{Reads, Gives, GivesWith, GivesWhole};
 ghost use Rattle.area_listing.specs.Reading.{class_onto};
 
-use crate::limit::within_limit;
-use crate::row::{head_at, push_compatibilities, read_points, word_at};
+use crate::limit::{at_most, within_limit};
+use crate::row::{head_at, push_compatibilities, read_points, version_at, word_at};
+use map_forms::Version;
 use plain_io::{Lines, after_count, after_word, at_line, ended, natural_at};
 use std::alloc::Global;
 use tgap_model::{BaseArc, LimitKind, List, MAX_POINTS, MAX_WEIGHT, MapFault, Or, Transform};
 
-/// The first line: the name of the format, and its version.
-pub fn read_heading(lines: &mut Lines) -> Option<()>
-    ensures { Reads result lines.new (read_row (read_words (codes "tgap" ∷ codes "1" ∷ [])) lines.old) }
+/// The first line: the name of the format, and the version.
+#[tactic(auto, unfolding(map_forms::specs::Version::read_heading))]
+pub fn read_heading(lines: &mut Lines) -> Option<Version>
+    ensures { Reads result lines.new (read_row read_heading lines.old) }
 {
     let mut words = lines.next_line()?;
     after_word(&mut words, b"tgap")?;
-    after_word(&mut words, b"1")?;
-    ended(&words, ())
+    let version = version_at(&mut words)?;
+    ended(&words, version)
 }
 
 /// The transform of the map.
@@ -96,22 +99,24 @@ pub fn read_face(lines: &mut Lines, classes: u32, face: u32) -> Option<u32>
     ended(&words, class)
 }
 
-/// An arc of a map with so many faces, after arcs with so many points.
+/// An arc of a map with so many faces, after arcs with so many points, within the limits of the version.
 #[tactic(auto, unfolding(map_forms::specs::Listing::arc_at))]
 pub fn read_arc(
     alloc: Global,
     lines: &mut Lines,
+    version: Version,
     faces: u32,
     before: usize,
 ) -> Result<BaseArc, Or<MapFault>>
     requires { before ≤ MAX_POINTS }
-    ensures { Gives result lines.new (arc_at faces before lines.old) }
+    ensures { Gives result lines.new (arc_at version faces before lines.old) }
 {
     let line = lines.number();
     let mut words = at_line(line, lines.next_line())?;
     let head = at_line(line, head_at(&mut words, faces))?;
-    within_limit(LimitKind::Points, before as u64 + u64::from(head.count))?;
-    let points = read_points(alloc, &mut words, line, head.count)?;
+    let points_so_far = before as u64 + u64::from(head.count);
+    at_most(LimitKind::Points, version.points(), points_so_far)?;
+    let points = read_points(alloc, &mut words, version, line, head.count)?;
     Ok(BaseArc {
         left: head.left,
         right: head.right,

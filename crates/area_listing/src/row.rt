@@ -2,17 +2,17 @@
 
 ghost use Rattle.std.specs.Prelude.{◌≡◌};
 ghost use Rattle.std.specs.Option.{ok_or};
-ghost use Rattle.line_forms.specs.ListingLines.{word_at, coordinate_at, naturals_at, points_at, head_at, read_points};
+ghost use Rattle.line_forms.specs.ListingLines.{word_at, coordinate_to, naturals_at, points_at, head_at, read_points};
+ghost use Rattle.map_forms.specs.Version.{coordinate_of, version_at};
 ghost use Rattle.tgap_model.specs.declared.fault.MapFault.TheVariants.{BadLine};
 ghost use Rattle.plain_io.specs.Taking.{Takes, Reads, Gives, GivesOnto, GivesWhole};
 ghost use Rattle.plain_io.specs.Fronts.{with_front};
 ghost use Rattle.area_listing.specs.Reading.{point_at, ReadsHead};
 
+use map_forms::Version;
 use plain_io::{Pieces, after_word, at_line, ended, natural_at, number_at};
 use std::alloc::Global;
-use tgap_model::{
-    List, MAX_COMPATIBILITY, MAX_COORDINATE, MapFault, Or, Point, are_without_repeat,
-};
+use tgap_model::{List, MAX_COMPATIBILITY, MapFault, Or, Point, are_without_repeat};
 
 /// The next word, a number of 32 bits with a sign.
 pub fn word_at(words: &mut Pieces) -> Option<i32>
@@ -22,19 +22,34 @@ pub fn word_at(words: &mut Pieces) -> Option<i32>
     Some(number as i32)
 }
 
-/// The next word, a coordinate within the limits.
-fn coordinate_at(words: &mut Pieces) -> Option<i64>
-    ensures { Takes result words.old words.new (coordinate_at words.old) }
+/// The next word, the number of a version.
+pub fn version_at(words: &mut Pieces) -> Option<Version>
+    ensures { Reads result words.new (version_at words.old) }
 {
-    number_at(words, -MAX_COORDINATE, MAX_COORDINATE)
+    let word = words.next_piece()?;
+    if word == b"1".as_slice() {
+        Some(Version::One)
+    } else if word == b"2".as_slice() {
+        Some(Version::Two)
+    } else {
+        None
+    }
+}
+
+/// The next word, a coordinate within those of the version.
+fn coordinate_at(words: &mut Pieces, version: Version) -> Option<i64>
+    ensures { Takes result words.old words.new (coordinate_to (coordinate_of version) words.old) }
+{
+    let most = version.coordinate();
+    number_at(words, -most, most)
 }
 
 /// The next two words, the coordinates of a point.
-fn point_at(words: &mut Pieces) -> Option<Point>
-    ensures { Reads result words.new (point_at words.old) }
+fn point_at(words: &mut Pieces, version: Version) -> Option<Point>
+    ensures { Reads result words.new (point_at (coordinate_of version) words.old) }
 {
-    let x = coordinate_at(words)?;
-    let y = coordinate_at(words)?;
+    let x = coordinate_at(words, version)?;
+    let y = coordinate_at(words, version)?;
     Some(Point { x, y })
 }
 
@@ -83,14 +98,15 @@ pub fn push_compatibilities(
 fn points_at(
     alloc: Global,
     words: &mut Pieces,
+    version: Version,
     line: u32,
     n: u32,
 ) -> Result<List<Point>, Or<MapFault>>
-    ensures { Gives result words.new (ok_or (points_at n words.old) (BadLine line)) }
+    ensures { Gives result words.new (ok_or (points_at (coordinate_of version) n words.old) (BadLine line)) }
 {
     let mut points = List::with_capacity(alloc, n as usize)?;
     for _ in 0..n {
-        let point = at_line(line, point_at(words))?;
+        let point = at_line(line, point_at(words, version))?;
         points.push(point)?;
     }
     Ok(points)
@@ -101,12 +117,13 @@ fn points_at(
 pub fn read_points(
     alloc: Global,
     words: &mut Pieces,
+    version: Version,
     line: u32,
     n: u32,
 ) -> Result<List<Point>, Or<MapFault>>
-    ensures { GivesWhole result (ok_or (read_points n words.old) (BadLine line)) }
+    ensures { GivesWhole result (ok_or (read_points (coordinate_of version) n words.old) (BadLine line)) }
 {
-    let points = points_at(alloc, words, line, n)?;
+    let points = points_at(alloc, words, version, line, n)?;
     at_line(line, are_without_repeat(points.as_slice()).then_some(()))?;
     at_line(line, ended(words, points))
 }

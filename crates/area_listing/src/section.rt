@@ -5,6 +5,7 @@ ghost use Rattle.map_forms.specs.Listing.{classes_at, faces_at, arcs_at, rules_a
 ghost use Rattle.plain_io.specs.Taking.{Gives};
 
 use crate::line::{count_line, read_arc, read_class, read_count, read_face};
+use map_forms::Version;
 use plain_io::{Lines, at_line};
 use std::alloc::Global;
 use tgap_model::{BaseArc, LimitKind, List, MAX_CLASSES, MAX_RATIO, MapFault, Or, Rules};
@@ -33,17 +34,18 @@ pub fn read_faces(alloc: Global, lines: &mut Lines, classes: u32) -> Result<List
     faces_at(alloc, lines, classes, count)
 }
 
-/// The number of the arcs, and each arc, of a map with so many faces.
+/// The number of the arcs, and each arc, of a map with so many faces, within the limits of the version.
 #[tactic(auto, unfolding(map_forms::specs::Listing::all_arcs_at))]
 pub fn read_arcs(
     alloc: Global,
     lines: &mut Lines,
+    version: Version,
     faces: u32,
 ) -> Result<List<BaseArc>, Or<MapFault>>
-    ensures { Gives result lines.new (all_arcs_at faces lines.old) }
+    ensures { Gives result lines.new (all_arcs_at version faces lines.old) }
 {
     let count = count_line(lines, LimitKind::Arcs, 0)?;
-    arcs_at(alloc, lines, faces, count)
+    arcs_at(alloc, lines, version, faces, count)
 }
 
 /// The weights of the next `n` classes, from class 0 on, and their compatibilities, row after row.
@@ -85,15 +87,16 @@ fn faces_at(
 fn arcs_at(
     alloc: Global,
     lines: &mut Lines,
+    version: Version,
     faces: u32,
     n: u32,
 ) -> Result<List<BaseArc>, Or<MapFault>>
-    ensures { Gives result lines.new (arcs_at faces 0 n lines.old) }
+    ensures { Gives result lines.new (arcs_at version faces 0 n lines.old) }
 {
     let mut arcs = List::with_capacity(alloc, n as usize)?;
     let mut points = 0;
     for _ in 0..n {
-        let arc = read_arc(alloc, lines, faces, points)?;
+        let arc = read_arc(alloc, lines, version, faces, points)?;
         points += arc.points.len();
         arcs.push(arc)?;
     }

@@ -12,7 +12,7 @@ use plain_io::{put_count, put_field, put_size};
 use std::alloc::Global;
 use tgap_model::{Base, BaseArc, Memory, Point, Rules, Text, Transform};
 
-/// The listing of a base map, by 'The area listing' of docs/formats.md. Its cost is that of the text.
+/// The listing of a base map in version 2, by 'The area listing' of docs/formats.md. Its cost is that of the text.
 pub fn write_listing(alloc: Global, base: &Base) -> Result<Text, Memory>
     // The text is the listing of the base map, each byte of it.
     ensures spelled { IfOk result (λ text. text ≡ listing_text base.now) }
@@ -20,7 +20,7 @@ pub fn write_listing(alloc: Global, base: &Base) -> Result<Text, Memory>
     ensures read { IfOk result (λ text. listing text ≡ Ok base.now) }
 {
     let mut text = Text::new(alloc);
-    text.push_slice(b"tgap 1\n")?;
+    text.push_slice(b"tgap 2\n")?;
     put_transform(alloc, &mut text, base.transform())?;
     put_rules(alloc, &mut text, base.rules())?;
     put_faces(alloc, &mut text, base.classes().as_slice())?;

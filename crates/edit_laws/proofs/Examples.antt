@@ -103,7 +103,7 @@ all_at count line cause = replicate count (Err (line, cause))
 
 of_no_form : each squares (
     codes "\n" ∷ codes "class 1 1" ∷ codes "clas 1 1\n" ∷ codes "class 1\n" ∷ codes "class 1 1 1\n" ∷ codes "class  1 1\n" ∷ codes "class 01 1\n"
-    ∷ codes "class 1 -0\n" ∷ codes "class +1 1\n" ∷ codes "class 1 1\r\n" ∷ codes "move 10 0 12\n" ∷ codes "drop 0 268435457\n" ∷ codes "drop -0 0\n" ∷ [])
+    ∷ codes "class 1 -0\n" ∷ codes "class +1 1\n" ∷ codes "class 1 1\r\n" ∷ codes "move 10 0 12\n" ∷ codes "drop 0 2147483649\n" ∷ codes "drop -0 0\n" ∷ [])
     ≡ all_at 13 1 1
 unfolding number_of digits
 of_no_form = refl

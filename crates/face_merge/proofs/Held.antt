@@ -101,7 +101,7 @@ importance_read r slot z k rules er ez ek =
 
 -- ---- an importance fits
 
-weight_below : (ws : List ℕ) → list_all (λ w. nat_le 1 w && nat_le w MAX_WEIGHT) ws ≡ true → (k : ℕ) → get_or ws k 0 ≤ MAX_WEIGHT
+pub weight_below : (ws : List ℕ) → list_all (λ w. nat_le 1 w && nat_le w MAX_WEIGHT) ws ≡ true → (k : ℕ) → get_or ws k 0 ≤ MAX_WEIGHT
 weight_below [] e k = let nil : List ℕ = [] in let past : get_or nil k 0 ≡ 0 = get_or_past nil k 0 (omega arith) in omega (arith, past)
 weight_below (w ∷ ws) e zero =
     let parts = and_parts (nat_le 1 w && nat_le w MAX_WEIGHT) _ e in
@@ -114,7 +114,7 @@ weight_below (w ∷ ws) e (suc k) = weight_below ws (and_parts (nat_le 1 w && na
 pub importance_back : (m : MergeState) (f : ℕ) (x : ℤ) → IsMerging m → x ≡ importance_of m f → to_z w128 (of_z w128 x) ≡ importance_of m f
 importance_back m f x known e =
     let weight = weight_below m.rules.weights (rules_facts m.rules known.rules_hold).weights (class_of m.classes f) in
-    let fits = weighted_fits (area_of m.arcs f) (slice_index m.rules.weights (class_of m.classes f)) (area_small f m.arcs known.measured known.few_arcs) (omega (arith, weight)) in
+    let fits = weighted_fits (area_of m.arcs f) (slice_index m.rules.weights (class_of m.classes f)) (area_small f m.arcs known.measured known.few_arcs) weight in
     rw e (to_z-of_z w128 (importance_of m f) fits)
 
 -- ---- the two faces of a step

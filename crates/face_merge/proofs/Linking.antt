@@ -1,20 +1,18 @@
 -- The length that two faces share: by what test of the arcs, with one more arc, and after a step.
-use Rattle.std.proofs.Common.{◌≡◌, ◌≢◌, ◌<◌, ◌≤◌, ◌⊎◌, inl, inr, ℕ, ◌+◌, ◌*◌, ◌^◌, Bool, true, false, ◌&&◌, ◌||◌, ◌==◌, List, [], ◌∷◌, ◌++◌, length, map, take, get_or, Option, Some, None, unwrap_or, IfSome, IsSome, cond, refl, sym, ◌∙◌, ap, arith}
+use Rattle.std.proofs.Common.{◌≡◌, ◌≢◌, ◌<◌, ◌≤◌, ◌⊎◌, inl, inr, ℕ, ◌+◌, ◌^◌, Bool, true, false, ◌&&◌, ◌||◌, ◌==◌, List, [], ◌∷◌, ◌++◌, length, map, take, get_or, Option, Some, None, unwrap_or, IfSome, IsSome, cond, refl, sym, ◌∙◌, ap, arith}
 use Rattle.std.specs.Prelude.{sum_by}
-use Rattle.std.specs.List.{All, AllByRecursion, list_any}
+use Rattle.std.specs.List.{AllByRecursion, list_any}
 use Rattle.std.proofs.lemmas.Bool.{cond-true, cond-false, and_parts}
 use Rattle.std.proofs.lemmas.Bool.Decides.{nat_tests}
-use Rattle.std.proofs.lemmas.List.{take_more, length-take}
-use Rattle.std.proofs.lemmas.List.Elements.{recursion_from_All, All-take}
-use Rattle.std.proofs.lemmas.List.Sums.{sum_by-cons}
+use Rattle.std.proofs.lemmas.List.{take_more}
+use Rattle.std.proofs.lemmas.List.Sums.{sum_by-cons, sum_by-le-sum_by, sum_by_more_le_part}
 use Rattle.tgap_model.specs.declared.merge.LabelledArc.{LabelledArc}
 use Rattle.tgap_model.specs.declared.merge.MergeStep.{MergeStep}
-use Rattle.tgap_model.specs.declared.limits.TheConstants.{MAX_ARCS}
 use Rattle.tgap_model.specs.Bounds.{max_arc_length}
 use Rattle.tgap_model.specs.History.{relabel_arc, is_between, is_shared, are_neighbours, shared_length, IsNumberedStep}
 use Rattle.face_merge.specs.Links.{with_arc, plus}
 use Rattle.face_merge.specs.Linking.{link_of}
-use Rattle.face_merge.specs.Measures.{IsMeasured}
+use Rattle.face_merge.specs.Measures.{total_length}
 use Rattle.face_merge.specs.Merging.{IsLabelled}
 use Rattle.face_merge.proofs.Neighbours.{is_pair, between_shared}
 use Rattle.face_merge.proofs.Relabelled.{kept_before}
@@ -109,22 +107,19 @@ none_shared (a ∷ arcs) f g e =
     both_false true b e = absurd cc
     both_false false b e = (refl, e)
 
--- the length fits
-shared_size : (arcs : List LabelledArc) (f g : ℕ) → AllByRecursion IsMeasured arcs → shared_length arcs f g ≤ length arcs * max_arc_length
-shared_size [] f g sizes = omega arith
-shared_size (a ∷ arcs) f g sizes =
-    let here : cond (is_between f g a) a.extent 0 ≤ max_arc_length = at_most (is_between f g a) a.extent sizes.0.extent in
-    omega (arith, length-cons (is_between f g) a arcs, shared_size arcs f g sizes.1, here)
-  where
-    at_most : (b : Bool) (n : ℕ) → n ≤ max_arc_length → cond b n 0 ≤ max_arc_length
-    at_most true n p = p
-    at_most false n p = omega arith
+-- the length fits: no arc counts twice
+part_length : (b : Bool) (n : ℕ) → cond b n 0 ≤ n
+part_length true n = omega arith
+part_length false n = omega arith
 
-pub link_fits : (arcs : List LabelledArc) (f g : ℕ) → All IsMeasured arcs → length arcs ≤ MAX_ARCS → IfSome (link_of arcs f g) (λ n. n < 2 ^ 64)
-link_fits arcs f g sizes few = chosen (are_neighbours arcs f g)
+shared_size : (arcs : List LabelledArc) (f g : ℕ) → shared_length arcs f g ≤ total_length arcs
+shared_size arcs f g = sum_by-le-sum_by (λ a. cond (is_between f g a) a.extent 0) (λ a. a.extent) arcs (λ a. part_length (is_between f g a) a.extent)
+
+pub link_fits : (arcs : List LabelledArc) (f g : ℕ) → total_length arcs ≤ max_arc_length → IfSome (link_of arcs f g) (λ n. n < 2 ^ 64)
+link_fits arcs f g short = chosen (are_neighbours arcs f g)
   where
     small : shared_length arcs f g < 2 ^ 64
-    small = omega (arith, shared_size arcs f g (recursion_from_All IsMeasured arcs sizes))
+    small = omega (arith, shared_size arcs f g, short)
 
     chosen : (b : Bool) → IfSome (cond b (Some (shared_length arcs f g)) None) (λ n. n < 2 ^ 64)
     chosen true = small
@@ -141,16 +136,16 @@ no_links f g = link_none [] f g (never (is_pair f g))
 -- ---- one more arc
 
 -- what is shared so far, with room for one more arc
-pub room_for_arc : (arcs : List LabelledArc) (i f g n : ℕ) → All IsMeasured arcs → length arcs ≤ MAX_ARCS → i < length arcs → n ≤ max_arc_length
-    → unwrap_or (link_of (take i arcs) f g) 0 + n < 2 ^ 64
-room_for_arc arcs i f g n sizes few inside p = chosen (are_neighbours (take i arcs) f g)
+pub room_for_arc : (arcs : List LabelledArc) (i : ℕ) (d : LabelledArc) (f g : ℕ) → total_length arcs ≤ max_arc_length → i < length arcs
+    → unwrap_or (link_of (take i arcs) f g) 0 + (get_or arcs i d).extent < 2 ^ 64
+room_for_arc arcs i d f g short inside = chosen (are_neighbours (take i arcs) f g)
   where
-    so_far : shared_length (take i arcs) f g ≤ length (take i arcs) * max_arc_length
-    so_far = shared_size (take i arcs) f g (recursion_from_All IsMeasured (take i arcs) (All-take IsMeasured i arcs sizes))
+    so_far : shared_length (take i arcs) f g + (get_or arcs i d).extent ≤ total_length arcs
+    so_far = sum_by_more_le_part (λ a. cond (is_between f g a) a.extent 0) (λ a. a.extent) arcs i d inside (λ a. part_length (is_between f g a) a.extent)
 
-    chosen : (b : Bool) → unwrap_or (cond b (Some (shared_length (take i arcs) f g)) None) 0 + n < 2 ^ 64
-    chosen true = omega (arith, so_far, length-take i arcs)
-    chosen false = omega arith
+    chosen : (b : Bool) → unwrap_or (cond b (Some (shared_length (take i arcs) f g)) None) 0 + (get_or arcs i d).extent < 2 ^ 64
+    chosen true = omega (arith, so_far, short)
+    chosen false = omega (arith, so_far, short)
 
 any_push : (p : LabelledArc → Bool) (arcs : List LabelledArc) (a : LabelledArc) → list_any p (arcs ++ a ∷ []) ≡ (list_any p arcs || p a)
 any_push p [] a = last (p a)

@@ -5,11 +5,12 @@ use Rattle.std.proofs.lemmas.Bool.{or_cases, and_parts}
 use Rattle.std.proofs.lemmas.Bool.Decides.{nat_tests}
 use Rattle.std.proofs.lemmas.List.{length-map, length_push}
 use Rattle.std.proofs.lemmas.List.Elements.{recursion_from_All, All-push, All-map, All-weaker, All-get_or}
+use Rattle.lemmas.proofs.Counts.{sum_by-map}
 use Rattle.tgap_model.specs.declared.base.Rules.{Rules}
 use Rattle.tgap_model.specs.declared.merge.MergeStep.{MergeStep}
 use Rattle.tgap_model.specs.declared.merge.LabelledArc.{LabelledArc}
 use Rattle.tgap_model.specs.History.{is_between, class_of, relabel_arc, classes_after, IsNextStep, AreSteps, AreNumbered, IsNumberedStep}
-use Rattle.face_merge.specs.Measures.{IsMeasured}
+use Rattle.face_merge.specs.Measures.{IsMeasured, total_length}
 use Rattle.face_merge.specs.Merging.{MergeState, IsLabelled, IsMerging, after}
 use Rattle.face_merge.proofs.Neighbours.{is_pair, between_labels}
 use Rattle.face_merge.proofs.Steps.{step_less}
@@ -66,6 +67,10 @@ steps_numbered rules classes arcs (s ∷ steps) labels p =
     let rest = steps_numbered rules (classes_after s classes) (map (relabel_arc s) arcs) steps (labels_after classes arcs s p.0.made labels) p.1 in
     (next_step_numbered rules classes arcs s labels p.0, subst (λ (n : ℕ). AreNumbered n steps) (length_push classes (class_of classes s.winner)) rest)
 
+-- the arcs are as long after a step
+total_after : (s : MergeStep) (arcs : List LabelledArc) → total_length (map (relabel_arc s) arcs) ≡ total_length arcs
+total_after s arcs = sum_by-map (λ a. a.extent) (relabel_arc s) arcs
+
 -- what is known of a map while it is merged stays so at a step
 pub merging_after : (m : MergeState) (s : MergeStep) → IsMerging m → IsNextStep m.rules m.classes m.arcs s → IsMerging (after s m)
 merging_after m s known step =
@@ -79,5 +84,6 @@ merging_after m s known step =
       measured = All-map IsMeasured (relabel_arc s) m.arcs
           (All-weaker IsMeasured (λ a. IsMeasured (relabel_arc s a)) (λ a p. record { area = p.area; extent = p.extent }) m.arcs known.measured);
       few_arcs = omega (arith, known.few_arcs, length-map m.arcs (relabel_arc s));
+      short = omega (arith, known.short, total_after s m.arcs);
       few_faces = omega (arith, known.few_faces, length_push m.classes (class_of m.classes s.winner), step_less s m.arcs step.neighbours);
     }

@@ -172,7 +172,7 @@ module _ (m : MergeState) (s : MergeStep) (is : IsMerging m) (next : IsNextStep 
           (fits (joined_itself w from to) tt)
           (λ t a b. fits (joined_to w from to t slots_apart a b ∙ together t a b) (after_fits s.made (number_at numbers t)))
           (λ t a b. fits (joined_to_right w from to t slots_apart a b ∙ (both (paired.turned t to) (paired.turned t from) ∙ together t a b)) (after_fits s.made (number_at numbers t)))
-          (λ t u a b d e. fits (joined_other w from to t u a b d e ∙ known.linked t u) (link_fits m.arcs (number_at numbers t) (number_at numbers u) is.measured is.few_arcs))
+          (λ t u a b d e. fits (joined_other w from to t u a b d e ∙ known.linked t u) (link_fits m.arcs (number_at numbers t) (number_at numbers u) is.short))
         where
           fits : {x y : Option ℕ} → x ≡ y → IfSome y (λ n. n < 2 ^ 64) → IfSome x (λ n. n < 2 ^ 64)
           fits e p = rw e p
@@ -184,7 +184,7 @@ module _ (m : MergeState) (s : MergeStep) (is : IsMerging m) (next : IsNextStep 
           both h k = rw (h, k) refl
 
           after_fits : (f g : ℕ) → IfSome (link_of arcs f g) (λ n. n < 2 ^ 64)
-          after_fits f g = let known_after = merging_after m s is next in link_fits arcs f g known_after.measured known_after.few_arcs
+          after_fits f g = link_fits arcs f g (merging_after m s is next).short
 
       module _ (numbers' : List ℕ) (areas' : List ℤ) (w' : Lengths) (count : length areas' ≡ length numbers') (as_many : length numbers' ≡ length numbers)
           (at_from : number_at numbers' from ≡ 0) (at_to : number_at numbers' to ≡ s.made)

@@ -1,22 +1,23 @@
 -- What a base map gives to its merging: its points are within the limits, its rules have their form, its labels are faces.
-use Rattle.std.proofs.Common.{◌≡◌, ◌<◌, ◌≤◌, ℕ, ◌+◌, ◌*◌, true, length, get_or, map, sym, subst, arith}
+use Rattle.std.proofs.Common.{◌≡◌, ◌<◌, ◌≤◌, ℕ, ◌+◌, ◌*◌, true, List, [], ◌∷◌, length, get_or, map, sym, subst, arith}
 use Rattle.std.specs.Prelude.{IsTrue}
-use Rattle.std.specs.List.{All}
+use Rattle.std.specs.List.{All, AllByRecursion}
 use Rattle.std.proofs.lemmas.Nat.{mul-add-lt}
 use Rattle.std.proofs.lemmas.List.{length-map}
-use Rattle.std.proofs.lemmas.List.Sums.{AllPass-from_list_all, get_or-le-sum_by, count_by-le-length}
-use Rattle.std.proofs.lemmas.List.Elements.{All-weaker, All-map}
+use Rattle.std.proofs.lemmas.List.Sums.{AllPass-from_list_all, get_or-le-sum_by, count_by-le-length, sum_by-cons}
+use Rattle.std.proofs.lemmas.List.Elements.{All-weaker, All-map, recursion_from_All}
 use Rattle.tgap_model.specs.declared.base.Rules.{Rules}
 use Rattle.tgap_model.specs.declared.base.BaseArc.{BaseArc}
 use Rattle.tgap_model.specs.declared.limits.TheConstants.{MAX_CLASSES, MAX_POINTS}
-use Rattle.tgap_model.specs.Base.{BaseMap, is_base, is_rules, in_limits}
-use Rattle.tgap_model.specs.Bounds.{IsNear}
+use Rattle.tgap_model.specs.declared.merge.LabelledArc.{LabelledArc}
+use Rattle.tgap_model.specs.Base.{BaseMap, is_base, is_rules, in_limits, count_points}
+use Rattle.tgap_model.specs.Bounds.{IsNear, max_length, max_arc_length}
 use Rattle.tgap_model.specs.History.{is_shared, labelled, history_of, AreNumbered}
 use Rattle.tgap_model.proofs.BaseFacts.{ArcFacts, rules_facts, base_facts, classes_below, each_arc}
 use Rattle.tgap_model.proofs.Points.{near_point}
-use Rattle.face_merge.specs.Measures.{IsMeasured}
+use Rattle.face_merge.specs.Measures.{IsMeasured, total_length}
 use Rattle.face_merge.specs.Merging.{IsLabelled, IsMerging, begin}
-use Rattle.face_merge.proofs.Terms.{measured_arc}
+use Rattle.face_merge.proofs.Terms.{measured_arc, path_size}
 use Rattle.face_merge.proofs.Steps.{history_is}
 use Rattle.face_merge.proofs.Numbers.{steps_numbered}
 
@@ -65,6 +66,20 @@ pub base_measured : (m : BaseMap) → IsTrue (is_base m) → All IsMeasured (map
 base_measured m h =
     All-map IsMeasured labelled m.arcs (λ k d p. measured_arc (get_or m.arcs k d) (base_near m h k d p) (base_short m h k d p))
 
+-- all arcs together are as long as their points allow
+total_size : (arcs : List BaseArc) → AllByRecursion (λ a. All IsNear a.points) arcs → total_length (map labelled arcs) ≤ count_points arcs * max_length
+total_size [] near = omega arith
+total_size (a ∷ arcs) near =
+    let one = path_size a.points (recursion_from_All IsNear a.points near.0) in
+    let rest = total_size arcs near.1 in
+    let length_more = sum_by-cons (λ (x : LabelledArc). x.extent) (labelled a) (map labelled arcs) in
+    let points_more = sum_by-cons (λ (x : BaseArc). length x.points) a arcs in
+    omega (arith, one, rest, length_more, points_more)
+
+base_total : (m : BaseMap) → IsTrue (is_base m) → total_length (map labelled m.arcs) ≤ max_arc_length
+base_total m h =
+    omega (arith, total_size m.arcs (recursion_from_All (λ a. All IsNear a.points) m.arcs (base_near m h)), (base_facts m h).few_points)
+
 -- what is known as the merging begins
 pub merging_start : (m : BaseMap) → IsTrue (is_base m) → IsMerging (begin m)
 merging_start m h =
@@ -75,6 +90,7 @@ merging_start m h =
       labelled = base_labelled m h;
       measured = base_measured m h;
       few_arcs = omega (arith, parts.few_arcs, length-map m.arcs labelled);
+      short = base_total m h;
       few_faces = omega (arith, parts.few_faces, parts.few_arcs, length-map m.arcs labelled, count_by-le-length is_shared (map labelled m.arcs));
     }
 

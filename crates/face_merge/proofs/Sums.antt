@@ -1,5 +1,5 @@
 -- The areas of all faces, one more arc at a time.
-use Rattle.std.proofs.Common.{◌≡◌, ◌<◌, ◌≤◌, ℕ, ◌+◌, ◌*◌, ◌^◌, Bool, true, false, ◌==◌, ◌⊎◌, inl, inr, ℤ, pos, neg_ℤ, ◌+ℤ◌, ◌-ℤ◌, ◌*ℤ◌, unsigned_abs, FitsSigned, to_z, of_z, List, [], ◌∷◌, length, get_or, take, fold, cond, sym, arith, eq-eqb, ne_eqb}
+use Rattle.std.proofs.Common.{◌≡◌, ◌<◌, ◌≤◌, ℕ, ◌+◌, ◌*◌, Bool, true, false, ◌==◌, ◌⊎◌, inl, inr, ℤ, pos, neg_ℤ, ◌+ℤ◌, ◌-ℤ◌, ◌*ℤ◌, unsigned_abs, FitsSigned, to_z, of_z, List, [], ◌∷◌, length, get_or, take, fold, cond, sym, arith, eq-eqb, ne_eqb}
 use Rattle.std.specs.Int.{w128}
 use Rattle.std.specs.List.{All, AllByRecursion}
 use Rattle.std.proofs.lemmas.Int.{ints, to_z-of_z, fits_signed_mul}
@@ -8,7 +8,7 @@ use Rattle.std.proofs.lemmas.List.{get_or-set_same, get_or-set_other, length-set
 use Rattle.std.proofs.lemmas.List.Elements.{All-take, recursion_from_All}
 use Rattle.std.proofs.lemmas.List.Sums.{fold_more}
 use Rattle.tgap_model.specs.declared.merge.LabelledArc.{LabelledArc}
-use Rattle.tgap_model.specs.declared.limits.TheConstants.{MAX_ARCS}
+use Rattle.tgap_model.specs.declared.limits.TheConstants.{MAX_ARCS, MAX_WEIGHT}
 use Rattle.tgap_model.specs.Bounds.{max_arc_area, max_area}
 use Rattle.tgap_model.specs.History.{area_part, area_of}
 use Rattle.face_merge.specs.Measures.{IsMeasured}
@@ -98,13 +98,13 @@ areas_next xs arcs i d f p l r h =
 -- ---- numbers as the code hands them over
 
 -- an area times a weight fits
-pub weighted_fits : (a : ℤ) (n : ℕ) → unsigned_abs a ≤ max_area → n < 2 ^ 32 → FitsSigned w128 (a *ℤ pos n)
+pub weighted_fits : (a : ℤ) (n : ℕ) → unsigned_abs a ≤ max_area → n ≤ MAX_WEIGHT → FitsSigned w128 (a *ℤ pos n)
 weighted_fits a n la ln =
-    let size : unsigned_abs (pos n) ≤ 2 ^ 32 = omega (arith, ints) in
-    fits_signed_mul w128 a (pos n) max_area (2 ^ 32) la size (omega arith)
+    let size : unsigned_abs (pos n) ≤ MAX_WEIGHT = omega (arith, ints) in
+    fits_signed_mul w128 a (pos n) max_area MAX_WEIGHT la size (omega arith)
 
 -- both, as the code hands them over
-pub weighted_is : (a w : ℤ) (n : ℕ) → unsigned_abs a ≤ max_area → w ≡ pos n → n < 2 ^ 32
+pub weighted_is : (a w : ℤ) (n : ℕ) → unsigned_abs a ≤ max_area → w ≡ pos n → n ≤ MAX_WEIGHT
     → let product = to_z w128 (of_z w128 a) *ℤ to_z w128 (of_z w128 w) in (FitsSigned w128 product) × (to_z w128 (of_z w128 product) ≡ a *ℤ pos n)
 weighted_is a w n la e ln =
     let ea : to_z w128 (of_z w128 a) ≡ a = omega (arith, ints) in

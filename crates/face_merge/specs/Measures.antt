@@ -1,5 +1,5 @@
 -- What an arc adds to the areas and the lengths of faces, and how large that gets.
-use Rattle.std.specs.Prelude.{◌≤◌, pos, unsigned_abs}
+use Rattle.std.specs.Prelude.{◌≤◌, ℕ, pos, unsigned_abs, List, sum_by}
 use Rattle.tgap_model.specs.declared.base.BaseArc.{BaseArc}
 use Rattle.tgap_model.specs.declared.merge.LabelledArc.{LabelledArc}
 use Rattle.tgap_model.specs.Point.{shoelace, path_length}
@@ -14,3 +14,7 @@ measure_of a = record { twice = shoelace a.points; length = pos (path_length a.p
 pub record IsMeasured (a : LabelledArc) : Type 0 where
   pub area : unsigned_abs a.area ≤ max_arc_area
   pub extent : a.extent ≤ max_arc_length
+
+-- the length of all these arcs together
+abbrev pub total_length : List LabelledArc → ℕ
+total_length arcs = sum_by (λ a. a.extent) arcs

@@ -7,9 +7,9 @@ use Rattle.tgap_model.specs.declared.merge.LabelledArc.{LabelledArc}
 use Rattle.tgap_model.specs.declared.merge.MergeStep.{MergeStep}
 use Rattle.tgap_model.specs.declared.limits.TheConstants.{MAX_ARCS}
 use Rattle.tgap_model.specs.Base.{BaseMap, is_rules}
-use Rattle.tgap_model.specs.Bounds.{max_face}
+use Rattle.tgap_model.specs.Bounds.{max_arc_length, max_face}
 use Rattle.tgap_model.specs.History.{labelled, relabel_arc, classes_after, area_of, importance, score, permits, are_neighbours, is_permitted, is_shared, next_step}
-use Rattle.face_merge.specs.Measures.{IsMeasured}
+use Rattle.face_merge.specs.Measures.{IsMeasured, total_length}
 
 -- A map while it is merged. The list of classes begins with that of face 1 and goes on in order of number.
 pub record MergeState : Type 0 where
@@ -63,13 +63,15 @@ pub record IsLabelled (n : ℕ) (a : LabelledArc) : Type 0 where
   pub left : a.left ≤ n
   pub right : a.right ≤ n
 
--- what is known of a map while it is merged
+-- What is known of a map while it is merged. All its arcs together are no longer than one arc can be, as all points are
+-- counted in both.
 pub record IsMerging (m : MergeState) : Type 0 where
   pub rules_hold : IsTrue (is_rules m.rules)
   pub classed : All (λ k. k < length m.rules.weights) m.classes
   pub labelled : All (IsLabelled (length m.classes)) m.arcs
   pub measured : All IsMeasured m.arcs
   pub few_arcs : length m.arcs ≤ MAX_ARCS
+  pub short : total_length m.arcs ≤ max_arc_length
   pub few_faces : length m.classes + count_by is_shared m.arcs ≤ max_face
 
 -- twice the area that these arcs give to each face, by its number

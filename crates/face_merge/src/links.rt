@@ -1,11 +1,10 @@
 //! The links between faces in slots: which are neighbours, and the length that they share.
 
-ghost use Rattle.std.specs.Prelude.{◌≡◌, ◌≢◌, ◌≤◌, ◌+◌, ◌<◌, ◌^◌, ℕ, None, length, map, unwrap_or, IfOk, IfSome, OnOk, is_some};
-ghost use Rattle.std.specs.List.{All};
-ghost use Rattle.tgap_model.specs.declared.limits.TheConstants.{MAX_ARCS};
+ghost use Rattle.std.specs.Prelude.{◌≡◌, ◌≢◌, ◌≤◌, ◌+◌, ◌<◌, ◌^◌, ℕ, None, unwrap_or, IfOk, OnOk, is_some};
+ghost use Rattle.tgap_model.specs.Bounds.{max_arc_length};
 ghost use Rattle.tgap_model.specs.History.{is_shared};
 ghost use Rattle.face_merge.specs.Linking.{link_of};
-ghost use Rattle.face_merge.specs.Measures.{IsMeasured};
+ghost use Rattle.face_merge.specs.Measures.{total_length};
 ghost use Rattle.face_merge.specs.Links.{AreLinksOf, AreOnce, length_at, has_pair, with_length, without, with_arc, with_more, joined, ArePaired, Fit, IsPassed};
 
 use std::alloc::Global;
@@ -44,8 +43,7 @@ impl Links {
 
     /// The links between the faces of a base map, each in the slot of its number.
     pub fn between(alloc: Global, arcs: &[LabelledArc]) -> Result<Links, Memory>
-        requires measured { All IsMeasured arcs.now }
-        requires few { length arcs.now ≤ MAX_ARCS }
+        requires { total_length arcs.now ≤ max_arc_length }
         ensures { IfOk result (λ links. (f g : ℕ) → length_at links f g ≡ link_of arcs.now f g) }
     {
         let mut links = Links::new(alloc);

@@ -1,31 +1,14 @@
 //! Measuring an arc: its shoelace sum and its path length.
 
-ghost use Rattle.std.specs.Prelude.{◌≡◌, ◌≤◌, ◌*ℤ◌, unsigned_abs, length};
+ghost use Rattle.std.specs.Prelude.{◌≡◌, ◌≤◌, length};
 ghost use Rattle.std.specs.List.{All};
 ghost use Rattle.tgap_model.specs.declared.limits.TheConstants.{MAX_POINTS};
-ghost use Rattle.tgap_model.specs.Point.{segment_length, shoelace_term};
-ghost use Rattle.tgap_model.specs.Bounds.{max_length, max_shoelace, IsNear};
+ghost use Rattle.tgap_model.specs.Point.{segment_length};
+ghost use Rattle.tgap_model.specs.Bounds.{max_length, IsNear};
 ghost use Rattle.face_merge.specs.Measures.{measure_of};
 
 use crate::measures::Measure;
-use tgap_model::{BaseArc, Point};
-
-/// The product of two coordinates.
-fn product(a: i64, b: i64) -> i128
-    ensures { result ≡ a *ℤ b }
-{
-    i128::from(a) * i128::from(b)
-}
-
-/// The shoelace term of the segment from `a` to `b`.
-fn shoelace_of(a: Point, b: Point) -> i128
-    requires near_a { IsNear a }
-    requires near_b { IsNear b }
-    ensures value { result ≡ shoelace_term a b }
-    ensures size { unsigned_abs result ≤ max_shoelace }
-{
-    product(a.x, b.y) - product(b.x, a.y)
-}
+use tgap_model::{BaseArc, Point, shoelace_term};
 
 /// The length of the segment from `a` to `b`, in grid units.
 fn length_of(a: Point, b: Point) -> u64
@@ -47,7 +30,7 @@ pub fn measure(arc: &BaseArc) -> Measure
     let mut twice = 0;
     let mut extent = 0;
     for i in 1..points.len() {
-        twice += shoelace_of(points[i - 1], points[i]);
+        twice += shoelace_term(points[i - 1], points[i]);
         extent += length_of(points[i - 1], points[i]);
     }
     Measure {

@@ -2,6 +2,7 @@
 //! the loser or the winner. So the links of one of the two stay where they are.
 
 ghost use Rattle.std.specs.Prelude.{◌≡◌, ◌≢◌, ◌≤◌, ◌<◌, ◌*◌, ◌+◌, ◌*ℤ◌, ◌+ℤ◌, pos, unsigned_abs, nat_lt, length, slice_index, IfOk, IsTrue, MatchOption, None, Some};
+ghost use Rattle.tgap_model.specs.declared.limits.TheConstants.{MAX_WEIGHT};
 ghost use Rattle.tgap_model.specs.Base.{is_rules};
 ghost use Rattle.tgap_model.specs.Bounds.{max_area};
 ghost use Rattle.tgap_model.specs.History.{class_of, area_of};
@@ -48,13 +49,24 @@ pub struct Pair {
     links: Vec<Link>,
 }
 
+/// The weight of a class.
+fn weight(rules: &Rules, class: u32) -> u32
+    requires rules { IsTrue (is_rules rules.now) }
+    requires class { class < length rules.now.weights }
+    ensures value { result ≡ slice_index rules.now.weights class }
+    ensures small { result ≤ MAX_WEIGHT }
+{
+    rules.weights.as_slice()[class as usize]
+}
+
 /// The importance of a face: twice its area times the weight of its class.
 fn importance(rules: &Rules, class: u32, area: i128) -> i128
+    requires rules { IsTrue (is_rules rules.now) }
     requires class { class < length rules.now.weights }
     requires area { unsigned_abs area ≤ max_area }
     ensures { result ≡ area *ℤ pos (slice_index rules.now.weights class) }
 {
-    area * i128::from(rules.weights.as_slice()[class as usize])
+    area * i128::from(weight(rules, class))
 }
 
 /// The compatibility of a class, the row of the table, with another, the column.

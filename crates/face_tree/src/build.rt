@@ -5,9 +5,8 @@ ghost use Rattle.std.specs.List.{All};
 ghost use Rattle.tgap_model.specs.History.{AreNumbered, classes_after};
 ghost use Rattle.face_tree.specs.Tree.{AreAscending, AreJumpsBy, parent_by};
 
-use crate::labels::numbers_below;
 use std::alloc::Global;
-use tgap_model::{Memory, MergeStep};
+use tgap_model::{Memory, MergeStep, numbers_below};
 
 /// The class of each face, those of the faces that the steps make after the others.
 pub fn classes_of(alloc: Global, classes: &[u32], steps: &[MergeStep]) -> Result<Vec<u32>, Memory>

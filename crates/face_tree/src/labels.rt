@@ -4,19 +4,7 @@ ghost use Rattle.std.specs.Prelude.{◌≡◌, ◌≤◌, ◌<◌, ◌+◌, ◌^
 ghost use Rattle.tgap_model.specs.History.{AreNumbered, label_after};
 
 use std::alloc::Global;
-use tgap_model::{Memory, MergeStep};
-
-/// The numbers from 0 to below this one.
-pub fn numbers_below(alloc: Global, end: u32) -> Result<Vec<u32>, Memory>
-    ensures count { IfOk result (λ numbers. length numbers.items ≡ end) }
-    ensures numbers { IfOk result (λ numbers. (k : ℕ) → k < end → slice_index numbers.items k ≡ k) }
-{
-    let mut numbers = Vec::with_capacity(alloc, end as usize)?;
-    for n in 0..end {
-        numbers.push(n)?;
-    }
-    Ok(numbers)
-}
+use tgap_model::{Memory, MergeStep, numbers_below};
 
 /// The label of each face after these steps: that of face f stands at place f, and 0 is the outside. It goes back from
 /// the last step, so that each label is looked up once a step.

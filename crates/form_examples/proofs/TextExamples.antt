@@ -31,7 +31,7 @@ two_squares_text : borders_text 1 (row 0 3 0 ∷ row 1 3 0 ∷ []) ≡ codes "bo
 unfolding digits
 two_squares_text = refl
 
-two_squares_listing : listing_text two_squares ≡ codes "tgap 1\ntransform 1 1 0 0\nratio 16\nclasses 1\nclass 0 1 1\nfaces 2\nface 1 0\nface 2 0\narcs 3\narc 1 0 4 10 10 0 10 0 0 10 0\narc 2 0 4 10 0 20 0 20 10 10 10\narc 1 2 2 10 0 10 10\nend\n"
+two_squares_listing : listing_text two_squares ≡ codes "tgap 2\ntransform 1 1 0 0\nratio 16\nclasses 1\nclass 0 1 1\nfaces 2\nface 1 0\nface 2 0\narcs 3\narc 1 0 4 10 10 0 10 0 0 10 0\narc 2 0 4 10 0 20 0 20 10 10 10\narc 1 2 2 10 0 10 10\nend\n"
 unfolding digits
 two_squares_listing = refl
 

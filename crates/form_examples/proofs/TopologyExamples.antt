@@ -82,9 +82,14 @@ unfolding topology_base rules_of named_rules topology topology_of geometry_read 
 no_object = refl
 
 -- a coordinate outside the limits
-far : topology_base (codes "{\"type\":\"Topology\",\"transform\":{\"scale\":[0.0001,0.0001],\"translate\":[5.5,52.25]},\"bbox\":[5.5,52.25,5.503,52.253],\"objects\":{\"land\":{\"type\":\"GeometryCollection\",\"geometries\":[{\"type\":\"Polygon\",\"arcs\":[[0,2]],\"properties\":{\"kind\":\"field\"}},{\"type\":\"MultiPolygon\",\"arcs\":[[[1,-3]],[[3]]],\"properties\":{\"kind\":\"wood\"}},{\"type\":null}]}},\"arcs\":[[[268435457,10],[-10,0],[0,-10],[10,0]],[[10,0],[10,0],[0,10],[-10,0]],[[10,0],[0,10]],[[30,30],[0,0]]]}") (codes "land") (codes "{\"property\":\"kind\",\"classes\":[[\"field\",1],[\"wood\",1]],\"default\":0,\"compat\":[[1,1],[1,1]],\"ratio\":16}") ≡ Err (OutOfRange 0 0)
+far : topology_base (codes "{\"type\":\"Topology\",\"transform\":{\"scale\":[0.0001,0.0001],\"translate\":[5.5,52.25]},\"bbox\":[5.5,52.25,5.503,52.253],\"objects\":{\"land\":{\"type\":\"GeometryCollection\",\"geometries\":[{\"type\":\"Polygon\",\"arcs\":[[0,2]],\"properties\":{\"kind\":\"field\"}},{\"type\":\"MultiPolygon\",\"arcs\":[[[1,-3]],[[3]]],\"properties\":{\"kind\":\"wood\"}},{\"type\":null}]}},\"arcs\":[[[2147483649,10],[-10,0],[0,-10],[10,0]],[[10,0],[10,0],[0,10],[-10,0]],[[10,0],[0,10]],[[30,30],[0,0]]]}") (codes "land") (codes "{\"property\":\"kind\",\"classes\":[[\"field\",1],[\"wood\",1]],\"default\":0,\"compat\":[[1,1],[1,1]],\"ratio\":16}") ≡ Err (OutOfRange 0 0)
 unfolding topology_base rules_of named_rules topology topology_of geometry_read polygon_read ring_read index_read arc_read position_read based face_taken ring_taken side_taken tree serde_json_on_literals is_utf8 chars is_transform digits
 far = refl
+
+-- a coordinate that is within the limits, and leaves a ring open
+within_the_limits : topology_base (codes "{\"type\":\"Topology\",\"transform\":{\"scale\":[0.0001,0.0001],\"translate\":[5.5,52.25]},\"bbox\":[5.5,52.25,5.503,52.253],\"objects\":{\"land\":{\"type\":\"GeometryCollection\",\"geometries\":[{\"type\":\"Polygon\",\"arcs\":[[0,2]],\"properties\":{\"kind\":\"field\"}},{\"type\":\"MultiPolygon\",\"arcs\":[[[1,-3]],[[3]]],\"properties\":{\"kind\":\"wood\"}},{\"type\":null}]}},\"arcs\":[[[268435457,10],[-10,0],[0,-10],[10,0]],[[10,0],[10,0],[0,10],[-10,0]],[[10,0],[0,10]],[[30,30],[0,0]]]}") (codes "land") (codes "{\"property\":\"kind\",\"classes\":[[\"field\",1],[\"wood\",1]],\"default\":0,\"compat\":[[1,1],[1,1]],\"ratio\":16}") ≡ Err (RingOpen 0 0)
+unfolding topology_base rules_of named_rules topology topology_of geometry_read polygon_read ring_read index_read arc_read position_read based face_taken ring_taken side_taken tree serde_json_on_literals is_utf8 chars is_transform digits
+within_the_limits = refl
 
 -- compatibilities of one class only
 few_compatibilities : topology_base (codes "{\"type\":\"Topology\",\"transform\":{\"scale\":[0.0001,0.0001],\"translate\":[5.5,52.25]},\"bbox\":[5.5,52.25,5.503,52.253],\"objects\":{\"land\":{\"type\":\"GeometryCollection\",\"geometries\":[{\"type\":\"Polygon\",\"arcs\":[[0,2]],\"properties\":{\"kind\":\"field\"}},{\"type\":\"MultiPolygon\",\"arcs\":[[[1,-3]],[[3]]],\"properties\":{\"kind\":\"wood\"}},{\"type\":null}]}},\"arcs\":[[[10,10],[-10,0],[0,-10],[10,0]],[[10,0],[10,0],[0,10],[-10,0]],[[10,0],[0,10]],[[30,30],[0,0]]]}") (codes "land") (codes "{\"property\":\"kind\",\"classes\":[[\"field\",1],[\"wood\",1]],\"default\":0,\"compat\":[[1,1]],\"ratio\":16}") ≡ Err (BadRules 5)

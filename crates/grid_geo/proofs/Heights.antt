@@ -39,16 +39,6 @@ way_is t r line y w near short et er ew =
     let second : word r ≡ y = omega (arith, ints, short, er) in
     ew ∙ ap₂ (λ (u v : ℤ). u *ℤ v) first second
 
--- the size of a shoelace term
-pub shoelace_size : (a b : Point) → IsNear a → IsNear b → unsigned_abs (shoelace_term a b) ≤ max_shoelace
-shoelace_size a b near far =
-    let left = unsigned_abs-mul_le a.x b.y max_coordinate max_coordinate near.x far.y in
-    let right = unsigned_abs-mul_le b.x a.y max_coordinate max_coordinate far.x near.y in
-    less (a.x *ℤ b.y) (b.x *ℤ a.y) left right
-  where
-    less : (u v : ℤ) → unsigned_abs u ≤ max_product → unsigned_abs v ≤ max_product → unsigned_abs (u -ℤ v) ≤ max_shoelace
-    less u v h k = omega (arith, ints, h, k)
-
 -- ---- lines and heights
 
 -- what it is for a line to pass between two abscissas

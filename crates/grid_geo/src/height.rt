@@ -10,7 +10,7 @@ ghost use Rattle.grid_geo.specs.Heights.{order_on_line};
 use crate::arithmetic::{difference, product};
 use crate::determinant::Step;
 use std::cmp::Ordering;
-use tgap_model::{Point, Seg};
+use tgap_model::{Point, Seg, shoelace_term};
 
 /// Twice the abscissa of the line one half beyond `line`.
 fn twice_abscissa(line: i64) -> i128
@@ -19,18 +19,6 @@ fn twice_abscissa(line: i64) -> i128
     ensures size { unsigned_abs result ≤ max_difference + 1 }
 {
     i128::from(line) * 2 + 1
-}
-
-/// The shoelace term of the segment from `a` to `b`.
-fn shoelace_term(a: Point, b: Point) -> i128
-    requires a { IsNear a }
-    requires b { IsNear b }
-    ensures value { result ≡ shoelace_term a b }
-    ensures size { unsigned_abs result ≤ max_shoelace }
-{
-    let left = product(i128::from(a.x), b.y);
-    let right = product(i128::from(b.x), a.y);
-    difference(left, right)
 }
 
 /// The segment from left to right.

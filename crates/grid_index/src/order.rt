@@ -13,18 +13,18 @@ struct CurvePlace {
     place: usize,
 }
 
-/// The coordinate, or the end of the range of 31 bits beyond which it lies. The coordinates of a map are within that range,
-/// and of others only time depends on it.
+/// The coordinate, or the end of the range of 32 bits beyond which it lies. Of the coordinates of a map the greatest alone
+/// is beyond it, by one unit; only time depends on it.
 fn bounded(coordinate: i64) -> i64
-    ensures low { negsuc 1073741823 ≤ℤ result }
-    ensures high { result ≤ℤ pos 1073741823 }
+    ensures low { negsuc 2147483647 ≤ℤ result }
+    ensures high { result ≤ℤ pos 2147483647 }
 {
-    coordinate.clamp(-0x4000_0000, 0x3FFF_FFFF)
+    coordinate.clamp(-0x8000_0000, 0x7FFF_FFFF)
 }
 
-/// The middle of two coordinates, in halves of a unit, counted from the least coordinate on.
+/// The middle of two coordinates, in units, counted from the least coordinate on: 32 bits.
 fn middle(low: i64, high: i64) -> u64 {
-    (bounded(low) + bounded(high) + 0x8000_0000) as u64
+    (bounded(low) + bounded(high) + 0x1_0000_0000) as u64 >> 1
 }
 
 /// The lower 32 bits, each with a 0 in front.

@@ -71,8 +71,8 @@ get_paths = (refl, refl, refl, refl, refl, refl, refl, refl, refl)
 
 windows :
     (route_of (codes "GET") (codes "/window/0/12/-2/30/4") ≡ route.Window 0 (record { x0 = pos 12; y0 = negsuc 1; x1 = pos 30; y1 = pos 4 }))
-    × (route_of (codes "GET") (codes "/window/0/-268435456/0/268435456/0") ≡ route.Window 0 (record { x0 = negsuc 268435455; y0 = pos 0; x1 = pos 268435456; y1 = pos 0 }))
-    × (route_of (codes "GET") (codes "/window/0/0/0/268435457/0") ≡ route.BadNumber)
+    × (route_of (codes "GET") (codes "/window/0/-2147483648/0/2147483648/0") ≡ route.Window 0 (record { x0 = negsuc 2147483647; y0 = pos 0; x1 = pos 2147483648; y1 = pos 0 }))
+    × (route_of (codes "GET") (codes "/window/0/0/0/2147483649/0") ≡ route.BadNumber)
     × (route_of (codes "GET") (codes "/window/0/1/0/0/0") ≡ route.BadNumber)
     × (route_of (codes "GET") (codes "/window/0/0/1/0/0") ≡ route.BadNumber)
     × (route_of (codes "GET") (codes "/window/0/1/0/0") ≡ route.NoRoute)

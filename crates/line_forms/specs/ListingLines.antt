@@ -52,17 +52,21 @@ read_face c f row = do
   class ← natural_at 0 (c - 1) named
   ended class.0 class.1
 
+-- a coordinate from -most to most
+abbrev pub coordinate_to : ℤ → Row → Option (ℤ × Row)
+coordinate_to most row = number_at (neg_ℤ most) most row
+
 -- a coordinate within the limits
 abbrev pub coordinate_at : Row → Option (ℤ × Row)
-coordinate_at row = number_at (neg_ℤ MAX_COORDINATE) MAX_COORDINATE row
+coordinate_at row = coordinate_to MAX_COORDINATE row
 
--- n points, and what stands after them
-unfoldable pub points_at : ℕ → Row → Option (List Point × Row)
-points_at zero row = Some ([], row)
-points_at (suc n) row = do
-  x ← coordinate_at row
-  y ← coordinate_at x.1
-  points ← points_at n y.1
+-- n points of coordinates from -most to most, and what stands after them
+unfoldable pub points_at : ℤ → ℕ → Row → Option (List Point × Row)
+points_at most zero row = Some ([], row)
+points_at most (suc n) row = do
+  x ← coordinate_to most row
+  y ← coordinate_to most x.1
+  points ← points_at most n y.1
   Some (record { x = x.0; y = y.0 } ∷ points.0, points.1)
 
 -- The faces at the left and right of an arc, which differ, of a map with n faces, and how many points it has, at least 2;
@@ -75,8 +79,8 @@ head_at n row = do
   count ← natural_at 2 (2 ^ 32 - 1) right.1
   if left.0 == right.0 then None else Some ((left.0, right.0, count.0), count.1)
 
--- n points to the end of the line, no two in a row equal
-unfoldable pub read_points : ℕ → Row → Option (List Point)
-read_points n row = do
-  points ← points_at n row
+-- n points of coordinates from -most to most, to the end of the line, no two in a row equal
+unfoldable pub read_points : ℤ → ℕ → Row → Option (List Point)
+read_points most n row = do
+  points ← points_at most n row
   if no_repeat points.0 then ended points.0 points.1 else None

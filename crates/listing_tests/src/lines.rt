@@ -8,10 +8,10 @@ use std::alloc::Global;
 use std::test::Fail;
 use tgap_model::Memory;
 
-/// The listing of the two squares, with one line in place of another.
-fn with_line(alloc: Global, number: usize, line: &[u8]) -> Result<Vec<u8>, Memory> {
+/// A text with one line in place of another.
+fn with_line(alloc: Global, text: &str, number: usize, line: &[u8]) -> Result<Vec<u8>, Memory> {
     let mut bytes = Vec::new(alloc);
-    for (i, old) in TWO_SQUARES.as_bytes().split(|b| *b == b'\n').enumerate() {
+    for (i, old) in text.as_bytes().split(|b| *b == b'\n').enumerate() {
         if i > 0 {
             bytes.push(b'\n')?;
         }
@@ -23,8 +23,11 @@ fn with_line(alloc: Global, number: usize, line: &[u8]) -> Result<Vec<u8>, Memor
 #[test]
 fn bad_listings(rt: HostRuntime) -> Result<(), Fail> {
     let alloc = rt.alloc();
-    let cases: [(usize, &[u8], &str); 30] = [
-        (1, b"tgap 2", "18 bad-line 1"),
+    let cases: [(usize, &[u8], &str); 33] = [
+        (1, b"tgap 3", "18 bad-line 1"),
+        (1, b"tgap 02", "18 bad-line 1"),
+        (1, b"tgap", "18 bad-line 1"),
+        (1, b"tgap 2 2", "18 bad-line 1"),
         (1, b"tgap 1\r", "18 bad-line 1"),
         (1, b"\xff\xfe", "18 bad-line 1"),
         (2, b"transform 1 1 0", "18 bad-line 2"),
@@ -60,7 +63,7 @@ fn bad_listings(rt: HostRuntime) -> Result<(), Fail> {
         (13, b"", "18 bad-line 13"),
     ];
     for (number, line, fault) in cases {
-        let bytes = with_line(alloc, number, line)?;
+        let bytes = with_line(alloc, TWO_SQUARES, number, line)?;
         let (status, put) = answered_of_map(&rt, alloc, "borders map 0", bytes.as_slice())?;
         let text = format!(in alloc; "refused {fault}\n")?;
         assert_eq!(rt; status, 4, "{fault}");
@@ -118,7 +121,16 @@ fn listings_are_written_again(rt: HostRuntime) -> Result<(), Fail> {
         let Ok(base) = read_listing(alloc, map.as_bytes()) else {
             return Err("the listing was not read".into());
         };
-        assert_eq!(rt; write_listing(alloc, &base)?.as_slice(), map.as_bytes());
+        let written = write_listing(alloc, &base)?;
+        let expected = with_line(alloc, map, 1, b"tgap 2")?;
+        assert_eq!(rt; written.as_slice(), expected.as_slice());
+        let Ok(again) = read_listing(alloc, written.as_slice()) else {
+            return Err("what was written was not read".into());
+        };
+        assert_eq!(rt;
+            write_listing(alloc, &again)?.as_slice(),
+            expected.as_slice()
+        );
     }
     Ok(())
 }

@@ -1,2 +1,3 @@
+pub mod Version
 pub mod Listing
 pub mod RulesFile

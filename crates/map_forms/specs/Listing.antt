@@ -1,5 +1,6 @@
 -- The plain listing of a base map: how it is spelled, and how it is read.
-use Rattle.std.specs.Prelude.{◌≡◌, ℕ, zero, suc, ◌+◌, ◌-◌, ◌^◌, nat_le, List, [], ◌∷◌, ◌++◌, map, flat_map, take, drop, length, decimal, codes, IsTrue, Result, Ok, Err, if◌then◌else◌}
+use Rattle.std.specs.Prelude.{◌≡◌, ℕ, zero, suc, ◌+◌, ◌-◌, ◌^◌, Bool, ◌&&◌, nat_le, List, [], ◌∷◌, ◌++◌, map, flat_map, take, drop, length, decimal, codes, IsTrue, Result, Ok, Err, if◌then◌else◌}
+use Rattle.std.specs.List.{list_all}
 use Rattle.std.specs.Option.{ok_or}
 use Rattle.std.specs.Fmt.{signed_decimal}
 use Rattle.tgap_model.specs.declared.geometry.Point.{Point}
@@ -11,12 +12,15 @@ use Rattle.tgap_model.specs.declared.fault.LimitKind.TheVariants.{Classes, Faces
 use Rattle.tgap_model.specs.declared.fault.MapFault.{MapFault}
 use Rattle.tgap_model.specs.declared.fault.MapFault.TheVariants.{BadLine, Limit}
 use Rattle.tgap_model.specs.declared.limits.TheConstants.{MAX_RATIO}
-use Rattle.tgap_model.specs.Base.{BaseMap, is_base, all_faces_bordered}
+use Rattle.tgap_model.specs.Base.{BaseMap, is_base, count_points, all_faces_bordered}
 use Rattle.tgap_model.specs.Limits.{limit_of, limit_word}
 use Rattle.line_forms.specs.Texts.{lines}
 use Rattle.line_forms.specs.Words.{Row, read_words}
 use Rattle.line_forms.specs.Lines.{Lines, ◌>>=◌, all_lines, line_at, read_line, is_over}
 use Rattle.line_forms.specs.ListingLines.{read_transform, read_count, read_class, read_face, head_at, read_points}
+use Rattle.map_forms.specs.declared.version.Version.{Version}
+use Rattle.map_forms.specs.declared.version.Version.TheVariants.{Two}
+use Rattle.map_forms.specs.Version.{coordinate_of, points_of, in_square, heading_words, read_heading}
 
 -- ---- how a base map is spelled
 
@@ -44,29 +48,48 @@ point_words p = signed_decimal p.x ∷ signed_decimal p.y ∷ []
 abbrev pub arc_words : BaseArc → Row
 arc_words a = codes "arc" ∷ decimal a.left ∷ decimal a.right ∷ decimal (length a.points) ∷ flat_map point_words a.points
 
-abbrev pub listing_rows : BaseMap → List Row
-listing_rows m =
-    (codes "tgap" ∷ codes "1" ∷ []) ∷ transform_words m.transform ∷ count_words (codes "ratio") m.rules.ratio
+-- the rows of a base map in a version
+abbrev pub rows_in : Version → BaseMap → List Row
+rows_in v m =
+    heading_words v ∷ transform_words m.transform ∷ count_words (codes "ratio") m.rules.ratio
     ∷ count_words (codes "classes") (length m.rules.weights) ∷ class_rows (length m.rules.weights) 0 m.rules.weights m.rules.compat
     ++ (count_words (codes "faces") (length m.classes) ∷ face_rows 1 m.classes)
     ++ (count_words (codes "arcs") (length m.arcs) ∷ map arc_words m.arcs)
     ++ (codes "end" ∷ []) ∷ []
 
--- the listing of a base map
-abbrev pub listing_text : BaseMap → List ℕ
-listing_text m = lines (listing_rows m)
+-- the listing of a base map in a version
+abbrev pub text_in : Version → BaseMap → List ℕ
+text_in v m = lines (rows_in v m)
 
--- the bytes are the listing of this base map
+-- the listing of a base map that is written: that of version 2
+abbrev pub listing_text : BaseMap → List ℕ
+listing_text m = text_in Two m
+
+-- all points of the arc are within the coordinates of the version
+abbrev pub all_inside : Version → BaseArc → Bool
+all_inside v a = list_all (in_square (coordinate_of v)) a.points
+
+-- the points of the map are within the coordinates of the version, and their number within its limit
+abbrev pub keeps_to : Version → BaseMap → Bool
+keeps_to v m = list_all (all_inside v) m.arcs && nat_le (count_points m.arcs) (points_of v)
+
+-- The bytes are the listing of this base map in some version, within the limits of that version.
 pub record IsListing (bytes : List ℕ) (m : BaseMap) : Type 0 where
+  pub version : Version
   pub base : IsTrue (is_base m)
-  pub spelled : bytes ≡ listing_text m
+  pub limits : IsTrue (keeps_to version m)
+  pub spelled : bytes ≡ text_in version m
 
 -- ---- how a base map is read: line after line, up to the first that is not of its form
 -- The limits of what is counted keep the number of each line that is asked for far below 2^32.
 
+-- the fault of more than most of what is counted
+abbrev pub at_most : LimitKind → ℕ → ℕ → Result (Unit {0}) MapFault
+at_most which most n = if nat_le n most then Ok tt else Err (Limit which n)
+
 -- the fault of a limit, where there are more than it allows
 abbrev pub within_limit : LimitKind → ℕ → Result (Unit {0}) MapFault
-within_limit which n = if nat_le n (limit_of which) then Ok tt else Err (Limit which n)
+within_limit which n = at_most which (limit_of which) n
 
 -- a line that begins with the name of what is counted, and has the count, from least on; and then its limit
 unfoldable pub count_line : LimitKind → ℕ → Lines → Result (ℕ × Lines) MapFault
@@ -106,36 +129,36 @@ all_faces_at c lines = do
   faces_at c 1 n.0 n.1
 
 -- An arc of a map with n faces, after arcs with so many points. The limit of points comes before the points themselves.
-unfoldable pub arc_at : ℕ → ℕ → Lines → Result (BaseArc × Lines) MapFault
-arc_at n before lines = do
+unfoldable pub arc_at : Version → ℕ → ℕ → Lines → Result (BaseArc × Lines) MapFault
+arc_at v n before lines = do
   line ← ok_or (line_at lines) (BadLine lines.number)
   head ← ok_or (head_at n line.0) (BadLine lines.number)
-  limited ← within_limit Points (before + head.0.2)
-  points ← ok_or (read_points head.0.2 head.1) (BadLine lines.number)
+  limited ← at_most Points (points_of v) (before + head.0.2)
+  points ← ok_or (read_points (coordinate_of v) head.0.2 head.1) (BadLine lines.number)
   Ok (record { left = head.0.0; right = head.0.1; points = points }, line.1)
 
 -- m arcs of a map with n faces, after arcs with so many points
-unfoldable pub arcs_at : ℕ → ℕ → ℕ → Lines → Result (List BaseArc × Lines) MapFault
-arcs_at n before zero lines = Ok ([], lines)
-arcs_at n before (suc m) lines = do
-  first ← arc_at n before lines
-  more ← arcs_at n (before + length first.0.points) m first.1
+unfoldable pub arcs_at : Version → ℕ → ℕ → ℕ → Lines → Result (List BaseArc × Lines) MapFault
+arcs_at v n before zero lines = Ok ([], lines)
+arcs_at v n before (suc m) lines = do
+  first ← arc_at v n before lines
+  more ← arcs_at v n (before + length first.0.points) m first.1
   Ok (first.0 ∷ more.0, more.1)
 
 -- the number of the arcs, and each arc
-unfoldable pub all_arcs_at : ℕ → Lines → Result (List BaseArc × Lines) MapFault
-all_arcs_at n lines = do
+unfoldable pub all_arcs_at : Version → ℕ → Lines → Result (List BaseArc × Lines) MapFault
+all_arcs_at v n lines = do
   m ← count_line Arcs 0 lines
-  arcs_at n 0 m.0 m.1
+  arcs_at v n 0 m.0 m.1
 
--- the map that is listed, up to its last line
+-- the map that is listed, up to its last line; the limits of its points are those of the version
 unfoldable pub map_at : Lines → Result (BaseMap × Lines) MapFault
 map_at lines = do
-  head ← read_line BadLine (read_words (codes "tgap" ∷ codes "1" ∷ [])) lines
-  transform ← read_line BadLine read_transform head.1
+  version ← read_line BadLine read_heading lines
+  transform ← read_line BadLine read_transform version.1
   rules ← rules_at transform.1
   classes ← all_faces_at (length rules.0.weights) rules.1
-  arcs ← all_arcs_at (length classes.0) classes.1
+  arcs ← all_arcs_at version.0 (length classes.0) classes.1
   Ok (record { transform = transform.0; rules = rules.0; classes = classes.0; arcs = arcs.0 }, arcs.1)
 
 -- the map, where each face has a border; where one has none, no line is of the form of the last one

@@ -1,6 +1,6 @@
 //! Batches of edits, and the first fault of each.
 
-use crate::squares::{points_of, squares};
+use crate::squares::{column, points_of, squares};
 use map_version::{EditFault, edited};
 use std::alloc::Global;
 use std::test::Fail;
@@ -57,7 +57,7 @@ fn each_line_sees_the_lines_before_it(rt: HostRuntime) -> Result<(), Fail> {
 fn the_first_fault_is_told(rt: HostRuntime) -> Result<(), Fail> {
     let alloc = rt.alloc();
     let base = squares(alloc, &[(10, 0), (10, 10)])?.ok_or("no base map")?;
-    let cases: [(&[u8], (u32, u8)); 9] = [
+    let cases: [(&[u8], (u32, u8)); 10] = [
         (b"", (0, 0)),
         (b"move 5 5 6 6\n", (1, 3)),
         (b"move 20 10 24 10", (1, 1)),
@@ -66,10 +66,24 @@ fn the_first_fault_is_told(rt: HostRuntime) -> Result<(), Fail> {
         (b"add 0 0 20 0 5 5\n", (1, 5)),
         (b"drop 10 0\n", (1, 6)),
         (b"class 1 -0\n", (1, 1)),
+        (b"move 20 10 2147483649 10\n", (1, 1)),
         (b"drop 0 0\ndrop 0 0\n", (2, 3)),
     ];
     for (batch, fault) in cases {
         assert_eq!(rt; fault_of(alloc, &base, batch)?, fault);
+    }
+    Ok(())
+}
+
+#[test]
+fn a_map_of_the_greatest_number_of_points_takes_no_more(rt: HostRuntime) -> Result<(), Fail> {
+    let alloc = rt.alloc();
+    // The two squares have eight points beside those between them.
+    let cases: [(u32, (u32, u8)); 2] = [(524_279, (0, 0)), (524_280, (1, 8))];
+    for (between, fault) in cases {
+        let points = column(alloc, between)?;
+        let base = squares(alloc, points.as_slice())?.ok_or("no base map")?;
+        assert_eq!(rt; fault_of(alloc, &base, b"add 10 0 10 1 11 0\n")?, fault);
     }
     Ok(())
 }

@@ -16,6 +16,15 @@ fn arc(alloc: Global, left: u32, right: u32, points: &[(i64, i64)]) -> Result<Ba
     })
 }
 
+/// The points (10,0), (10,1) and so on, so many of them.
+pub fn column(alloc: Global, n: u32) -> Result<Vec<(i64, i64)>, Memory> {
+    let mut points = Vec::new(alloc);
+    for y in 0..n {
+        points.push((10, i64::from(y)))?;
+    }
+    Ok(points)
+}
+
 /// Two squares side by side, with the arc between them through these points.
 pub fn squares(alloc: Global, between: &[(i64, i64)]) -> Result<Option<Base>, Memory> {
     let mut arcs = List::new(alloc);

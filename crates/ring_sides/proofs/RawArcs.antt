@@ -17,7 +17,7 @@ use Rattle.topology_forms.specs.Topology.{names_arc}
 use Rattle.topology_forms.specs.Rings.{arc_named, is_reversed, points_named, start_named, end_named, shoelace_named, is_raw_arc, is_raw_ring}
 use Rattle.tgap_model.proofs.Points.{near_point, same_point-true, same_point-from}
 use Rattle.ring_sides.specs.Arcs.{AreRawArcs, AreMeasured}
-use Rattle.ring_sides.proofs.Measures.{shoelace_size}
+use Rattle.tgap_model.proofs.ShoelaceSums.{shoelace_size}
 
 -- ---- one arc
 

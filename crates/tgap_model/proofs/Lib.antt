@@ -5,3 +5,4 @@ pub mod Segments
 pub mod Points
 pub mod Proper
 pub mod FirstFault
+pub mod ShoelaceSums

@@ -3,6 +3,7 @@
 //! words of this one; what few crates need is defined in the lowest of them.
 #![tactic(auto)]
 
+mod area;
 mod base;
 mod border;
 mod bordered;
@@ -16,6 +17,7 @@ mod keep;
 mod limits;
 mod list;
 mod merge;
+mod numbers;
 mod record;
 mod segment;
 mod slice;
@@ -25,6 +27,7 @@ mod topology;
 mod validity;
 mod window_record;
 
+pub use area::{shoelace, shoelace_term};
 pub use base::{Base, BaseArc, Rules, Transform};
 pub use border::BorderRow;
 pub use checked::Checked;
@@ -37,11 +40,13 @@ pub use geometry::{Fraction, Point, Seg, Shared, Window};
 pub use holds::Holds;
 pub use keep::{Keep, KeepFail, NoKeeper};
 pub use limits::{
-    MAX_ARCS, MAX_CLASSES, MAX_COMPATIBILITY, MAX_COORDINATE, MAX_FACES, MAX_MAP_BYTES, MAX_POINTS,
-    MAX_RATIO, MAX_TEXT_BYTES, MAX_WEIGHT, limits_as_numbers,
+    MAX_ARCS, MAX_CLASSES, MAX_COMPATIBILITY, MAX_COORDINATE, MAX_COORDINATE_1, MAX_FACES,
+    MAX_MAP_BYTES, MAX_POINTS, MAX_POINTS_1, MAX_RATIO, MAX_TEXT_BYTES, MAX_WEIGHT,
+    limits_as_numbers,
 };
 pub use list::List;
 pub use merge::{LabelledArc, MergeStep};
+pub use numbers::numbers_below;
 pub use record::{Mend, Packet, Piece, Put, StepRecord};
 pub use segment::{LabelledSegment, base_segments};
 pub use slice::{Edge, FaceRow, Removal, Slice};

@@ -11,6 +11,7 @@ use Rattle.tgap_model.specs.declared.slice.Edge.{Edge}
 use Rattle.tgap_model.specs.declared.slice.FaceRow.{FaceRow}
 use Rattle.tgap_model.specs.declared.record.Put.{Put}
 use Rattle.tgap_model.specs.declared.record.Piece.{Piece}
+use Rattle.tgap_model.specs.declared.limits.TheConstants.{MAX_COORDINATE}
 use Rattle.tgap_model.specs.Base.{in_limits, no_repeat}
 use Rattle.line_forms.specs.Words.{Row, after_word, natural_at, count_at}
 use Rattle.line_forms.specs.Lines.{Lines, next_number, line_at, read_line}
@@ -153,10 +154,10 @@ unfolding edge_at
 edge_is bad k lines x e =
     bound _ (ok_or (line_at lines) (bad lines.number)) x e (λ line e0 r0.
     bound _ (ok_or (edge_head_at k line.0) (bad lines.number)) x r0 (λ head e1 r1.
-    bound _ (ok_or (read_points head.0.3 head.1) (bad lines.number)) x r1 (λ points e2 r2.
+    bound _ (ok_or (read_points MAX_COORDINATE head.0.3 head.1) (bad lines.number)) x r1 (λ points e2 r2.
     let f0 = line_at_is lines line (ok_or_is (line_at lines) (bad lines.number) line e0) in
     let one = edge_head_is k line.0 head (ok_or_is (edge_head_at k line.0) (bad lines.number) head e1) in
-    let all = read_points_is head.0.3 head.1 points (ok_or_is (read_points head.0.3 head.1) (bad lines.number) points e2) in
+    let all = read_points_is head.0.3 head.1 points (ok_or_is (read_points MAX_COORDINATE head.0.3 head.1) (bad lines.number) points e2) in
     let f1 = one.spelled in
     let f2 = all.spelled in
     let f3 = all.count in

@@ -41,30 +41,30 @@ first_x (Some x) next more = first_y x.0 (next x.1) more
 first_x None next more = refl
 
 -- one point more is a point, and those after it
-one_point_more : (n : ℕ) (words : Row) → points_at (suc n) words ≡ (point_at words >>= then_points (points_at n))
+one_point_more : (n : ℕ) (words : Row) → points_at MAX_COORDINATE (suc n) words ≡ (point_at words >>= then_points (points_at MAX_COORDINATE n))
 unfolding points_at
-one_point_more n words = first_x (coordinate_at words) coordinate_at (points_at n)
+one_point_more n words = first_x (coordinate_at words) coordinate_at (points_at MAX_COORDINATE n)
 
 -- a point more
 pub points_go_on : (front : List Point) (n i : ℕ) (words : Row) (p : Point) (rest : Row) → i < n → point_at words ≡ Some (p, rest)
-    → with_front (front ++ p ∷ []) (points_at (n - (i + 1)) rest) ≡ with_front front (points_at (n - i) words)
+    → with_front (front ++ p ∷ []) (points_at MAX_COORDINATE (n - (i + 1)) rest) ≡ with_front front (points_at MAX_COORDINATE (n - i) words)
 points_go_on front n i words p rest lt e =
-    with_front_more front p (points_at (n - (i + 1)) rest) (points_at (n - i) words) (rw (one_left n i lt, one_point_more (n - (i + 1)) words, e) refl)
+    with_front_more front p (points_at MAX_COORDINATE (n - (i + 1)) rest) (points_at MAX_COORDINATE (n - i) words) (rw (one_left n i lt, one_point_more (n - (i + 1)) words, e) refl)
 
 -- no point where there was to be one
-pub points_stop : (front : List Point) (n i : ℕ) (words : Row) → i < n → point_at words ≡ None → with_front front (points_at (n - i) words) ≡ None
+pub points_stop : (front : List Point) (n i : ℕ) (words : Row) → i < n → point_at words ≡ None → with_front front (points_at MAX_COORDINATE (n - i) words) ≡ None
 points_stop front n i words lt e =
-    with_front_stop front (points_at (n - i) words) (rw (one_left n i lt, one_point_more (n - (i + 1)) words, e) refl)
+    with_front_stop front (points_at MAX_COORDINATE (n - i) words) (rw (one_left n i lt, one_point_more (n - (i + 1)) words, e) refl)
 
 -- all points
-pub points_done : (front : List Point) (n i : ℕ) (words : Row) → n ≤ i → with_front front (points_at (n - i) words) ≡ Some (front, words)
+pub points_done : (front : List Point) (n i : ℕ) (words : Row) → n ≤ i → with_front front (points_at MAX_COORDINATE (n - i) words) ≡ Some (front, words)
 unfolding points_at
-points_done front n i words le = with_front_done front words (points_at (n - i) words) (rw (none_left n i le) refl)
+points_done front n i words le = with_front_done front words (points_at MAX_COORDINATE (n - i) words) (rw (none_left n i le) refl)
 
 -- ---- as they are spelled
 
 -- what is read as n points is spelled so
-points_at_is : (n : ℕ) (row : Row) (x : List Point × Row) → points_at n row ≡ Some x → (row ≡ flat_map point_words x.0 ++ x.1) × (length x.0 ≡ n) × (list_all in_limits x.0 ≡ true)
+points_at_is : (n : ℕ) (row : Row) (x : List Point × Row) → points_at MAX_COORDINATE n row ≡ Some x → (row ≡ flat_map point_words x.0 ++ x.1) × (length x.0 ≡ n) × (list_all in_limits x.0 ≡ true)
 unfolding points_at
 points_at_is zero row x e =
     let made : ([], row) ≡ x = cc in
@@ -72,7 +72,7 @@ points_at_is zero row x e =
 points_at_is (suc n) row x e =
     option_and_then_some _ (coordinate_at row) x e (λ a e0 r0.
     option_and_then_some _ (coordinate_at a.1) x r0 (λ b e1 r1.
-    option_and_then_some _ (points_at n b.1) x r1 (λ points e2 r2.
+    option_and_then_some _ (points_at MAX_COORDINATE n b.1) x r1 (λ points e2 r2.
     let g0 = number_at_is _ _ row a e0 in
     let g1 = number_at_is _ _ a.1 b e1 in
     let f0 = g0.0 in
@@ -97,10 +97,10 @@ pub record ArePoints (n : ℕ) (row : Row) (points : List Point) : Type 0 where
   pub inside : list_all in_limits points ≡ true
   pub apart : no_repeat points ≡ true
 
-pub read_points_is : (n : ℕ) (row : Row) (points : List Point) → read_points n row ≡ Some points → ArePoints n row points
+pub read_points_is : (n : ℕ) (row : Row) (points : List Point) → read_points MAX_COORDINATE n row ≡ Some points → ArePoints n row points
 unfolding read_points
 read_points_is n row points e =
-    option_and_then_some _ (points_at n row) points e (λ x e0 r0.
+    option_and_then_some _ (points_at MAX_COORDINATE n row) points e (λ x e0 r0.
     let read = points_at_is n row x e0 in
     let apart = test_then (no_repeat x.0) (ended x.0 x.1) points r0 in
     let done = ended_is x.0 points x.1 apart.1 in
@@ -125,7 +125,7 @@ pub coordinates : (p : Point) → in_limits p ≡ true → (within (neg_ℤ MAX_
 coordinates p h = and_parts (within (neg_ℤ MAX_COORDINATE) MAX_COORDINATE p.x) (within (neg_ℤ MAX_COORDINATE) MAX_COORDINATE p.y) h
 
 -- the spelling of points is read as these points
-points_at_again : (points : List Point) (rest : Row) → list_all in_limits points ≡ true → points_at (length points) (flat_map point_words points ++ rest) ≡ Some (points, rest)
+points_at_again : (points : List Point) (rest : Row) → list_all in_limits points ≡ true → points_at MAX_COORDINATE (length points) (flat_map point_words points ++ rest) ≡ Some (points, rest)
 unfolding points_at
 points_at_again [] rest fits = refl
 points_at_again (p ∷ points) rest fits =
@@ -134,10 +134,10 @@ points_at_again (p ∷ points) rest fits =
     rw (coordinate_at_again p.x (signed_decimal p.y ∷ (flat_map point_words points ++ rest)) inside.0, coordinate_at_again p.y (flat_map point_words points ++ rest) inside.1, points_at_again points rest both.1) refl
 
 -- points that are the rest of the row, no two in a row equal, are read so
-pub read_points_again : (points : List Point) → list_all in_limits points ≡ true → no_repeat points ≡ true → read_points (length points) (flat_map point_words points) ≡ Some points
+pub read_points_again : (points : List Point) → list_all in_limits points ≡ true → no_repeat points ≡ true → read_points MAX_COORDINATE (length points) (flat_map point_words points) ≡ Some points
 unfolding read_points
 read_points_again points fits apart =
-    let all : points_at (length points) (flat_map point_words points) ≡ Some (points, []) = ap (points_at (length points)) (sym (append-nil (flat_map point_words points))) ∙ points_at_again points [] fits in
+    let all : points_at MAX_COORDINATE (length points) (flat_map point_words points) ≡ Some (points, []) = ap (points_at MAX_COORDINATE (length points)) (sym (append-nil (flat_map point_words points))) ∙ points_at_again points [] fits in
     rw (all, apart) refl
 
 -- no word of them has a separator

@@ -10,6 +10,7 @@ use Rattle.tgap_model.specs.declared.record.Piece.{Piece}
 use Rattle.tgap_model.specs.declared.record.Mend.{Mend}
 use Rattle.tgap_model.specs.declared.record.StepRecord.{StepRecord}
 use Rattle.tgap_model.specs.declared.record.Packet.{Packet}
+use Rattle.tgap_model.specs.declared.limits.TheConstants.{MAX_COORDINATE}
 use Rattle.line_forms.specs.Words.{Row, ◌>>=◌, after_word, natural_at, count_at, after_count, ended, read_words}
 use Rattle.line_forms.specs.Lines.{Lines, ◌>>=◌ as ◌or>>=◌, all_lines, line_at, read_line, is_over}
 use Rattle.line_forms.specs.ListingLines.{read_count, coordinate_at, read_points}
@@ -119,7 +120,7 @@ unfoldable pub edge_at : {F : Type 0} → (ℕ → F) → ℕ → Lines → Resu
 edge_at bad least lines =
     ok_or (line_at lines) (bad lines.number) or>>= λ line.
     ok_or (edge_head_at least line.0) (bad lines.number) or>>= λ head.
-    ok_or (read_points head.0.3 head.1) (bad lines.number) or>>= λ points.
+    ok_or (read_points MAX_COORDINATE head.0.3 head.1) (bad lines.number) or>>= λ points.
     Ok (record { key = head.0.0; left = head.0.1; right = head.0.2; points = points }, line.1)
 
 -- n edges, whose keys ascend from `least` on

@@ -119,7 +119,7 @@ fn read_points(
     line: u32,
     n: u32,
 ) -> Result<List<Point>, Or<BadText>>
-    ensures { GivesWhole result (ok_or (read_points n words.old) (bad_text line)) }
+    ensures { GivesWhole result (ok_or (read_points MAX_COORDINATE n words.old) (bad_text line)) }
 {
     let points = points_at(alloc, words, line, n)?;
     at_line(line, are_without_repeat(points.as_slice()).then_some(()))?;
@@ -133,7 +133,7 @@ fn points_at(
     line: u32,
     n: u32,
 ) -> Result<List<Point>, Or<BadText>>
-    ensures { Gives result words.new (ok_or (points_at n words.old) (bad_text line)) }
+    ensures { Gives result words.new (ok_or (points_at MAX_COORDINATE n words.old) (bad_text line)) }
 {
     let mut points = List::new(alloc);
     for _ in 0..n {

@@ -65,9 +65,9 @@ fn faults(rt: HostRuntime) -> Result<(), Fail> {
         (
             MapFault::Limit {
                 which: LimitKind::Points,
-                count: 131_073,
+                count: 524_289,
             },
-            "refused 9 limit points 131073\n",
+            "refused 9 limit points 524289\n",
         ),
         (
             MapFault::RingOpen { ring: 2, place: 0 },

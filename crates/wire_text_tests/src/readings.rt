@@ -27,7 +27,7 @@ fn slices_are_read(rt: HostRuntime) -> Result<(), Fail> {
         ),
         ("slice 0\nfaces 0\nedges 1\nedge 0 1 0 2 5 5 5 5\nend\n", 4),
         (
-            "slice 0\nfaces 0\nedges 1\nedge 0 1 0 2 0 0 0 268435457\nend\n",
+            "slice 0\nfaces 0\nedges 1\nedge 0 1 0 2 0 0 0 2147483649\nend\n",
             4,
         ),
         (

@@ -16,7 +16,7 @@ use crate::links::{Link, Links};
 use crate::measures::{Measure, labelled_arcs};
 use crate::queue::Queue;
 use std::alloc::Global;
-use tgap_model::{Base, List, Memory};
+use tgap_model::{Base, List, Memory, numbers_below};
 
 /// The classes of the faces, with room for the face of each step: there are fewer steps than faces.
 fn classes_with_room(alloc: Global, classes: &[u32]) -> Result<Vec<u32>, Memory>
@@ -26,18 +26,6 @@ fn classes_with_room(alloc: Global, classes: &[u32]) -> Result<Vec<u32>, Memory>
     let mut found = Vec::with_capacity(alloc, 2 * classes.len())?;
     found.extend_from_slice(classes)?;
     Ok(found)
-}
-
-/// The numbers from 0 to below this one.
-fn numbers_below(alloc: Global, end: u32) -> Result<Vec<u32>, Memory>
-    ensures count { IfOk result (λ numbers. length numbers.items ≡ end) }
-    ensures numbers { IfOk result (λ numbers. (k : ℕ) → k < end → slice_index numbers.items k ≡ k) }
-{
-    let mut numbers = Vec::with_capacity(alloc, end as usize)?;
-    for n in 0..end {
-        numbers.push(n)?;
-    }
-    Ok(numbers)
 }
 
 /// Whether a face of a base map permits another as its neighbour.

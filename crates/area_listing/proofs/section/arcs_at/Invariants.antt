@@ -6,6 +6,6 @@ use Rattle.area_listing.proofs.section.arcs_at.Given as goal
 
 abbrev pub invariant-loop : goal.invariant-loop
 invariant-loop l = record {
-  read : in_front l.arcs (arcs_at l.faces l.points (l.n - l.counter) l.lines) ≡ arcs_at l.faces 0 l.n l.fn.lines;
+  read : in_front l.arcs (arcs_at l.version l.faces l.points (l.n - l.counter) l.lines) ≡ arcs_at l.version l.faces 0 l.n l.fn.lines;
   few : l.points ≤ MAX_POINTS;
 }

@@ -13,5 +13,5 @@ loop-arc-preserved c =
     let z = c.shoelace.result in
     let same : to_z w128 (of_z w128 z) ≡ z = omega (arith, ints) in
     let more = sums_more c.args.arcs.now c.loop-arc.arc-index c.arc-item.result c.as_slice.result.now c.loop-arc.sums.items z _
-    c.loop-arc-test.true c.arc-item.is c.as_slice.ensures c.loop-arc.invariant c.shoelace.ensures.value same in
+    c.loop-arc-test.true c.arc-item.is c.as_slice.ensures c.loop-arc.invariant c.shoelace.ensures same in
     rw c.in_ok-push.ensures.items more

@@ -1,7 +1,8 @@
 use Rattle.std.proofs.Common.{◌≡◌, ◌-◌}
+use Rattle.tgap_model.specs.declared.limits.TheConstants.{MAX_COORDINATE}
 use Rattle.line_forms.specs.ListingLines.{points_at}
 use Rattle.plain_io.specs.Fronts.{with_front}
 use Rattle.wire_text.proofs.row_reading.points_at.Given as goal
 
 abbrev pub invariant-loop : goal.invariant-loop
-invariant-loop l = with_front l.points (points_at (l.n - l.counter) l.words) ≡ points_at l.n l.fn.words
+invariant-loop l = with_front l.points (points_at MAX_COORDINATE (l.n - l.counter) l.words) ≡ points_at MAX_COORDINATE l.n l.fn.words

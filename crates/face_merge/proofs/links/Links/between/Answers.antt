@@ -1,11 +1,9 @@
 -- One more arc adds to the links of the faces at its sides.
 use Rattle.std.proofs.Common.{◌+◌, ◌^◌, ◌<◌, ◌∙◌, ap, sym, subst, ℕ, Option, take, get_or, unwrap_or, pos, List}
 use Rattle.std.proofs.lemmas.List.{take_all}
-use Rattle.std.proofs.lemmas.List.Elements.{All-get_or}
 use Rattle.tgap_model.specs.declared.merge.LabelledArc.{LabelledArc}
 use Rattle.face_merge.specs.Links.{with_arc}
 use Rattle.face_merge.specs.Linking.{link_of}
-use Rattle.face_merge.specs.Measures.{IsMeasured}
 use Rattle.face_merge.proofs.Linking.{link_turned, link_itself, link_more, room_for_arc, no_links}
 use Rattle.face_merge.proofs.links.Links.between.Goals as goal
 
@@ -24,9 +22,8 @@ add_arc-requires-clause-room c =
     let arcs = c.args.arcs.now in
     let i = c.loop-arc.arc-index in
     let a = get_or arcs i no_arc in
-    let size = All-get_or IsMeasured arcs i no_arc c.loop-arc-test.true c.requires.measured in
     subst (λ (o : Option ℕ). unwrap_or o 0 + a.extent < 2 ^ 64) (sym (c.loop-arc.invariant a.left a.right))
-    (room_for_arc arcs i a.left a.right a.extent c.requires.measured c.requires.few c.loop-arc-test.true size.extent)
+    (room_for_arc arcs i no_arc a.left a.right c.requires c.loop-arc-test.true)
 
 pub loop-arc-init : goal.loop-arc-init
 loop-arc-init c = λ f g. c.new-links.ensures f g ∙ sym (no_links f g)

@@ -1,11 +1,16 @@
 -- The class and the area of the face, and its importance, which fits.
-use Rattle.std.proofs.Common.{◌≤◌, ◌∙◌, ap, sym, subst, arith, ℤ, unsigned_abs, length}
+use Rattle.std.proofs.Common.{◌≡◌, ◌≤◌, ◌∙◌, true, ap, sym, subst, arith, ℤ, unsigned_abs, length}
 use Rattle.std.specs.Int.{w128}
 use Rattle.std.proofs.lemmas.Int.{ints, to_z-of_z}
 use Rattle.tgap_model.specs.declared.base.Rules.{Rules}
+use Rattle.tgap_model.specs.Base.{is_rules}
 use Rattle.tgap_model.specs.Bounds.{max_area}
+use Rattle.tgap_model.proofs.BaseFacts.{base_facts}
 use Rattle.face_merge.proofs.Held.{held, class_read, area_read, importance_read}
 use Rattle.face_merge.proofs.merging.Merging.face.Goals as goal
+
+pub importance-importance-requires-clause-rules : goal.importance-importance-requires-clause-rules
+importance-importance-requires-clause-rules c = subst (λ (x : Rules). is_rules x ≡ true) (sym c.rules.ensures.value) (base_facts c.args.self.now.base.now c.rules.ensures.base).rules
 
 pub importance-importance-requires-clause-class : goal.importance-importance-requires-clause-class
 importance-importance-requires-clause-class c =

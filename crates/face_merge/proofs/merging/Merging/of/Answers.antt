@@ -7,7 +7,7 @@ use Rattle.tgap_model.specs.History.{labelled}
 use Rattle.tgap_model.proofs.BaseFacts.{base_facts}
 use Rattle.face_merge.specs.Linking.{link_of}
 use Rattle.face_merge.specs.Links.{length_at}
-use Rattle.face_merge.specs.Measures.{IsMeasured, measure_of}
+use Rattle.face_merge.specs.Measures.{IsMeasured, measure_of, total_length}
 use Rattle.face_merge.specs.Merging.{AreAreas, IsLabelled, MergeState, after_steps, begin}
 use Rattle.face_merge.specs.Running.{AreInSlots, IsQueueOf}
 use Rattle.face_merge.proofs.Start.{base_measured, merging_start}
@@ -58,15 +58,10 @@ overflow_add-faces c =
     let n : c.len-faces.result ≡ length c.args.base.now.classes = omega (arith, c.len-faces.ensures, c.in_ok-classes.classes.ok.0, ap length (c.in_ok-classes.ensures ∙ (c.as_slice.ensures ∙ c.classes.ensures.value))) in
     omega (arith, n, (base_facts c.args.base.now c.arcs.ensures.base).few_faces)
 
-pub between-requires-clause-measured : goal.between-requires-clause-measured
-between-requires-clause-measured c =
+pub between-requires : goal.between-requires
+between-requires c =
     let e = c.as_slice-labelled.ensures.value ∙ (c.in_ok-arcs.ensures ∙ ap (map labelled) (c.as_slice-2.ensures ∙ c.arcs.ensures.value)) in
-    subst (All IsMeasured) (sym e) (base_measured c.args.base.now c.arcs.ensures.base)
-
-pub between-requires-clause-few : goal.between-requires-clause-few
-between-requires-clause-few c =
-    let e = c.as_slice-labelled.ensures.value ∙ (c.in_ok-arcs.ensures ∙ ap (map labelled) (c.as_slice-2.ensures ∙ c.arcs.ensures.value)) in
-    omega (arith, ap length e, (merging_start c.args.base.now c.arcs.ensures.base).few_arcs)
+    omega (arith, ap total_length e, (merging_start c.args.base.now c.arcs.ensures.base).short)
 
 pub queue_of-requires-clause-areas : goal.queue_of-requires-clause-areas
 queue_of-requires-clause-areas c =

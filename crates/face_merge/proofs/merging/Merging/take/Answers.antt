@@ -1,10 +1,12 @@
 -- The two faces are live and differ, their sums fit, and what is held afterwards is the map after the step.
-use Rattle.std.proofs.Common.{◌≡◌, ◌<◌, ◌∙◌, inl, inr, ap, sym, subst, refl, arith, ℕ, List, [], ◌∷◌, ◌++◌, set, ◌+ℤ◌, ◌+◌, length, to_z, of_z}
+use Rattle.std.proofs.Common.{◌≡◌, ◌<◌, ◌∙◌, inl, inr, ap, sym, subst, refl, true, arith, ℕ, List, [], ◌∷◌, ◌++◌, set, ◌+ℤ◌, ◌+◌, length, to_z, of_z}
 use Rattle.std.specs.Int.{w128}
 use Rattle.std.specs.List.{All}
 use Rattle.std.proofs.lemmas.List.Elements.{All-weaker}
 use Rattle.tgap_model.specs.declared.base.Rules.{Rules}
 use Rattle.tgap_model.specs.declared.merge.MergeStep.{MergeStep}
+use Rattle.tgap_model.specs.Base.{is_rules}
+use Rattle.tgap_model.proofs.BaseFacts.{base_facts}
 use Rattle.face_merge.specs.declared.links.Link.{Link}
 use Rattle.face_merge.specs.declared.queue.Place.{Place}
 use Rattle.face_merge.specs.Links.{length_at}
@@ -23,6 +25,9 @@ face-loser-requires-clause-live c = (held_pair c.args.self c.args.pair c.require
 
 pub face-winner-requires-clause-live : goal.face-winner-requires-clause-live
 face-winner-requires-clause-live c = (held_pair c.args.self c.args.pair c.requires.running c.requires.next).winner
+
+pub importance-importance-requires-clause-rules : goal.importance-importance-requires-clause-rules
+importance-importance-requires-clause-rules c = subst (λ (x : Rules). is_rules x ≡ true) (sym c.rules.ensures.value) (base_facts c.args.self.base.now c.rules.ensures.base).rules
 
 pub importance-importance-requires-clause-class : goal.importance-importance-requires-clause-class
 importance-importance-requires-clause-class c =

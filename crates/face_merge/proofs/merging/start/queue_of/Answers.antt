@@ -1,10 +1,11 @@
 -- One more face, with its importance, where it has a link.
-use Rattle.std.proofs.Common.{◌≡◌, ◌<◌, ◌≤◌, ◌+◌, ◌-◌, ◌*ℤ◌, ◌∙◌, refl, ap, sym, subst, arith, ℕ, ℤ, pos, unsigned_abs, List, length, map, get_or, replicate, slice_index, to_z, of_z}
+use Rattle.std.proofs.Common.{◌≡◌, ◌<◌, ◌≤◌, ◌+◌, ◌-◌, ◌*ℤ◌, ◌∙◌, refl, true, ap, sym, subst, arith, ℕ, ℤ, pos, unsigned_abs, List, length, map, get_or, replicate, slice_index, to_z, of_z}
 use Rattle.std.specs.Int.{w128}
 use Rattle.std.specs.Prelude.{count_by}
 use Rattle.std.specs.List.{All}
 use Rattle.std.proofs.lemmas.List.Elements.{All-get_or}
 use Rattle.tgap_model.specs.declared.base.Rules.{Rules}
+use Rattle.tgap_model.specs.Base.{is_rules}
 use Rattle.tgap_model.specs.Bounds.{max_area}
 use Rattle.tgap_model.specs.History.{area_of, class_of, labelled}
 use Rattle.tgap_model.proofs.BaseFacts.{base_facts}
@@ -33,6 +34,9 @@ area_is c =
 -- its class
 class_is : (c : goal.After-importance-arg-1) → get_or c.as_slice-classes.result.now (c.loop-slot.slot - 1) 0 ≡ class_of c.args.base.now.classes c.loop-slot.slot
 class_is c = ap (λ (ks : List ℕ). get_or ks (c.loop-slot.slot - 1) 0) (c.as_slice-classes.ensures ∙ c.classes.ensures.value)
+
+pub importance-importance-requires-clause-rules : goal.importance-importance-requires-clause-rules
+importance-importance-requires-clause-rules c = subst (λ (x : Rules). is_rules x ≡ true) (sym c.rules.ensures.value) (base_facts c.args.base.now c.rules.ensures.base).rules
 
 pub importance-importance-requires-clause-class : goal.importance-importance-requires-clause-class
 importance-importance-requires-clause-class c =

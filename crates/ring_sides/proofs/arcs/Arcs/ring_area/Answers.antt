@@ -4,7 +4,7 @@ use Rattle.std.specs.Int.{w64, w128}
 use Rattle.std.proofs.lemmas.Int.{ints}
 use Rattle.tgap_model.specs.Bounds.{max_arc_area}
 use Rattle.topology_forms.specs.Rings.{shoelace_named}
-use Rattle.ring_sides.proofs.Measures.{sum_is, sum_size}
+use Rattle.tgap_model.proofs.ShoelaceSums.{sum_is, sum_size}
 use Rattle.ring_sides.proofs.RawArcs.{ring_few}
 use Rattle.ring_sides.proofs.RingLoops.{area_next}
 use Rattle.ring_sides.proofs.arcs.Arcs.ring_area.Goals as goal

@@ -1,0 +1,17 @@
+pub mod Examples
+pub mod Ranges
+pub mod Layouts
+pub mod Touching
+pub mod Apart
+pub mod Halves
+pub mod Rungs
+pub mod Strips
+pub mod Columns
+pub mod Ladders
+pub mod Heights
+pub mod Stacks
+pub mod Turning
+pub mod Rings
+pub mod GridLayout
+pub mod GridBase
+pub mod GridPartition
