@@ -4,13 +4,13 @@ use memory_runs::{TWO_SQUARES, answered, files_of};
 use std::test::Fail;
 use tgap_model::List;
 
-const COARSE: &str =
+pub const COARSE: &str =
     "slice 1\nfaces 1\nface 3 0\nedges 1\nedge 0 3 0 6 10 10 0 10 0 0 20 0 20 10 10 10\nend\n";
 
-const FINE: &str =
+pub const FINE: &str =
     "slice 0\nfaces 2\nface 1 0\nface 2 0\nedges 3\nedge 0 1 0 4 10 10 0 10 0 0 10 0\nedge 1 2 0 4 10 0 20 0 20 10 10 10\nedge 2 1 2 2 10 0 10 10\nend\n";
 
-const PACKET: &str =
+pub const PACKET: &str =
     "packet 1 0\nstep 1 1 0 2 0 3 1 1\nmend 0 1 2\nput 3 10 0\npiece 0 3 1 0\npiece 1 6 2 0\nedge 2 1 2 2 10 0 10 10\nend\n";
 
 /// The packet with a vertex that stands at that place already.

@@ -10,6 +10,7 @@ use commands::Outcome;
 use plain_io::{HostFiles, HostSink, TcpHarbour};
 pub use run::run;
 use std::alloc::Global;
+use std::io::ErrorKind;
 use std::process::ExitCode;
 use std::rt::Env;
 use std::{env, io};
@@ -33,11 +34,13 @@ fn main(rt: HostRuntime) -> ExitCode {
     ExitCode::from(status)
 }
 
-/// The words of the command line, without the name of the program; none where they are no text.
+/// The words of the command line, without the name of the program; none where one of them is no text.
 fn words<R: Env + AllocGlobal>(rt: &R, alloc: Global) -> Result<Vec<String>, Memory> {
     let mut words = Vec::new(alloc);
-    let Ok(arguments) = env::args(rt) else {
-        return Ok(words);
+    let arguments = match env::args(rt) {
+        Ok(arguments) => arguments,
+        Err(error) if error.kind() == ErrorKind::OutOfMemory => return Err(Memory),
+        Err(_) => return Ok(words),
     };
     for word in arguments.skip(1) {
         words.push(word)?;

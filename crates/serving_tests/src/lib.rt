@@ -6,4 +6,6 @@ mod doors;
 #[cfg(test)]
 mod links;
 #[cfg(test)]
+mod rows;
+#[cfg(test)]
 mod served;

@@ -14,26 +14,26 @@ use std::test::Fail;
 use std::thread::Threads;
 use tgap_model::{List, Memory, Text};
 
-const INFO: &[u8] = b"GET /info HTTP/1.1\r\nHost: t\r\n\r\n";
+pub const INFO: &[u8] = b"GET /info HTTP/1.1\r\nHost: t\r\n\r\n";
 
-const INFO_TEXT: &str = "version 0 steps 1 faces 2 arcs 3 points 10\n";
+pub const INFO_TEXT: &str = "version 0 steps 1 faces 2 arcs 3 points 10\n";
 
 /// Moves a corner of the second square.
 const EDIT: &[u8] =
     b"POST /edit HTTP/1.1\r\nHost: t\r\nContent-Length: 17\r\n\r\nmove 20 10 24 10\n";
 
-/// A door through which this link comes.
-fn door<L: Link>(alloc: Global, link: L) -> Result<MemoryDoor<L>, Memory>
+/// A door through which this link comes. The listed calls fail.
+pub fn door<L: Link>(alloc: Global, link: L, failing: List<u64>) -> Result<MemoryDoor<L>, Memory>
     requires { IsNew (L.taken link) (L.told link) (L.take_faults link) (L.put_faults link) (L.ended link) }
     ensures { IfOk result IsUnused }
 {
     let mut links = List::new(alloc);
     links.push(link)?;
-    MemoryDoor::new(alloc, links, List::new(alloc))
+    MemoryDoor::new(alloc, links, failing)
 }
 
 /// The bytes of a reply.
-fn reply(alloc: Global, status: &str, version: u64, body: &str) -> Result<String, Memory> {
+pub fn reply(alloc: Global, status: &str, version: u64, body: &str) -> Result<String, Memory> {
     Ok(format!(in alloc;
         "HTTP/1.1 {status}\r\nContent-Type: text/plain\r\nTgap-Version: {version}\r\nContent-Length: {}\r\n\r\n{body}",
         body.len()
@@ -41,7 +41,7 @@ fn reply(alloc: Global, status: &str, version: u64, body: &str) -> Result<String
 }
 
 /// What a client gets that sends these bytes, at most `step` of them at once, where the listed calls fail, and how its connection ends.
-fn exchange<R: Threads + Wait + Sync>(
+pub fn exchange<R: Threads + Wait + Sync>(
     rt: &R,
     alloc: Global,
     input: &[u8],
@@ -58,7 +58,7 @@ fn exchange<R: Threads + Wait + Sync>(
         failing,
     )?;
     let mut doors = List::new(alloc);
-    doors.push(door(alloc, link)?)?;
+    doors.push(door(alloc, link, List::new(alloc))?)?;
     let mut harbour = MemoryHarbour::new(alloc, doors, List::new(alloc));
     served(rt, alloc, "serve map 8080 1 1", &mut harbour)?;
     let door = harbour.came_back().first().ok_or("no door came back")?;
@@ -67,7 +67,7 @@ fn exchange<R: Threads + Wait + Sync>(
 }
 
 /// No call fails.
-fn none(alloc: Global) -> FailingCalls {
+pub fn none(alloc: Global) -> FailingCalls {
     FailingCalls {
         takes: List::new(alloc),
         puts: List::new(alloc),
@@ -117,8 +117,8 @@ fn a_reader_stays_while_an_editor_publishes(rt: HostRuntime) -> Result<(), Fail>
     editor.add_piece(EDIT, Some(read))?;
     editor.add_flag(published)?;
     let mut doors = List::new(alloc);
-    doors.push(door(alloc, reader)?)?;
-    doors.push(door(alloc, editor)?)?;
+    doors.push(door(alloc, reader, List::new(alloc))?)?;
+    doors.push(door(alloc, editor, List::new(alloc))?)?;
     let mut harbour = MemoryHarbour::new(alloc, doors, List::new(alloc));
     let (status, _) = served(&rt, alloc, "serve map 8080 2 2", &mut harbour)?;
     assert_eq!(rt; status, 0);

@@ -6,6 +6,7 @@ use plain_io::{FileTexts, MemoryFiles, SureFiles};
 use ring_sides::to_base;
 use std::alloc::Global;
 use std::test::Fail;
+use std::thread::Threads;
 use tgap_model::{List, Memory, Text};
 use topo_read::read_topology;
 
@@ -16,6 +17,14 @@ const TOPOLOGY: &str =
 /// A square with absolute positions in an object of its own, whose class is a number.
 const SQUARE: &str =
     "{\"type\":\"Topology\",\"objects\":{\"one\":{\"type\":\"Polygon\",\"arcs\":[[-1]],\"properties\":{\"kind\":7}},\"two\":{}},\"arcs\":[[[0,0],[0,10],[10,10],[10,0],[0,0]]]}";
+
+/// An arc that begins beyond the greatest coordinate.
+const FAR: &str =
+    "{\"type\":\"Topology\",\"objects\":{\"one\":{\"type\":\"Polygon\",\"arcs\":[[0]]}},\"arcs\":[[[2147483649,10],[0,10],[0,0]]]}";
+
+/// One that begins within it, and does not end where it began.
+const OPEN: &str =
+    "{\"type\":\"Topology\",\"objects\":{\"one\":{\"type\":\"Polygon\",\"arcs\":[[0]]}},\"arcs\":[[[268435457,10],[0,10],[0,0]]]}";
 
 const RULES: &str =
     "{\"property\":\"kind\",\"classes\":[[\"field\",1],[\"wood\",1]],\"default\":0,\"compat\":[[1,1],[1,1]],\"ratio\":16}";
@@ -47,6 +56,20 @@ fn worked_topologies(rt: HostRuntime) -> Result<(), Fail> {
             "slice map 2 land rules",
             5,
             "step too high 1\n",
+        ),
+        (
+            FAR,
+            RULES,
+            "check map one rules",
+            4,
+            "refused 6 out-of-range 0 0\n",
+        ),
+        (
+            OPEN,
+            RULES,
+            "check map one rules",
+            4,
+            "refused 11 ring-open 0 0\n",
         ),
         (
             TOPOLOGY,
@@ -122,7 +145,7 @@ fn a_topology_is_written_as_a_listing(rt: HostRuntime) -> Result<(), Fail> {
         return Err("the rings make no base map".into());
     };
     let text =
-        "tgap 1\ntransform 2 -2 5 0\nratio 0\nclasses 2\nclass 0 1 1 2\nclass 1 2 3 4\nfaces 1\nface 1 0\narcs 1\narc 1 0 4 0 0 10 0 10 10 0 0\nend\n";
+        "tgap 2\ntransform 2 -2 5 0\nratio 0\nclasses 2\nclass 0 1 1 2\nclass 1 2 3 4\nfaces 1\nface 1 0\narcs 1\narc 1 0 4 0 0 10 0 10 10 0 0\nend\n";
     assert_eq!(rt; write_listing(alloc, &base)?.as_slice(), text.as_bytes());
     Ok(())
 }
@@ -165,5 +188,28 @@ fn files_are_loaded_in_order(rt: HostRuntime) -> Result<(), Fail> {
     let (status, put) = answered(&rt, alloc, "check map land rules", &mut failing)?;
     assert_eq!(rt; status, 3);
     assert_eq!(rt; put.as_slice(), b"load fault map\n".as_slice());
+    Ok(())
+}
+
+/// What a check of these bytes gives.
+fn checked<R: Threads + Sync>(rt: &R, alloc: Global, map: &[u8]) -> Result<(u8, Text), Memory> {
+    let mut files = two_files(alloc, map, List::new(alloc))?;
+    answered(rt, alloc, "check map land rules", &mut files)
+}
+
+#[test]
+fn what_is_cut_or_too_deep_is_no_json(rt: HostRuntime) -> Result<(), Fail> {
+    let alloc = rt.alloc();
+    let no_json = b"refused 1 not-json\n".as_slice();
+    for end in 0..TOPOLOGY.len() {
+        let (status, put) = checked(&rt, alloc, &TOPOLOGY.as_bytes()[..end])?;
+        assert_eq!(rt; (status, put.as_slice()), (4, no_json));
+    }
+    let mut deep = vec![in alloc; b'['; 200]?;
+    for _ in 0..200u64 {
+        deep.push(b']')?;
+    }
+    let (status, put) = checked(&rt, alloc, deep.as_slice())?;
+    assert_eq!(rt; (status, put.as_slice()), (4, no_json));
     Ok(())
 }

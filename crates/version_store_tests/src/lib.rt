@@ -7,4 +7,6 @@ mod machine;
 #[cfg(test)]
 mod maps;
 #[cfg(test)]
+mod seats;
+#[cfg(test)]
 mod store;

@@ -15,7 +15,7 @@ use version_store::{Fresh, Press, PublishFail, Seat, StoreName, start};
 
 /// A map with its number. No batch is told of it.
 #[derive(Drop)]
-struct Numbered {
+pub struct Numbered {
     number: u64,
     base: Base,
 }
@@ -37,7 +37,7 @@ impl Holds for Numbered {
 }
 
 /// The version of this number: a triangle whose width tells it.
-fn version(alloc: Global, number: u64) -> Result<Arc<Numbered>, Memory>
+pub fn version(alloc: Global, number: u64) -> Result<Arc<Numbered>, Memory>
     ensures { IfOk result (λ v. (arc_value v).number ≡ number) }
 {
     let width = if number == 0 { 10 } else { 20 };
