@@ -1,0 +1,10 @@
+pub mod Examples
+pub mod SideNumbers
+pub mod Order
+pub mod Fronts
+pub mod Spokes
+pub mod Tables
+pub mod Walks
+pub mod NextSides
+pub mod Orbits
+pub mod RingOrbits

@@ -1,0 +1,5 @@
+pub mod Sides
+pub mod Rings
+pub mod Areas
+pub mod Spans
+pub mod Orbits
