@@ -1,0 +1,16 @@
+pub mod Examples
+pub mod Grouping
+pub mod RingAreas
+pub mod Commas
+pub mod Deltas
+pub mod Texts
+pub mod SpanSegments
+pub mod Abscissas
+pub mod NearHomes
+pub mod Probes
+pub mod Places
+pub mod FaceParts
+pub mod FlatFaces
+pub mod FaceGroups
+pub mod Whole
+pub mod SliceSpans
