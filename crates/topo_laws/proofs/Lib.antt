@@ -1,0 +1,13 @@
+pub mod OwnSpans
+pub mod SliceSpans
+pub mod ReadTree
+pub mod ReadText
+pub mod PartRings
+pub mod PartSides
+pub mod PartFaces
+pub mod ReadBase
+pub mod SliceDrawn
+pub mod OtherLabels
+pub mod PartsPlanar
+pub mod ReadBack
+pub mod Examples

@@ -1,0 +1,3 @@
+pub mod RingFaces
+pub mod Told
+pub mod ReadBack
