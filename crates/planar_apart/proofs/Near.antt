@@ -1,9 +1,9 @@
 -- Segments whose boxes do not meet do not meet, and neither do those of which the box of one lies beside the other, so the search may leave them out.
-use Rattle.std.proofs.Common.{if◌then◌else◌, ◌≡◌, ◌⊎◌, inl, inr, ℕ, ◌<◌, ◌≤◌, nat_lt, Bool, true, false, ◌||◌, not, ℤ, pos, ◌-ℤ◌, ◌*ℤ◌, neg_ℤ, ◌<ℤ◌, ◌≤ℤ◌, int_le, int_lt, List, [], ◌∷◌, length, get_or, None, option_map, refl, sym, ap, ◌∙◌, subst₂, arith, true≢false}
+use Rattle.std.proofs.Common.{if◌then◌else◌, ◌≡◌, ◌⊎◌, inl, inr, ℕ, ◌<◌, ◌≤◌, nat_lt, Bool, true, false, ◌||◌, not, ℤ, pos, ◌-ℤ◌, ◌*ℤ◌, neg_ℤ, ◌<ℤ◌, ◌≤ℤ◌, int_le, int_lt, List, [], ◌∷◌, length, get_or, None, option_map, refl, sym, ap, ◌∙◌, subst, subst₂, arith, true≢false}
 use Rattle.std.specs.Int.{int_min, int_max}
 use Rattle.std.proofs.lemmas.Bool.{and_cases, and_parts, or_cases, or_from, not-false}
 use Rattle.std.proofs.lemmas.Int.{ints, clamps}
-use Rattle.std.proofs.lemmas.List.{get_or_default, get_or-map, length-map}
+use Rattle.std.proofs.lemmas.List.{get_or-map, length-map}
 use Rattle.tgap_model.specs.declared.geometry.Fraction.{Fraction}
 use Rattle.tgap_model.specs.declared.geometry.Point.{Point}
 use Rattle.tgap_model.specs.declared.geometry.Window.{Window}
@@ -193,13 +193,12 @@ far_apart a b first second e =
 -- ---- places of a row that are passed
 
 -- what the tree passes over has no meeting with the segment
-pub passed : (row : List NumberedSegment) (boxes : List Window) (place from next : ℕ) (d : NumberedSegment) → IsRow row boxes → place < length row
-    → IsNextHit (crosses (row_box (get_or row place d)) (get_or row place d).segment.segment) boxes from next
-    → (k : ℕ) (e : NumberedSegment) → from ≤ k → k < next → meeting_of (get_or row place e) (get_or row k e) ≡ None
-passed row boxes place from next d r inside n k e after lt =
+pub passed : (row : List NumberedSegment) (boxes : List Window) (a : NumberedSegment) (from next : ℕ) → IsRow row boxes → is_proper a.segment ≡ true
+    → IsNextHit (crosses (row_box a) a.segment.segment) boxes from next
+    → (k : ℕ) (d : NumberedSegment) → from ≤ k → k < next → meeting_of a (get_or row k d) ≡ None
+passed row boxes a from next r proper n k d after lt =
     let long : length boxes ≡ length row = ap length r.boxes_are ∙ length-map row row_box in
     let within : k < length row = omega (arith, lt, n.within, long) in
-    let box : get_or boxes k (row_box e) ≡ row_box (get_or row k e) = ap (λ (bs : List Window). get_or bs k (row_box e)) r.boxes_are ∙ get_or-map row_box row k e (row_box e) within in
-    let own : get_or row place d ≡ get_or row place e = get_or_default row place d e inside in
-    far_apart (get_or row place e) (get_or row k e) (r.proper place e inside) (r.proper k e within)
-    (subst₂ (λ (a : NumberedSegment) (b : Window). crosses (row_box a) a.segment.segment b ≡ false) own box (n.apart k (row_box e) after lt))
+    let box : get_or boxes k (row_box d) ≡ row_box (get_or row k d) = ap (λ (bs : List Window). get_or bs k (row_box d)) r.boxes_are ∙ get_or-map row_box row k d (row_box d) within in
+    far_apart a (get_or row k d) proper (r.proper k d within)
+    (subst (λ (b : Window). crosses (row_box a) a.segment.segment b ≡ false) box (n.apart k (row_box d) after lt))

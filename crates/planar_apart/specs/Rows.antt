@@ -1,5 +1,5 @@
 -- Segments in a row, each with its number, in any order, and the meetings of two of them.
-use Rattle.std.specs.Prelude.{◌≡◌, ℕ, ◌<◌, nat_lt, pos, true, false, List, length, map, get_or, Option, Some, option_map, if◌then◌else◌}
+use Rattle.std.specs.Prelude.{◌≡◌, ℕ, ◌<◌, nat_lt, pos, true, false, List, length, map, get_or, Option, Some, None, option_map, if◌then◌else◌}
 use Rattle.tgap_model.specs.declared.geometry.Window.{Window}
 use Rattle.tgap_model.specs.declared.segment.LabelledSegment.{LabelledSegment}
 use Rattle.tgap_model.specs.Partition.{is_proper, meeting_point}
@@ -43,14 +43,26 @@ pub record IsRow (row : List NumberedSegment) (boxes : List Window) : Type 0 whe
   pub boxes_are : boxes ≡ map row_box row
   pub proper : (k : ℕ) (d : NumberedSegment) → k < length row → is_proper (get_or row k d).segment ≡ true
 
--- It is a meeting of the segment at this place with one behind it, and none of these is earlier; it is none only where there is none.
-pub record IsLeastBehind (row : List NumberedSegment) (place : ℕ) (found : Option Meeting) : Type 0 where
-  pub least : (k : ℕ) (d : NumberedSegment) → place < k → k < length row → IsNoLater found (meeting_of (get_or row place d) (get_or row k d))
-  pub one : (m : Meeting) → found ≡ Some m
-      → (k : ℕ) × (place < k) × (k < length row) × ((d : NumberedSegment) → meeting_of (get_or row place d) (get_or row k d) ≡ Some m)
+-- what stands at a place of a row
+abbrev pub row_at : List NumberedSegment → ℕ → NumberedSegment
+row_at row k = get_or row k past_row
 
--- It is a meeting of two segments of the row, and none of these is earlier; it is none only where there is none.
-pub record IsLeastOfRow (row : List NumberedSegment) (found : Option Meeting) : Type 0 where
-  pub least : (i k : ℕ) (d : NumberedSegment) → i < k → k < length row → IsNoLater found (meeting_of (get_or row i d) (get_or row k d))
+-- the segment at this place meets none behind it, and no two meet
+abbrev pub HasNoneBehind : List NumberedSegment → ℕ → Type 0
+HasNoneBehind row place = (k : ℕ) → place < k → k < length row → meeting_of (row_at row place) (row_at row k) ≡ None
+
+abbrev pub HasNone : List NumberedSegment → Type 0
+HasNone row = (i : ℕ) → i < length row → HasNoneBehind row i
+
+-- It is a meeting of the segment with one of the row of greater number, and none of these is earlier; it is none only where there is none.
+pub record IsLeastAbove (row : List NumberedSegment) (first : NumberedSegment) (found : Option Meeting) : Type 0 where
+  pub least : (k : ℕ) → k < length row → first.number < (row_at row k).number → IsNoLater found (meeting_of first (row_at row k))
   pub one : (m : Meeting) → found ≡ Some m
-      → (i : ℕ) × (k : ℕ) × (i < k) × (k < length row) × ((d : NumberedSegment) → meeting_of (get_or row i d) (get_or row k d) ≡ Some m)
+      → (k : ℕ) × (k < length row) × (first.number < (row_at row k).number) × (meeting_of first (row_at row k) ≡ Some m)
+
+-- It is a meeting of one of the segments with one of the row of greater number, and none of these is earlier.
+pub record IsLeastByNumber (segments : List LabelledSegment) (row : List NumberedSegment) (found : Option Meeting) : Type 0 where
+  pub least : (i : ℕ) → i < length segments → (k : ℕ) → k < length row → i < (row_at row k).number
+      → IsNoLater found (meeting_of (numbered segments i) (row_at row k))
+  pub one : (m : Meeting) → found ≡ Some m → (i : ℕ) × (i < length segments) × (k : ℕ) × (k < length row) × (i < (row_at row k).number)
+      × (meeting_of (numbered segments i) (row_at row k) ≡ Some m)

@@ -14,10 +14,11 @@ mod hubs;
 mod meeting;
 mod pair;
 mod row;
+mod search;
 mod sight;
 
 pub use meeting::Meeting;
-use meeting::first_pair;
+use search::first_pair;
 use std::alloc::Global;
 use std::thread::Threads;
 use tgap_model::{Base, Memory, base_segments};
@@ -28,7 +29,9 @@ use tgap_model::{Base, Memory, base_segments};
 /// Only pairs of segments are looked at of which one may cross the bounding box of the other, and a tree of the boxes names
 /// them. The segments that leave a node with many arcs stand next to one another by their directions, and pairs of these
 /// are passed over. So the time is near the number of segments and of the other such pairs, shared among as many threads
-/// as there are processors where there are some thousand segments; the memory is a small multiple of the segments.
+/// as there are processors where there are some thousand segments; the memory is a small multiple of the segments. The
+/// first meeting ends that search, and only where there is one the least pair is looked for, by number, as far as the first
+/// segment that has one: that takes at most twice the time of a map without a meeting.
 pub fn first_meeting<R: Threads + Sync>(
     rt: &R,
     alloc: Global,
