@@ -1,10 +1,12 @@
 -- The history of a base map: its steps are numbered and few, and each merges two live faces.
-use Rattle.std.proofs.Common.{◌≡◌, ◌<◌, ◌≤◌, ◌⊎◌, inl, inr, ℕ, zero, suc, ◌+◌, ◌^◌, true, false, ◌==◌, Option, None, List, [], ◌∷◌, ◌++◌, length, map, get_or, take, refl, sym, ap, ◌∙◌, subst, arith, append_assoc, fold, ne_eqb}
+use Rattle.std.proofs.Common.{◌≡◌, ◌<◌, ◌≤◌, ◌⊎◌, inl, inr, ℕ, zero, suc, ◌+◌, ◌-◌, ◌^◌, true, false, ◌==◌, Option, None, List, [], ◌∷◌, ◌++◌, length, map, get_or, take, refl, sym, ap, ◌∙◌, subst, arith, append_assoc, filter, fold, ne_eqb}
 use Rattle.std.specs.Prelude.{IsTrue}
-use Rattle.std.specs.List.{AllByRecursion, list_any}
+use Rattle.std.specs.List.{AllByRecursion, list_any, range_with_len}
+use Rattle.std.specs.Option.{is_none}
 use Rattle.std.proofs.lemmas.Bool.{or_cases, and_parts}
 use Rattle.std.proofs.lemmas.List.{append-nil, length_push}
 use Rattle.std.proofs.lemmas.List.Elements.{recursion_from_All}
+use Rattle.lemmas.proofs.Members.{filter_agree_on}
 use Rattle.tgap_model.specs.declared.base.Rules.{Rules}
 use Rattle.tgap_model.specs.declared.base.BaseArc.{BaseArc}
 use Rattle.tgap_model.specs.declared.merge.MergeStep.{MergeStep}
@@ -15,7 +17,7 @@ use Rattle.tgap_model.proofs.BaseFacts.{ArcFacts, base_facts, each_arc}
 use Rattle.face_merge.proofs.Neighbours.{is_pair, between_labels}
 use Rattle.face_merge.proofs.Start.{history_numbered}
 use Rattle.face_merge.proofs.Steps.{history_is, one_history, length-history_of}
-use Rattle.face_tree.specs.Tree.{FaceHistory, MergesLive, AreParents, AreJumpsBy, AreAscending, IsTree, face_history, step_after, merges, parent_by}
+use Rattle.face_tree.specs.Tree.{FaceHistory, MergesLive, AreParents, AreJumpsBy, AreAscending, IsTree, face_history, last_face, step_after, merges, parent_by, parent_of, root_faces, without_parent}
 use Rattle.face_tree.proofs.Ways.{relabel_unmerged, parent_above}
 use Rattle.face_tree.proofs.Live.{IsLabel, live_from, label_append}
 
@@ -154,11 +156,20 @@ parents_ascend n steps parents h count value = record {
   below = λ f p inside e. omega (arith, (parent_above n steps f p h (sym (value f) ∙ e)).2);
 }
 
+-- the faces whose stored parent is none are the roots
+roots_listed : (t : FaceHistory) (parents : List (Option ℕ)) → length parents ≡ t.faces + length t.steps + 1 → ((f : ℕ) → get_or parents f None ≡ parent_by t.steps f)
+    → without_parent parents ≡ root_faces t
+roots_listed t parents count value =
+    let all : length parents - 1 ≡ last_face t = omega (arith, count) in
+    ap (λ (n : ℕ). filter (λ f. is_none (get_or parents f None)) (range_with_len 1 n)) all
+    ∙ filter_agree_on (λ f. is_none (get_or parents f None)) (λ f. is_none (parent_of t f)) (range_with_len 1 (last_face t))
+    (λ k d inside. ap (λ (o : Option ℕ). is_none o) (value (get_or (range_with_len 1 (last_face t)) k d)))
+
 -- what is stored is a tree
-pub tree_is : (m : BaseMap) (steps : List MergeStep) (t : FaceHistory) (parents : List (Option ℕ)) (jumps : List ℕ) → HistoryFacts m steps
+pub tree_is : (m : BaseMap) (steps : List MergeStep) (t : FaceHistory) (parents : List (Option ℕ)) (jumps tops : List ℕ) → HistoryFacts m steps
     → t ≡ face_history (record { base = m; steps = steps }) → length parents ≡ t.faces + length t.steps + 1 → ((f : ℕ) → get_or parents f None ≡ parent_by t.steps f)
-    → AreJumpsBy parents jumps → IsTree t parents jumps
-tree_is m steps t parents jumps facts e count value known =
+    → AreJumpsBy parents jumps → tops ≡ without_parent parents → IsTree t parents jumps tops
+tree_is m steps t parents jumps tops facts e count value known listed =
     let stored : AreParents t parents = record { count = count; value = λ f _. value f } in
     let numbered : AreNumbered t.faces t.steps = rw e facts.numbered in
     record {
@@ -168,4 +179,5 @@ tree_is m steps t parents jumps facts e count value known =
       classed = rw e (count_classes m.classes steps);
       are_parents = stored;
       are_jumps = known t numbered stored;
+      are_roots = listed ∙ roots_listed t parents count value;
     }

@@ -1,6 +1,7 @@
 -- The tree of all faces of a map while it is merged: a step makes one face of two, which are its children.
-use Rattle.std.specs.Prelude.{◌≡◌, ◌<◌, ◌≤◌, ◌↔◌, ◌^◌, ℕ, ◌+◌, ◌-◌, Bool, ◌||◌, ◌==◌, List, [], ◌∷◌, length, take, drop, slice_index, slice_index_or, Option, Some, None, if◌then◌else◌, IsTrue, IsFalse}
+use Rattle.std.specs.Prelude.{◌≡◌, ◌<◌, ◌≤◌, ◌↔◌, ◌^◌, ℕ, ◌+◌, ◌-◌, Bool, ◌||◌, ◌==◌, List, [], ◌∷◌, length, take, drop, slice_index, slice_index_or, filter, flat_map, Option, Some, None, if◌then◌else◌, IsTrue, IsFalse}
 use Rattle.std.specs.List.{list_any, range_with_len}
+use Rattle.std.specs.Option.{is_none}
 use Rattle.tgap_model.specs.declared.merge.MergeStep.{MergeStep}
 use Rattle.tgap_model.specs.History.{label_after, AreNumbered}
 use Rattle.tgap_model.specs.Merged.{MergedMap, all_classes}
@@ -32,6 +33,10 @@ pub record IsFace (t : FaceHistory) (f : ℕ) : Type 0 where
 abbrev pub is_live : FaceHistory → ℕ → ℕ → Bool
 is_live t k f = list_any (λ g. label_after (take k t.steps) g == f) (range_with_len 1 t.faces)
 
+-- the faces that are live after k steps, in ascending order
+abbrev pub live_after : FaceHistory → ℕ → List ℕ
+live_after t k = filter (is_live t k) (range_with_len 1 (t.faces + k))
+
 -- the step that follows the first j
 abbrev pub step_after : FaceHistory → ℕ → MergeStep
 step_after t j = slice_index_or t.steps j (record { loser = 0; winner = 0; made = 0 })
@@ -47,6 +52,14 @@ parent_by (s ∷ steps) f = if merges s f then Some s.made else parent_by steps 
 
 abbrev pub parent_of : FaceHistory → ℕ → Option ℕ
 parent_of t f = parent_by t.steps f
+
+-- the faces that no step merges, in ascending order
+abbrev pub root_faces : FaceHistory → List ℕ
+root_faces t = filter (λ f. is_none (parent_of t f)) (range_with_len 1 (last_face t))
+
+-- the faces that these steps merge, step by step
+abbrev pub children : List MergeStep → List ℕ
+children steps = flat_map (λ s. s.loser ∷ s.winner ∷ []) steps
 
 -- Of a face that a step merges the parent is the face that the step makes, and a face that no step merges has none.
 pub record IsParent (t : FaceHistory) (f : ℕ) (parent : Option ℕ) : Type 0 where
@@ -90,6 +103,10 @@ pub record AreParents (t : FaceHistory) (parents : List (Option ℕ)) : Type 0 w
   pub count : length parents ≡ last_face t + 1
   pub value : (f : ℕ) → f ≤ last_face t → slice_index_or parents f None ≡ parent_of t f
 
+-- the faces without a parent, where the parents are stored, the outside's first
+abbrev pub without_parent : List (Option ℕ) → List ℕ
+without_parent parents = filter (λ f. is_none (slice_index_or parents f None)) (range_with_len 1 (length parents - 1))
+
 -- each parent has a greater number than its child
 pub record AreAscending (parents : List (Option ℕ)) : Type 0 where
   pub above : (f p : ℕ) → f < length parents → slice_index_or parents f None ≡ Some p → f < p
@@ -123,10 +140,11 @@ pub record IsTop (t : FaceHistory) (k f : ℕ) : Type 0 where
   pub live : 0 < f → IsTrue (is_live t k f)
 
 -- what is known of a tree
-pub record IsTree (t : FaceHistory) (parents : List (Option ℕ)) (jumps : List ℕ) : Type 0 where
+pub record IsTree (t : FaceHistory) (parents : List (Option ℕ)) (jumps tops : List ℕ) : Type 0 where
   pub numbered : AreNumbered t.faces t.steps
   pub live : MergesLive t
   pub small : last_face t + 1 < 2 ^ 32
   pub classed : length t.classes ≡ last_face t
   pub are_parents : AreParents t parents
   pub are_jumps : AreJumps t jumps
+  pub are_roots : tops ≡ root_faces t

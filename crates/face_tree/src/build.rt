@@ -1,9 +1,9 @@
-//! What the tree stores of each face: its class, its parent and its jump.
+//! What the tree stores of each face: its class, its parent and its jump; and which faces are roots.
 
 ghost use Rattle.std.specs.Prelude.{◌≡◌, ◌≤◌, ◌<◌, ◌+◌, ◌^◌, ◌⊎◌, ℕ, None, length, fold, slice_index, slice_index_or, IfOk};
 ghost use Rattle.std.specs.List.{All};
 ghost use Rattle.tgap_model.specs.History.{AreNumbered, classes_after};
-ghost use Rattle.face_tree.specs.Tree.{AreAscending, AreJumpsBy, parent_by};
+ghost use Rattle.face_tree.specs.Tree.{AreAscending, AreJumpsBy, parent_by, without_parent};
 
 use std::alloc::Global;
 use tgap_model::{Memory, MergeStep, numbers_below};
@@ -77,4 +77,20 @@ pub fn jumps_of(alloc: Global, parents: &[Option<u32>]) -> Result<Vec<u32>, Memo
         }
     }
     Ok(jumps)
+}
+
+/// The faces without a parent, in ascending order. The parents are listed by the number of the face, that of the outside
+/// first.
+pub fn roots_of(alloc: Global, parents: &[Option<u32>]) -> Result<Vec<u32>, Memory>
+    requires some { 0 < length parents.now }
+    requires small { length parents.now < 2 ^ 32 }
+    ensures { IfOk result (λ found. found.items ≡ without_parent parents.now) }
+{
+    let mut found = Vec::new(alloc);
+    for face in 1..parents.len() {
+        if parents[face].is_none() {
+            found.push(face as u32)?;
+        }
+    }
+    Ok(found)
 }

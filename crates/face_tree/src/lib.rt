@@ -3,6 +3,7 @@
 #![tactic(auto)]
 
 mod build;
+mod children;
 mod labels;
 mod tree;
 

@@ -2,9 +2,10 @@
 
 ghost use Rattle.std.specs.Prelude.{◌≡◌, ◌≤◌, ◌<◌, ◌+◌, length, take, IfOk, IsTrue, MatchOption};
 ghost use Rattle.tgap_model.specs.History.{IsHistory, label_after, class_of};
-ghost use Rattle.face_tree.specs.Tree.{AreLabels, IsFace, IsLiveFrom, IsParent, IsTop, IsUp, face_history, is_live, label_from, parent_of, low_step, high_step};
+ghost use Rattle.face_tree.specs.Tree.{AreLabels, IsFace, IsLiveFrom, IsParent, IsTop, IsUp, face_history, is_live, label_from, live_after, parent_of, low_step, high_step};
 
-use crate::build::{classes_of, jumps_of, parents_of};
+use crate::build::{classes_of, jumps_of, parents_of, roots_of};
+use crate::children::children_of;
 use crate::labels::labels_after;
 use std::alloc::Global;
 use std::marker::Model;
@@ -15,7 +16,8 @@ use tgap_model::{Base, List, Memory, MergeStep};
 /// outside.
 ///
 /// Each face has its parent and one jump, a farther ancestor. The jumps are laid so that the way from a face to any
-/// ancestor takes at most a few times the logarithm of the number of steps.
+/// ancestor takes at most a few times the logarithm of the number of steps. The roots are listed, since they are live to
+/// the end.
 #[derive(Debug, Drop)]
 pub struct FaceTree {
     faces: u32,
@@ -23,6 +25,7 @@ pub struct FaceTree {
     classes: Vec<u32>,
     parents: Vec<Option<u32>>,
     jumps: Vec<u32>,
+    roots: Vec<u32>,
 }
 
 impl Model for FaceTree {
@@ -32,7 +35,7 @@ impl Model for FaceTree {
 
     ghost view = { λ t. history_from t.faces t.classes.items t.steps.items };
 
-    ghost invariant = { λ t. IsTree (history_from t.faces t.classes.items t.steps.items) t.parents.items t.jumps.items };
+    ghost invariant = { λ t. IsTree (history_from t.faces t.classes.items t.steps.items) t.parents.items t.jumps.items t.roots.items };
 }
 
 impl FaceTree {
@@ -46,12 +49,14 @@ impl FaceTree {
         let faces = classes.len() as u32;
         let parents = parents_of(alloc, faces, steps)?;
         let jumps = jumps_of(alloc, parents.as_slice())?;
+        let roots = roots_of(alloc, parents.as_slice())?;
         Ok(FaceTree {
             faces,
             steps: Vec::from_slice(alloc, steps)?,
             classes: classes_of(alloc, classes, steps)?,
             parents,
             jumps,
+            roots,
         })
     }
 
@@ -143,5 +148,19 @@ impl FaceTree {
         let mut labels = labels_after(alloc, self.faces, &self.steps[..k as usize])?;
         labels.truncate(self.faces as usize + 1);
         Ok(labels)
+    }
+
+    /// The faces that are live after k steps, in ascending order: those that are made by then, and that are merged by a
+    /// later step or by none. The time is that of their number and its logarithm, whatever the number of all faces.
+    pub fn live_at(&self, alloc: Global, k: u32) -> Result<Vec<u32>, Memory>
+        requires { k ≤ length self.now.steps }
+        ensures { IfOk result (λ faces. faces.items ≡ live_after self.now k) }
+    {
+        let newest = self.faces + k;
+        let mut faces = children_of(alloc, &self.steps[k as usize..])?;
+        faces.extend_from_slice(&self.roots)?;
+        faces.retain(|face| *face <= newest);
+        faces.sort_unstable();
+        Ok(faces)
     }
 }

@@ -7,14 +7,14 @@ use Rattle.face_tree.proofs.tree.FaceTree.merged_at.Goals as goal
 pub overflow_sub-result : goal.overflow_sub-result
 overflow_sub-result c =
     let t = c.args.self.now in
-    let h = subst (λ (u : FaceHistory). IsTree u c.self.inside.parents.items c.self.inside.jumps.items) c.self.view_is c.self.invariant in
+    let h = subst (λ (u : FaceHistory). IsTree u c.self.inside.parents.items c.self.inside.jumps.items c.self.inside.roots.items) c.self.view_is c.self.invariant in
     let made = high_parent t.faces t.steps c.args.face c.in-Some.parent h.numbered (sym c.in-Some.ensures.value) in
     omega (arith, made, ap (λ (u : FaceHistory). u.faces) c.self.view_is)
 
 pub returns-in-Some : goal.returns-in-Some
 returns-in-Some c =
     let t = c.args.self.now in
-    let h = subst (λ (u : FaceHistory). IsTree u c.self.inside.parents.items c.self.inside.jumps.items) c.self.view_is c.self.invariant in
+    let h = subst (λ (u : FaceHistory). IsTree u c.self.inside.parents.items c.self.inside.jumps.items c.self.inside.roots.items) c.self.view_is c.self.invariant in
     let made = high_parent t.faces t.steps c.args.face c.in-Some.parent h.numbered (sym c.in-Some.ensures.value) in
     omega (arith, made, ap (λ (u : FaceHistory). u.faces) c.self.view_is)
 

@@ -8,39 +8,39 @@ pub returns-in_err-parent : goal.returns-in_err-parent
 returns-in_err-parent c =
     let t = c.args.self.now in
     let face = c.args.face in
-    let h = subst (λ (u : FaceHistory). IsTree u c.self.inside.parents.items c.self.inside.jumps.items) c.self.view_is c.self.invariant in
+    let h = subst (λ (u : FaceHistory). IsTree u c.self.inside.parents.items c.self.inside.jumps.items c.self.inside.roots.items) c.self.view_is c.self.invariant in
     let within : face ≤ last_face t = omega (arith, c.requires.face, c.requires.steps) in
-    let root = sym c.in_err-parent.was ∙ read_parent t _ _ face c.index.result.now h within c.index.ensures in
+    let root = sym c.in_err-parent.was ∙ read_parent t _ _ _ face c.index.result.now h within c.index.ensures in
     subst (λ (o : Option ℕ). MatchOption o (IsTop t c.args.k face) (IsUp t c.args.k face)) (sym c.from_residual.ensures)
-    (up_root t _ _ c.args.k face h c.requires.steps c.requires.face root)
+    (up_root t _ _ _ c.args.k face h c.requires.steps c.requires.face root)
 
 pub returns-then-jump-last : goal.returns-then-jump-last
 returns-then-jump-last c =
     let t = c.args.self.now in
     let face = c.args.face in
     let jump = c.index-jump.result.now in
-    let h = subst (λ (u : FaceHistory). IsTree u c.self.inside.parents.items c.self.inside.jumps.items) c.self.view_is c.self.invariant in
+    let h = subst (λ (u : FaceHistory). IsTree u c.self.inside.parents.items c.self.inside.jumps.items c.self.inside.roots.items) c.self.view_is c.self.invariant in
     let within : face ≤ last_face t = omega (arith, c.requires.face, c.requires.steps) in
     let near : jump ≤ t.faces + c.args.k = omega (arith, c.if-jump-last.true, ap (λ (u : FaceHistory). u.faces) c.self.view_is) in
-    let parent = sym c.in_ok-parent.was ∙ read_parent t _ _ face c.index.result.now h within c.index.ensures in
-    up_jump t _ _ c.args.k face c.in_ok-parent.parent jump h parent (read_jump t _ _ face jump h within c.index-jump.ensures) near
+    let parent = sym c.in_ok-parent.was ∙ read_parent t _ _ _ face c.index.result.now h within c.index.ensures in
+    up_jump t _ _ _ c.args.k face c.in_ok-parent.parent jump h parent (read_jump t _ _ _ face jump h within c.index-jump.ensures) near
 
 pub returns-then-parent-last : goal.returns-then-parent-last
 returns-then-parent-last c =
     let t = c.args.self.now in
     let face = c.args.face in
-    let h = subst (λ (u : FaceHistory). IsTree u c.self.inside.parents.items c.self.inside.jumps.items) c.self.view_is c.self.invariant in
+    let h = subst (λ (u : FaceHistory). IsTree u c.self.inside.parents.items c.self.inside.jumps.items c.self.inside.roots.items) c.self.view_is c.self.invariant in
     let within : face ≤ last_face t = omega (arith, c.requires.face, c.requires.steps) in
     let near : c.in_ok-parent.parent ≤ t.faces + c.args.k = omega (arith, c.if-parent-last.true, ap (λ (u : FaceHistory). u.faces) c.self.view_is) in
-    let parent = sym c.in_ok-parent.was ∙ read_parent t _ _ face c.index.result.now h within c.index.ensures in
-    up_parent t _ _ c.args.k face c.in_ok-parent.parent h parent near
+    let parent = sym c.in_ok-parent.was ∙ read_parent t _ _ _ face c.index.result.now h within c.index.ensures in
+    up_parent t _ _ _ c.args.k face c.in_ok-parent.parent h parent near
 
 pub returns-else-parent-last : goal.returns-else-parent-last
 returns-else-parent-last c =
     let t = c.args.self.now in
     let face = c.args.face in
-    let h = subst (λ (u : FaceHistory). IsTree u c.self.inside.parents.items c.self.inside.jumps.items) c.self.view_is c.self.invariant in
+    let h = subst (λ (u : FaceHistory). IsTree u c.self.inside.parents.items c.self.inside.jumps.items c.self.inside.roots.items) c.self.view_is c.self.invariant in
     let within : face ≤ last_face t = omega (arith, c.requires.face, c.requires.steps) in
     let late : t.faces + c.args.k < c.in_ok-parent.parent = omega (arith, c.if-parent-last.false, ap (λ (u : FaceHistory). u.faces) c.self.view_is) in
-    let parent = sym c.in_ok-parent.was ∙ read_parent t _ _ face c.index.result.now h within c.index.ensures in
-    up_late t _ _ c.args.k face c.in_ok-parent.parent h c.requires.steps c.requires.face parent late
+    let parent = sym c.in_ok-parent.was ∙ read_parent t _ _ _ face c.index.result.now h within c.index.ensures in
+    up_late t _ _ _ c.args.k face c.in_ok-parent.parent h c.requires.steps c.requires.face parent late

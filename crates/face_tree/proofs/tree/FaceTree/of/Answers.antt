@@ -1,7 +1,7 @@
 -- What is built is the tree of the history.
 use Rattle.std.proofs.Common.{arith, ◌≡◌, ◌+◌, ◌∙◌, refl, ap, sym, subst, ℕ, List, Option, None, length, slice_index_or}
 use Rattle.tgap_model.specs.declared.merge.MergeStep.{MergeStep}
-use Rattle.face_tree.specs.Tree.{FaceHistory, AreJumpsBy, face_history, parent_by}
+use Rattle.face_tree.specs.Tree.{FaceHistory, AreJumpsBy, face_history, parent_by, without_parent}
 use Rattle.face_tree.proofs.Merged.{history_facts, handed_over, parents_ascend, tree_is}
 use Rattle.face_tree.proofs.tree.FaceTree.of.Goals as goal
 
@@ -44,6 +44,15 @@ jumps_of-requires-clause-small c =
     let h = handed_over c.args.base.now c.args.steps.now _ _ c.classes.ensures.base c.requires classes c.as_slice-steps.ensures in
     omega (arith, h.1, ap length c.as_slice.ensures.value, c.in_ok-parents.ensures.count)
 
+pub roots_of-requires-clause-some : goal.roots_of-requires-clause-some
+roots_of-requires-clause-some c = omega (arith, ap length c.as_slice-2.ensures.value, c.in_ok-parents.ensures.count)
+
+pub roots_of-requires-clause-small : goal.roots_of-requires-clause-small
+roots_of-requires-clause-small c =
+    let classes = c.as_slice-classes.ensures ∙ c.classes.ensures.value in
+    let h = handed_over c.args.base.now c.args.steps.now _ _ c.classes.ensures.base c.requires classes c.as_slice-steps.ensures in
+    omega (arith, h.1, ap length c.as_slice-2.ensures.value, c.in_ok-parents.ensures.count)
+
 pub invariant_of-result : goal.invariant_of-result
 invariant_of-result c =
     let m = c.args.base.now in
@@ -58,4 +67,5 @@ invariant_of-result c =
     let count = subst (λ (ss : List MergeStep). length parents ≡ t.faces + length ss + 1) back c.in_ok-parents.ensures.count in
     let value = subst (λ (ss : List MergeStep). (f : ℕ) → slice_index_or parents f None ≡ parent_by ss f) back c.in_ok-parents.ensures.value in
     let jumps = subst (λ (ps : List (Option ℕ)). AreJumpsBy ps c.in_ok-jumps.jumps.items) c.as_slice.ensures.value c.in_ok-jumps.ensures in
-    tree_is m steps t parents c.in_ok-jumps.jumps.items facts same count value jumps
+    let tops = c.in_ok-roots.ensures ∙ ap without_parent c.as_slice-2.ensures.value in
+    tree_is m steps t parents c.in_ok-jumps.jumps.items c.in_ok-roots.roots.items facts same count value jumps tops
