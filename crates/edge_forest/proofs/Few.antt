@@ -11,8 +11,10 @@ use Rattle.tgap_model.specs.Base.{BaseMap}
 use Rattle.tgap_model.specs.Chains.{Chain}
 use Rattle.tgap_model.proofs.BaseFacts.{base_facts}
 use Rattle.edge_forest.specs.declared.net.Current.{Current}
+use Rattle.edge_forest.specs.declared.face_labels.Sides.{Sides}
 use Rattle.edge_forest.specs.declared.growth.Growth.{Growth}
 use Rattle.edge_forest.specs.Edges.{chains_of, chain_of}
+use Rattle.edge_forest.specs.FaceLabels.{sides_of}
 use Rattle.edge_forest.specs.Rows.{attached, joined_row}
 use Rattle.edge_forest.specs.Net.{row_at}
 use Rattle.edge_forest.specs.Growth.{rows_of, present, is_row_between, relabel_row, row_after, IsFew, IsStored, IsJoinedAt, IsSettled}
@@ -86,17 +88,20 @@ settled_few s g g' touched w few =
       chains_count g'.edges.items,
     )
   where
-    less : (row : Option Current) → one (row_after s row) ≤ one row
+    sides : Sides
+    sides = sides_of g.labels s
+
+    less : (row : Option Current) → one (row_after sides row) ≤ one row
     less None = omega arith
-    less (Some r) = by (is_row_between s r)
+    less (Some r) = by (is_row_between sides r)
       where
-        by : (b : Bool) → one (cond b None (Some (relabel_row s r))) ≤ 1
+        by : (b : Bool) → one (cond b None (Some (relabel_row sides r))) ≤ 1
         by true = omega arith
         by false = omega arith
 
-    fewer : (rows : List (Option Current)) → present (map (row_after s) rows) ≤ present rows
+    fewer : (rows : List (Option Current)) → present (map (row_after sides) rows) ≤ present rows
     fewer [] = omega arith
-    fewer (row ∷ rows) = omega (arith, less row, fewer rows, sum_by-cons one row rows, sum_by-cons one (row_after s row) (map (row_after s) rows))
+    fewer (row ∷ rows) = omega (arith, less row, fewer rows, sum_by-cons one row rows, sum_by-cons one (row_after sides row) (map (row_after sides) rows))
 
 -- at the start each arc is an edge
 pub few_at_start : (arcs : List BaseArc) (edges : List ForestEdge) (rows : List (Option Current)) (n : ℕ) (edge : ℕ → ForestEdge) → edges ≡ map edge (range_with_len 0 n)

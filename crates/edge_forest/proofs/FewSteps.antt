@@ -1,8 +1,8 @@
 -- A history has at most as many steps as faces: a step makes one face of two.
 use Rattle.std.proofs.Common.{◌≡◌, ◌≢◌, ◌⊎◌, inl, inr, ℕ, ◌+◌, ◌-◌, ◌<◌, ◌≤◌, ◌==◌, not, Bool, true, false, cond, List, [], ◌∷◌, filter, map, length, get_or, eq-eqb, ne_eqb, true≢false, refl, sym, ap, ◌∙◌, subst, arith}
 use Rattle.std.specs.Prelude.{Contains, IsTrue}
-use Rattle.std.specs.List.{All, AllByRecursion, list_any, range_with_len}
-use Rattle.std.proofs.lemmas.Bool.{cases_eq, or_cases, and_parts}
+use Rattle.std.specs.List.{All, list_any, range_with_len}
+use Rattle.std.proofs.lemmas.Bool.{cases_eq, and_parts}
 use Rattle.std.proofs.lemmas.List.Elements.{recursion_from_All, All-map, All-weaker, Contains-get_or}
 use Rattle.std.proofs.lemmas.List.Sums.{length-filter, count_by-le-length}
 use Rattle.std.proofs.lemmas.List.FromFn.{length-range_with_len, get_or-range_with_len}
@@ -14,9 +14,10 @@ use Rattle.tgap_model.specs.Base.{BaseMap, is_base}
 use Rattle.tgap_model.specs.History.{relabel, labelled, is_between, relabel_arc, classes_after, history_of, AreSteps, AreNumbered}
 use Rattle.tgap_model.proofs.BaseFacts.{ArcFacts, base_facts, each_arc}
 use Rattle.map_laws.proofs.MergeSteps.{relabel_loser, relabel_winner, relabel_other}
-use Rattle.face_merge.proofs.Neighbours.{is_pair, between_labels}
+use Rattle.face_merge.proofs.Neighbours.{is_pair}
 use Rattle.face_merge.proofs.Start.{history_numbered}
 use Rattle.face_merge.proofs.Steps.{history_is}
+use Rattle.edge_forest.proofs.StepFaces.{faces_between}
 
 -- ---- a list without a number
 
@@ -47,18 +48,6 @@ IsLive live f = 0 < f → Contains live f
 abbrev AreLive : List ℕ → LabelledArc → Type 0
 AreLive live a = IsLive live a.left × IsLive live a.right
 
-any_live : (live : List ℕ) (f g : ℕ) (arcs : List LabelledArc) → AllByRecursion (AreLive live) arcs → list_any (is_between f g) arcs ≡ true → IsLive live f × IsLive live g
-any_live live f g [] all e = absurd cc
-any_live live f g (a ∷ arcs) all e =
-    elim (or_cases (is_between f g a) _ e) [
-      | inl here ↦ at_labels (between_labels f g a.left a.right here)
-      | inr later ↦ any_live live f g arcs all.1 later
-    ]
-  where
-    at_labels : ((a.left ≡ f) × (a.right ≡ g)) ⊎ ((a.left ≡ g) × (a.right ≡ f)) → IsLive live f × IsLive live g
-    at_labels (inl e) = (subst (IsLive live) e.0 all.0.0, subst (IsLive live) e.1 all.0.1)
-    at_labels (inr e) = (subst (IsLive live) e.1 all.0.1, subst (IsLive live) e.0 all.0.0)
-
 -- the faces after a step
 abbrev live_next : MergeStep → List ℕ → List ℕ
 live_next s live = s.made ∷ without s.winner (without s.loser live)
@@ -84,7 +73,7 @@ few_from rules classes arcs (s ∷ steps) n live all numbered p =
   where
     any : IsLive live s.loser × IsLive live s.winner
     any =
-        any_live live s.loser s.winner arcs (recursion_from_All (AreLive live) arcs all)
+        faces_between (IsLive live) s.loser s.winner arcs (recursion_from_All (AreLive live) arcs all)
         (and_parts (is_pair s.loser s.winner) (list_any (is_between s.loser s.winner) arcs) p.0.neighbours).1
 
     loser_live : Contains live s.loser

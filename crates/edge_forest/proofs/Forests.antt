@@ -7,6 +7,7 @@ use Rattle.std.proofs.lemmas.List.Elements.{All-filter}
 use Rattle.lemmas.specs.Sorting.{is_sorted_by}
 use Rattle.lemmas.proofs.Sorting.{All-sort_by, map-is_sorted, sorted_tail}
 use Rattle.tgap_model.specs.declared.geometry.Point.{Point}
+use Rattle.tgap_model.specs.declared.base.BaseArc.{BaseArc}
 use Rattle.tgap_model.specs.Base.{BaseMap}
 use Rattle.tgap_model.specs.History.{history_of}
 use Rattle.tgap_model.specs.Merged.{merged, label_at}
@@ -22,8 +23,12 @@ use Rattle.edge_forest.specs.declared.growth.Growth.{Growth}
 use Rattle.edge_forest.specs.Edges.{edge_at, chains_of, chain_of, is_alive, alive_edges, IsPart}
 use Rattle.edge_forest.specs.Forest.{EdgeForest, never, last_step, AreChains, IsForest}
 use Rattle.edge_forest.specs.Growth.{ended, IsStored, IsAtRest, IsFew}
-use Rattle.edge_forest.specs.Kept.{forest_of, IsKept, closed_edge}
+use Rattle.edge_forest.specs.declared.index.RangeIndex.{RangeIndex}
+use Rattle.edge_forest.specs.declared.spent.Spent.{Spent}
+use Rattle.edge_forest.specs.Index.{IsIndexFor}
+use Rattle.edge_forest.specs.Kept.{forest_of, IsKept, IsWhole, closed_edge}
 use Rattle.edge_forest.specs.Removed.{PointSteps, arc_points, step_of}
+use Rattle.edge_forest.specs.Spent.{AreSpans, AreSpent}
 use Rattle.edge_forest.proofs.Chains.{same_parts}
 use Rattle.edge_forest.proofs.AliveSame.{longer_chains}
 use Rattle.edge_forest.proofs.Few.{few_small}
@@ -129,6 +134,10 @@ module _ (f : EdgeForest) (w : IsForest f) (k : ℕ) (chains : AreChains f k) wh
       leb-true (edge_at edges i).low k (and_parts (nat_le (edge_at edges i).low k) (nat_lt k (edge_at edges i).high)
       (filter_among (λ i. is_alive k (edge_at edges i)) (range_with_len 0 (length edges)) i m)).0))
 
+  -- there are as many as there are chains
+  pub alive_count : length (alive_edges f.edges k) ≡ length (chains_at (merged f.base) k)
+  alive_count = sym (length-map (alive_edges f.edges k) (chain_of f.edges)) ∙ ap length chains
+
   -- they have different keys
   ids_sorted : is_sorted_by (λ i j. nat_lt (edge_at edges i).key (edge_at edges j).key) (alive_edges edges k) ≡ true
   ids_sorted =
@@ -161,7 +170,61 @@ pub step_known : (made : ℕ) (closed : Bool) (g : Growth) (t : PointSteps) → 
 step_known made closed g t w f view done k l =
     omega (arith, l, w.done (ap (λ (f : EdgeForest). f.closed) view ∙ done), ap last_step view)
 
+-- its index is one over steps of which this is one
+pub index_for : (made : ℕ) (closed : Bool) (g : Growth) (t : PointSteps) (index : RangeIndex) (spent : Spent) → IsWhole made closed g t index spent → (f : EdgeForest) → forest_of made closed g t ≡ f
+    → f.closed ≡ true → (k : ℕ) → k ≤ last_step f → IsIndexFor k g.edges.items index
+index_for made closed g t index spent w f view done k l =
+    let shut : closed ≡ true = ap (λ (f : EdgeForest). f.closed) view ∙ done in
+    let is = w.indexed shut in
+    record {
+      last = made;
+      within = step_known made closed g t w.kept f view done k l;
+      few = omega (arith, made_small (forest_of made closed g t) w.kept.forest);
+      is = is;
+      ranges = λ i s. omega (arith, (w.kept.forest.ranges i s).done shut, w.kept.done shut, is.wide);
+    }
+
 -- ---- at the end of the history
+
+-- no edge ends later than at the end of the history, nor before it begins
+pub closed_within : (made : ℕ) (g : Growth) (t : PointSteps) → IsForest (forest_of made false g t) → (i : ℕ) → i < length g.edges.items
+    → ((edge_at (map (closed_edge (made + 1)) g.edges.items) i).low ≤ (edge_at (map (closed_edge (made + 1)) g.edges.items) i).high)
+    × ((edge_at (map (closed_edge (made + 1)) g.edges.items) i).high ≤ made + 1)
+closed_within made g t w i s = rw (get_or-map (closed_edge (made + 1)) g.edges.items i no_edge no_edge s) (by (e.high == never) refl)
+  where
+    no_edge : ForestEdge
+    no_edge = record { key = 0; low = 0; high = 0; left = 0; right = 0; parts = [] }
+
+    e : ForestEdge
+    e = edge_at g.edges.items i
+
+    by : (b : Bool) → (e.high == never) ≡ b → (e.low ≤ cond b (made + 1) e.high) × (cond b (made + 1) e.high ≤ made + 1)
+    by true h = (omega (arith, w.low i s), omega arith)
+    by false h = (
+      (w.ranges i s).order,
+      elim ((w.ranges i s).growing refl) [
+        | inl le ↦ omega (arith, le)
+        | inr n ↦ absurd (true≢false (sym (eq-eqb e.high never n) ∙ h))
+      ],
+    )
+
+-- the edges keep their chains
+closed_chains : (high : ℕ) (es : List ForestEdge) → chains_of (map (closed_edge high) es) ≡ chains_of es
+closed_chains high es = same_parts (map (closed_edge high) es) es (parts es)
+  where
+    parts : (es : List ForestEdge) → map (λ (e : ForestEdge). e.parts) (map (closed_edge high) es) ≡ map (λ (e : ForestEdge). e.parts) es
+    parts [] = refl
+    parts (e ∷ es) = ap (λ ps. e.parts ∷ ps) (parts es)
+
+-- and their spans
+pub closed_spent : (arcs : List BaseArc) (t : PointSteps) (high : ℕ) (es : List ForestEdge) (s : Spent) → AreSpent arcs t es s
+    → AreSpent arcs t (map (closed_edge high) es) s
+closed_spent arcs t high es s w = record {
+  arcs_count = w.arcs_count;
+  edges_count = w.edges_count ∙ sym (length-map es (closed_edge high));
+  arc_steps = w.arc_steps;
+  edge_spans = subst (λ (cs : List Chain). AreSpans arcs t cs s.edges.items) (sym (closed_chains high es)) w.edge_spans;
+}
 
 module _ (made : ℕ) (g g' : Growth) (t : PointSteps) (w : IsForest (forest_of made false g t)) (few : length g.edges.items < 2 ^ 32 - 1) (all : made ≡ length (history_of g.base)) (less : made + 1 < never)
     (base : g'.base ≡ g.base) (edges : g'.edges.items ≡ map (closed_edge (made + 1)) g.edges.items) where
@@ -178,11 +241,7 @@ module _ (made : ℕ) (g g' : Growth) (t : PointSteps) (w : IsForest (forest_of 
   keeps f same i l = ap f (new_is i l) ∙ same (cond ((edge_at old i).high == never) (made + 1) (edge_at old i).high) (edge_at old i)
 
   chains_same : chains_of new ≡ chains_of old
-  chains_same = same_parts new old (parts old)
-    where
-      parts : (es : List ForestEdge) → map (λ (e : ForestEdge). e.parts) (map (closed_edge (made + 1)) es) ≡ map (λ (e : ForestEdge). e.parts) es
-      parts [] = refl
-      parts (e ∷ es) = ap (λ ps. e.parts ∷ ps) (parts es)
+  chains_same = closed_chains (made + 1) old
 
   count : length new ≡ length old
   count = length-map old (closed_edge (made + 1))
@@ -197,21 +256,6 @@ module _ (made : ℕ) (g g' : Growth) (t : PointSteps) (w : IsForest (forest_of 
           lt-ltb k (made + 1) (omega (arith, l))
           ∙ sym (lt-ltb k (edge_at old i).high (omega (arith, l, less, eqb-true (edge_at old i).high never e)))
       by false e = refl
-
-  -- no edge ends later than at the end of the history, nor before it begins
-  high_within : (i : ℕ) → i < length old → ((edge_at new i).low ≤ (edge_at new i).high) × ((edge_at new i).high ≤ made + 1)
-  high_within i s = rw (new_is i s) (by ((edge_at old i).high == never) refl)
-    where
-      by : (b : Bool) → ((edge_at old i).high == never) ≡ b
-          → ((edge_at old i).low ≤ cond b (made + 1) (edge_at old i).high) × (cond b (made + 1) (edge_at old i).high ≤ made + 1)
-      by true e = (omega (arith, w.low i s), omega arith)
-      by false e = (
-        (w.ranges i s).order,
-        elim ((w.ranges i s).growing refl) [
-          | inl le ↦ omega (arith, le)
-          | inr n ↦ absurd (true≢false (sym (eq-eqb (edge_at old i).high never n) ∙ e))
-        ],
-      )
 
   pub closed_forest : IsForest (forest_of made true g' t)
   closed_forest = rw (base, edges) (record {
@@ -238,7 +282,7 @@ module _ (made : ℕ) (g g' : Growth) (t : PointSteps) (w : IsForest (forest_of 
         omega (arith, w.low i s, keeps (λ (e : ForestEdge). e.low) (λ h e. refl) i s);
     ranges = λ i l.
         let s : i < length old = omega (arith, l, count) in
-        let bounds = high_within i s in
+        let bounds = closed_within made g t w i s in
         let limit : (edge_at new i).high ≤ length (history_of g.base) + 1 = omega (arith, bounds.1, all) in
         record {
           order = bounds.0;

@@ -1,7 +1,7 @@
 -- What is stored after a join.
 use Rattle.std.proofs.Common.{◌≡◌, ◌≢◌, ◌⊎◌, inl, inr, ℕ, ◌+◌, ◌<◌, ◌≤◌, ◌&&◌, nat_le, nat_lt, Bool, true, false, not, cond, List, [], ◌∷◌, ◌++◌, length, get_or, set, Option, Some, None, refl, sym, ap, ap₂, ◌∙◌, subst, arith}
 use Rattle.std.specs.List.{All}
-use Rattle.std.proofs.lemmas.Bool.{cases_eq, lt-ltb, lt-leb}
+use Rattle.std.proofs.lemmas.Bool.{cases_eq, cases_lt, lt-ltb, lt-leb}
 use Rattle.std.proofs.lemmas.List.{get_or-set_same, get_or-set_other, get_or_append_left, length-set, append-nil}
 use Rattle.std.proofs.Math.Seq.{get_or-append_seam}
 use Rattle.std.proofs.lemmas.List.Elements.{All-cons, All-nil}
@@ -13,6 +13,7 @@ use Rattle.edge_forest.specs.declared.net.Current.{Current}
 use Rattle.edge_forest.specs.declared.net.Meeting.{Meeting}
 use Rattle.edge_forest.specs.declared.growth.Growth.{Growth}
 use Rattle.edge_forest.specs.Edges.{edge_at, chains_of, chain_of, parts_chain, is_alive, IsPart, IsForestEdge}
+use Rattle.edge_forest.specs.FaceLabels.{face_of}
 use Rattle.edge_forest.specs.Forest.{never}
 use Rattle.edge_forest.specs.Nodes.{places_at}
 use Rattle.edge_forest.specs.Net.{row_at, IsNetOf, IsMeeting}
@@ -22,7 +23,7 @@ use Rattle.edge_forest.proofs.Attached.{attached_longer, new_links, new_key, new
 use Rattle.edge_forest.proofs.Nets.{some_same, none_some, read_within, set_reads}
 use Rattle.edge_forest.proofs.Chains.{set_chains, push_chains, chains_count}
 use Rattle.edge_forest.proofs.AliveSame.{IsLonger, longer_chains}
-use Rattle.edge_forest.specs.Continued.{AreContinued}
+use Rattle.edge_forest.specs.Continued.{AreContinued, IsJoinedPart, AreJoined}
 use Rattle.edge_forest.proofs.Continued.{continued}
 
 -- the chain of the parts is the attached chain
@@ -83,7 +84,7 @@ module _ (k : ℕ) (g : Growth) (w : IsStored k g) (places : List ℕ) (m : Meet
   twice = set once m.other.id (ended k (edge_at once m.other.id))
 
   abbrev new_edge : ForestEdge
-  new_edge = record { key = m.key; low = k; high = never; left = m.one.left; right = m.one.right; parts = meeting_parts m }
+  new_edge = record { key = m.key; low = k; high = never; left = face_of g.labels m.one.left; right = face_of g.labels m.one.right; parts = meeting_parts m }
 
   abbrev new : List ForestEdge
   new = twice ++ new_edge ∷ []
@@ -133,7 +134,7 @@ module _ (k : ℕ) (g : Growth) (w : IsStored k g) (places : List ℕ) (m : Meet
 
   pub new_chains : chains_of (set (set g.edges.items m.one.id (ended k (edge_at g.edges.items m.one.id))) m.other.id
       (ended k (edge_at (set g.edges.items m.one.id (ended k (edge_at g.edges.items m.one.id))) m.other.id))
-      ++ record { key = m.key; low = k; high = never; left = m.one.left; right = m.one.right; parts = meeting_parts m } ∷ [])
+      ++ record { key = m.key; low = k; high = never; left = face_of g.labels m.one.left; right = face_of g.labels m.one.right; parts = meeting_parts m } ∷ [])
       ≡ chains_of g.edges.items ++ attached m.one_ends m.other_ends (chain_of g.edges.items m.one.id) (chain_of g.edges.items m.other.id) ∷ []
   new_chains =
       push_chains twice new_edge
@@ -363,12 +364,12 @@ module _ (k : ℕ) (g : Growth) (w : IsStored k g) (places : List ℕ) (m : Meet
     | inr u ↦ row_stays (chains_of old) (joined ∷ []) i r (w.rows i r u.2)
   ])
 
-  new_labels : (i : ℕ) (r : Current) → row_at new_rows i ≡ Some r → IsLabelled (merged g.base) k g.faces.items i r
+  new_labels : (i : ℕ) (r : Current) → row_at new_rows i ≡ Some r → IsLabelled (merged g.base) k g.labels g.keys.items i r
   new_labels i r e = elim (row_cases i r e) [
     | inl u ↦
         let o = w.labels m.key m.one t.one in
-        let labels : IsLabelled (merged g.base) k g.faces.items m.key row = record { left = o.left; right = o.right; left_listed = o.left_listed; right_listed = o.right_listed } in
-        subst (λ (j : ℕ). IsLabelled (merged g.base) k g.faces.items j r) (sym u.0) (subst (IsLabelled (merged g.base) k g.faces.items m.key) u.1 labels)
+        let labels : IsLabelled (merged g.base) k g.labels g.keys.items m.key row = record { left = o.left; right = o.right; left_current = o.left_current; right_current = o.right_current; left_listed = o.left_listed; right_listed = o.right_listed } in
+        subst (λ (j : ℕ). IsLabelled (merged g.base) k g.labels g.keys.items j r) (sym u.0) (subst (IsLabelled (merged g.base) k g.labels g.keys.items m.key) u.1 labels)
     | inr u ↦ w.labels i r u.2
   ]
 
@@ -377,8 +378,8 @@ module _ (k : ℕ) (g : Growth) (w : IsStored k g) (places : List ℕ) (m : Meet
       → IsNetOf g.nodes rows' ends counts
       → edges' ≡ set (set g.edges.items m.one.id (ended k (edge_at g.edges.items m.one.id))) m.other.id
       (ended k (edge_at (set g.edges.items m.one.id (ended k (edge_at g.edges.items m.one.id))) m.other.id))
-      ++ record { key = m.key; low = k; high = never; left = m.one.left; right = m.one.right; parts = meeting_parts m } ∷ []
-      → IsStoredOf k g.base g.nodes rows' ends counts g.faces.items edges'
+      ++ record { key = m.key; low = k; high = never; left = face_of g.labels m.one.left; right = face_of g.labels m.one.right; parts = meeting_parts m } ∷ []
+      → IsStoredOf k g.base g.nodes rows' ends counts g.keys.items g.labels edges'
   join_stored ends counts rows' edges' er net ee = rw (er, ee) (record {
     base = w.base;
     partition = w.partition;
@@ -415,6 +416,10 @@ module _ (k : ℕ) (g : Growth) (w : IsStored k g) (places : List ℕ) (m : Meet
     past = λ j l. longer_chains j old new (longer j l) ∙ w.past j l;
   })
 
+  -- the labels of the first are labels
+  pub labels_there : (m.one.left < length g.labels.faces.items) × (m.one.right < length g.labels.faces.items)
+  labels_there = let labels = w.labels m.key m.one t.one in (labels.left_current.label, labels.right_current.label)
+
   -- the second is there too when the first has ended
   pub other_there_once : (edges : List ForestEdge) → edges ≡ set g.edges.items m.one.id (ended k (edge_at g.edges.items m.one.id)) → m.other.id < length edges
   other_there_once edges e = omega (arith, ap length e, once_length, of_other.id)
@@ -424,7 +429,7 @@ module _ (k : ℕ) (g : Growth) (w : IsStored k g) (places : List ℕ) (m : Meet
       → g'.net.rows.items ≡ set (set (set g.net.rows.items m.key None) m.other_key None) m.key (Some (joined_row m.one_ends m.other_ends (length g.edges.items) m.one m.other))
       → g'.edges.items ≡ set (set g.edges.items m.one.id (ended k (edge_at g.edges.items m.one.id))) m.other.id
       (ended k (edge_at (set g.edges.items m.one.id (ended k (edge_at g.edges.items m.one.id))) m.other.id))
-      ++ record { key = m.key; low = k; high = never; left = m.one.left; right = m.one.right; parts = meeting_parts m } ∷ []
+      ++ record { key = m.key; low = k; high = never; left = face_of g.labels m.one.left; right = face_of g.labels m.one.right; parts = meeting_parts m } ∷ []
       → IsJoinedAt g n g'
   joined_at g' n at eb en er ee = record {
     base = eb;
@@ -438,19 +443,19 @@ module _ (k : ℕ) (g : Growth) (w : IsStored k g) (places : List ℕ) (m : Meet
       → rows' ≡ set (set (set g.net.rows.items m.key None) m.other_key None) m.key (Some (joined_row m.one_ends m.other_ends (length g.edges.items) m.one m.other))
   rows_by id rows' e r = rw (sym e) r
 
-  pub edges_by : (one two three : List ForestEdge) (parts : List Part) → one ≡ set g.edges.items m.one.id (ended k (edge_at g.edges.items m.one.id))
+  pub edges_by : (one two three : List ForestEdge) (left right : ℕ) (parts : List Part) → left ≡ face_of g.labels m.one.left → right ≡ face_of g.labels m.one.right → one ≡ set g.edges.items m.one.id (ended k (edge_at g.edges.items m.one.id))
       → two ≡ set one m.other.id (ended k (edge_at one m.other.id)) → parts ≡ meeting_parts m
-      → three ≡ two ++ record { key = m.key; low = k; high = never; left = m.one.left; right = m.one.right; parts = parts } ∷ []
+      → three ≡ two ++ record { key = m.key; low = k; high = never; left = left; right = right; parts = parts } ∷ []
       → three ≡ set (set g.edges.items m.one.id (ended k (edge_at g.edges.items m.one.id))) m.other.id
       (ended k (edge_at (set g.edges.items m.one.id (ended k (edge_at g.edges.items m.one.id))) m.other.id))
-      ++ record { key = m.key; low = k; high = never; left = m.one.left; right = m.one.right; parts = meeting_parts m } ∷ []
-  edges_by one two three parts e1 e2 ep e3 = rw (sym e1, sym e2, sym ep) e3
+      ++ record { key = m.key; low = k; high = never; left = face_of g.labels m.one.left; right = face_of g.labels m.one.right; parts = meeting_parts m } ∷ []
+  edges_by one two three left right parts el er e1 e2 ep e3 = rw (sym el, sym er, sym e1, sym e2, sym ep) e3
 
   -- the edges go on
   pub join_continued : (edges' : List ForestEdge)
       → edges' ≡ set (set g.edges.items m.one.id (ended k (edge_at g.edges.items m.one.id))) m.other.id
       (ended k (edge_at (set g.edges.items m.one.id (ended k (edge_at g.edges.items m.one.id))) m.other.id))
-      ++ record { key = m.key; low = k; high = never; left = m.one.left; right = m.one.right; parts = meeting_parts m } ∷ []
+      ++ record { key = m.key; low = k; high = never; left = face_of g.labels m.one.left; right = face_of g.labels m.one.right; parts = meeting_parts m } ∷ []
       → AreContinued g.edges.items edges'
   join_continued edges' e = rw e (record {
     count = omega (arith, new_length);
@@ -465,3 +470,41 @@ module _ (k : ℕ) (g : Growth) (w : IsStored k g) (places : List ℕ) (m : Meet
       | inr u ↦ inl u.2
     ]) (old_chain i l);
   })
+
+  -- an edge that had not ended before the step ends at it at the earliest
+  high_kept : (i : ℕ) → i < length old → k ≤ (edge_at old i).high → k ≤ (edge_at new i).high
+  high_kept i l h = elim (kept i l) [
+    | inl u ↦ omega (arith, ap (λ (e : ForestEdge). e.high) u.1)
+    | inr u ↦ omega (arith, h, ap (λ (e : ForestEdge). e.high) u.2)
+  ]
+
+  high_joined : (i : ℕ) → i < length old → (edge_at old i).high ≡ never → k ≤ (edge_at new i).high
+  high_joined i l h = high_kept i l (omega (arith, h, less))
+
+  joined_parts : (first : ℕ) → All (IsJoinedPart k first new) (meeting_parts m)
+  joined_parts first = by m.one_ends
+    where
+      one : (turned : Bool) → IsJoinedPart k first new (edge_part m.one turned)
+      one turned = record { edge = refl; there = λ q. high_joined a of_one.id of_one.high }
+
+      other : (turned : Bool) → IsJoinedPart k first new (edge_part m.other turned)
+      other turned = record { edge = refl; there = λ q. high_joined b of_other.id of_other.high }
+
+      by : (e : Bool) → All (IsJoinedPart k first new) (cond e (edge_part m.one false ∷ edge_part m.other m.other_ends ∷ []) (edge_part m.other (not m.other_ends) ∷ edge_part m.one false ∷ []))
+      by true = All-cons (IsJoinedPart k first new) (edge_part m.one false) (edge_part m.other m.other_ends ∷ []) (one false)
+          (All-cons (IsJoinedPart k first new) (edge_part m.other m.other_ends) [] (other m.other_ends) (All-nil (IsJoinedPart k first new)))
+      by false = All-cons (IsJoinedPart k first new) (edge_part m.other (not m.other_ends)) (edge_part m.one false ∷ []) (other (not m.other_ends))
+          (All-cons (IsJoinedPart k first new) (edge_part m.one false) [] (one false) (All-nil (IsJoinedPart k first new)))
+
+  -- the parts of the edges that the step made are edges that had not ended before it
+  pub join_joined : (edges' : List ForestEdge)
+      → edges' ≡ set (set g.edges.items m.one.id (ended k (edge_at g.edges.items m.one.id))) m.other.id
+      (ended k (edge_at (set g.edges.items m.one.id (ended k (edge_at g.edges.items m.one.id))) m.other.id))
+      ++ record { key = m.key; low = k; high = never; left = face_of g.labels m.one.left; right = face_of g.labels m.one.right; parts = meeting_parts m } ∷ []
+      → (first : ℕ) → first ≤ length g.edges.items → AreJoined k first g.edges.items → AreJoined k first edges'
+  join_joined edges' e first few before = rw e (λ i ge l. elim (cases_lt i (length old)) [
+    | inl s ↦ subst (All (IsJoinedPart k first new)) (sym (keeps (λ (e : ForestEdge). e.parts) (λ e. refl) i s)) (λ n d q.
+        let p = before i ge s n d q in
+        record { edge = p.edge; there = λ q. high_kept (get_or (edge_at old i).parts n d).id (omega (arith, q, few)) (p.there q) })
+    | inr z ↦ subst (All (IsJoinedPart k first new)) (sym (ap (λ (e : ForestEdge). e.parts) (last_is i (omega (arith, l, z, new_length))))) (joined_parts first)
+  ])

@@ -9,7 +9,15 @@ mod Tables
 pub mod Walks
 pub mod WalkedArcs
 pub mod Reversed
+pub mod BareChains
+pub mod PartSpans
+pub mod LeftWalks
 mod AliveNumbers
+mod Times
+mod PathCounts
+mod Listing
+mod OnPath
+mod OnWay
 mod Chains
 pub mod AliveSame
 mod NodeJoins
@@ -17,9 +25,12 @@ mod JoinStored
 mod Limits
 mod Counting
 mod InTurn
+mod KeyLists
+pub mod LabelSteps
 mod SettledKeys
 mod EndedEdges
 mod Continued
+mod StepFaces
 mod FewSteps
 mod Settled
 mod Touched
@@ -32,6 +43,5 @@ mod StepJoints
 mod StartJoints
 mod Steps
 mod Few
-mod Beside
 pub mod Forests
 pub mod RemovedPoints

@@ -1,5 +1,5 @@
 -- When all joints are joined, the edges that have not ended are the chains, and so are those whose range holds the step.
-use Rattle.std.proofs.Common.{◌≡◌, ◌⊎◌, inl, inr, ℕ, zero, suc, ◌+◌, ◌<◌, ◌≤◌, ◌||◌, nat_le, nat_lt, Bool, true, cond, List, [], ◌∷◌, map, filter, flat_map, length, get_or, Option, Some, None, refl, sym, ap, ap₂, ◌∙◌, subst, arith}
+use Rattle.std.proofs.Common.{◌≡◌, ◌⊎◌, inl, inr, ℕ, zero, suc, ◌+◌, ◌<◌, ◌≤◌, ◌||◌, nat_le, nat_lt, Bool, true, cond, List, [], ◌∷◌, map, filter, length, get_or, Option, Some, None, refl, sym, ap, ap₂, ◌∙◌, subst, arith}
 use Rattle.std.specs.List.{range_with_len}
 use Rattle.std.proofs.lemmas.Bool.{and_from, and_parts, or_left, or_right, cases_order, lt-ltb, le-leb, ltb-true}
 use Rattle.lemmas.specs.Sorting.{sort_by, is_sorted_by, is_before_first}
@@ -15,7 +15,7 @@ use Rattle.edge_forest.specs.declared.net.Current.{Current}
 use Rattle.edge_forest.specs.declared.growth.Growth.{Growth}
 use Rattle.edge_forest.specs.Edges.{edge_at, chains_of, chain_of, is_alive, alive_edges}
 use Rattle.edge_forest.specs.Forest.{never}
-use Rattle.edge_forest.specs.Net.{row_at}
+use Rattle.edge_forest.specs.Net.{row_at, numbers_of}
 use Rattle.edge_forest.specs.Family.{family}
 use Rattle.edge_forest.specs.Growth.{rows_of, IsStored, IsAtRest}
 use Rattle.edge_forest.specs.Growth as stored
@@ -55,22 +55,18 @@ module _ (chains : List Chain) where
       (ap (λ (b : Bool). cond b (get_or chains r.id []) (turned_round (get_or chains r.id []))) (w 0 r refl).1)
       (family_directed (a + 1) rows (rest_from a (Some r) rows w))
 
-  -- the numbers of the edges, in the order of keys
-  abbrev numbers : List (Option Current) → List ℕ
-  numbers rows = flat_map (λ (row : Option Current). elim row [ None ↦ [] | Some r ↦ r.id ∷ [] ]) rows
-
-  numbers_chains : (rows : List (Option Current)) → map (λ i. get_or chains i []) (numbers rows) ≡ family chains rows
+  numbers_chains : (rows : List (Option Current)) → map (λ i. get_or chains i []) (numbers_of rows) ≡ family chains rows
   numbers_chains [] = refl
   numbers_chains (None ∷ rows) = numbers_chains rows
   numbers_chains (Some r ∷ rows) = ap (λ (cs : List Chain). get_or chains r.id [] ∷ cs) (numbers_chains rows)
 
-  number_of : (rows : List (Option Current)) (i : ℕ) → Among i (numbers rows) → (j : ℕ) × (r : Current) × (row_at rows j ≡ Some r) × (r.id ≡ i)
+  number_of : (rows : List (Option Current)) (i : ℕ) → Among i (numbers_of rows) → (j : ℕ) × (r : Current) × (row_at rows j ≡ Some r) × (r.id ≡ i)
   number_of [] i m = absurd m
   number_of (None ∷ rows) i m = let o = number_of rows i m in (suc o.0, o.1, o.2, o.3)
   number_of (Some r ∷ rows) i (inl e) = (0, r, refl, e)
   number_of (Some r ∷ rows) i (inr m) = let o = number_of rows i m in (suc o.0, o.1, o.2, o.3)
 
-  of_number : (rows : List (Option Current)) (j : ℕ) (r : Current) → row_at rows j ≡ Some r → Among r.id (numbers rows)
+  of_number : (rows : List (Option Current)) (j : ℕ) (r : Current) → row_at rows j ≡ Some r → Among r.id (numbers_of rows)
   of_number [] j r e = absurd cc
   of_number (None ∷ rows) zero r e = absurd cc
   of_number (None ∷ rows) (suc j) r e = of_number rows j r e
@@ -84,14 +80,14 @@ module _ (chains : List Chain) where
 -- keys ascend along the numbers
 numbers_sorted : (edges : List ForestEdge) (a : ℕ) (rows : List (Option Current))
     → ((j : ℕ) (r : Current) → row_at rows j ≡ Some r → (edge_at edges r.id).key ≡ a + j)
-    → (is_sorted_by (λ i j. nat_lt (edge_at edges i).key (edge_at edges j).key) (numbers [] rows) ≡ true)
-    × ((i : ℕ) → Among i (numbers [] rows) → a ≤ (edge_at edges i).key)
+    → (is_sorted_by (λ i j. nat_lt (edge_at edges i).key (edge_at edges j).key) (numbers_of rows) ≡ true)
+    × ((i : ℕ) → Among i (numbers_of rows) → a ≤ (edge_at edges i).key)
 numbers_sorted edges a [] w = (refl, λ i m. absurd m)
 numbers_sorted edges a (None ∷ rows) w =
     let r = numbers_sorted edges (a + 1) rows (λ j r e. omega (arith, w (suc j) r e)) in (r.0, λ i m. omega (arith, r.1 i m))
 numbers_sorted edges a (Some r ∷ rows) w =
     let u = numbers_sorted edges (a + 1) rows (λ j r e. omega (arith, w (suc j) r e)) in (
-      and_from _ _ (first (numbers [] rows) u.1) u.0,
+      and_from _ _ (first (numbers_of rows) u.1) u.0,
       (λ i m. elim m [ inl e ↦ omega (arith, w 0 r refl, ap (λ (n : ℕ). (edge_at edges n).key) e) | inr n ↦ omega (arith, u.1 i n) ]),
     )
   where
@@ -123,31 +119,21 @@ some_order m n ne = elim (cases_order m n) [
   | inr o ↦ elim o [ inl l ↦ or_left (nat_lt m n) (nat_lt n m) (lt-ltb m n l) | inr l ↦ or_right (nat_lt m n) (nat_lt n m) (lt-ltb n m l) ]
 ]
 
--- ---- after all joins
+-- ---- the edges that have not ended
 
-module _ (k : ℕ) (g : Growth) (w : IsStored k g) (less : k < never)
-    (a : AreJoined (merged g.base) k (λ q. degree (merged g.base) k q ≡ 2) (stored.family_of g)) where
+module _ (k : ℕ) (g : Growth) (w : IsStored k g) (less : k < never) where
   abbrev edges : List ForestEdge
   edges = g.edges.items
 
   abbrev rows : List (Option Current)
   rows = rows_of g
 
-  from_rows : (j : ℕ) (r : Current) → row_at rows j ≡ Some r → (key (get_or (chains_of edges) r.id []) ≡ 0 + j) × (is_directed (get_or (chains_of edges) r.id []) ≡ true)
-  from_rows j r e = let u = w.rows j r e in (omega (arith, u.key), u.directed)
-
-  pub rest_chains : stored.family_of g ≡ chains_at (merged g.base) k
-  rest_chains =
-      sym (ap (sort_by (λ c d. nat_lt (key c) (key d))) (family_directed (chains_of edges) 0 rows from_rows)
-      ∙ sort_by-sorted (λ c d. nat_lt (key c) (key d)) (stored.family_of g) (family_sorted (chains_of edges) 0 rows from_rows))
-      ∙ chains_are (merged g.base) k _ (joined_are_chains (merged g.base) k (stored.family_of g) a)
-
   alive_is : (i : ℕ) → i < length edges → (edge_at edges i).high ≡ never → is_alive k (edge_at edges i) ≡ true
   alive_is i l e =
       and_from (nat_le (edge_at edges i).low k) (nat_lt k (edge_at edges i).high) (le-leb (edge_at edges i).low k (w.low i l))
       (lt-ltb k (edge_at edges i).high (omega (arith, e, less)))
 
-  listed_alive : (i : ℕ) → Among i (numbers [] rows) → Among i (alive_edges edges k)
+  listed_alive : (i : ℕ) → Among i (numbers_of rows) → Among i (alive_edges edges k)
   listed_alive i m =
       let o = number_of [] rows i m in
       let e = w.of_edges o.0 o.1 o.2 in
@@ -156,7 +142,7 @@ module _ (k : ℕ) (g : Growth) (w : IsStored k g) (less : k < never)
       (among_kept (λ i. is_alive k (edge_at edges i)) (range_with_len 0 (length edges)) i (among_in_range 0 (length edges) i (omega arith) (omega (arith, inside)))
       (alive_is i inside (ap (λ (n : ℕ). (edge_at edges n).high) (sym o.3) ∙ e.high)))
 
-  alive_listed : (i : ℕ) → Among i (alive_edges edges k) → Among i (numbers [] rows)
+  alive_listed : (i : ℕ) → Among i (alive_edges edges k) → Among i (numbers_of rows)
   alive_listed i m =
       let n = sort_among (λ i j. nat_lt (edge_at edges i).key (edge_at edges j).key) (filter (λ i. is_alive k (edge_at edges i)) (range_with_len 0 (length edges))) i m in
       let inside : i < length edges = omega (arith, (among_range 0 (length edges) i (kept_among (λ i. is_alive k (edge_at edges i)) (range_with_len 0 (length edges)) i n)).1) in
@@ -166,7 +152,7 @@ module _ (k : ℕ) (g : Growth) (w : IsStored k g) (less : k < never)
         | inr h ↦ h
       ] in
       let r = w.of_rows i inside high in
-      subst (λ (j : ℕ). Among j (numbers [] rows)) r.2 (of_number [] rows (edge_at edges i).key r.0 r.1)
+      subst (λ (j : ℕ). Among j (numbers_of rows)) r.2 (of_number [] rows (edge_at edges i).key r.0 r.1)
 
   -- the row of an edge that is alive
   alive_row : (i : ℕ) → Among i (filter (λ i. is_alive k (edge_at edges i)) (range_with_len 0 (length edges)))
@@ -193,12 +179,29 @@ module _ (k : ℕ) (g : Growth) (w : IsStored k g) (less : k < never)
       (λ i j m n l. some_order (edge_at edges i).key (edge_at edges j).key (λ e. absurd (omega (arith, l, alive_differ i j m n e))))
       (pairs_kept (λ (i j : ℕ). i < j) (λ i. is_alive k (edge_at edges i)) (range_with_len 0 (length edges)) (range_ascends 0 (length edges))))
 
+  -- they are the edges whose range holds the step
+  pub present_are_alive : numbers_of (rows_of g) ≡ alive_edges g.edges.items k
+  present_are_alive =
+      sym (sorted_same (λ i. (edge_at edges i).key) (alive_edges edges k) (numbers_of rows) alive_sorted
+      (numbers_sorted edges 0 rows (λ j r e. omega (arith, (w.of_edges j r e).key))).0 alive_listed listed_alive)
+
+-- ---- after all joins
+
+module _ (k : ℕ) (g : Growth) (w : IsStored k g) (less : k < never)
+    (a : AreJoined (merged g.base) k (λ q. degree (merged g.base) k q ≡ 2) (stored.family_of g)) where
+  from_rows : (j : ℕ) (r : Current) → row_at (rows_of g) j ≡ Some r
+      → (key (get_or (chains_of g.edges.items) r.id []) ≡ 0 + j) × (is_directed (get_or (chains_of g.edges.items) r.id []) ≡ true)
+  from_rows j r e = let u = w.rows j r e in (omega (arith, u.key), u.directed)
+
+  pub rest_chains : stored.family_of g ≡ chains_at (merged g.base) k
+  rest_chains =
+      sym (ap (sort_by (λ c d. nat_lt (key c) (key d))) (family_directed (chains_of g.edges.items) 0 (rows_of g) from_rows)
+      ∙ sort_by-sorted (λ c d. nat_lt (key c) (key d)) (stored.family_of g) (family_sorted (chains_of g.edges.items) 0 (rows_of g) from_rows))
+      ∙ chains_are (merged g.base) k _ (joined_are_chains (merged g.base) k (stored.family_of g) a)
+
   pub rest_alive : map (chain_of g.edges.items) (alive_edges g.edges.items k) ≡ chains_at (merged g.base) k
   rest_alive =
-      ap (map (chain_of edges)) (sorted_same (λ i. (edge_at edges i).key) (alive_edges edges k) (numbers [] rows) alive_sorted
-      (numbers_sorted edges 0 rows (λ j r e. omega (arith, (w.of_edges j r e).key))).0 alive_listed listed_alive)
-      ∙ numbers_chains (chains_of edges) rows
-      ∙ rest_chains
+      ap (map (chain_of g.edges.items)) (sym (present_are_alive k g w less)) ∙ numbers_chains (chains_of g.edges.items) (rows_of g) ∙ rest_chains
 
   pub at_rest : IsAtRest k g
   at_rest = record { stored = w; chains = rest_chains; alive = rest_alive }

@@ -1,5 +1,5 @@
 -- One key of a step is visited.
-use Rattle.std.proofs.Common.{◌≡◌, ◌≢◌, ◌⊎◌, inl, inr, ℕ, ◌+◌, ◌*◌, ◌<◌, ◌≤◌, ◌==◌, ◌||◌, Bool, true, false, cond, List, [], ◌∷◌, ◌++◌, length, take, get_or, set, Option, Some, None, refl, sym, ap, ap₂, ◌∙◌, subst, true≢false, ne_eqb, add-one, arith}
+use Rattle.std.proofs.Common.{◌≡◌, ◌≢◌, ◌⊎◌, inl, inr, ℕ, ◌+◌, ◌*◌, ◌<◌, ◌≤◌, ◌==◌, ◌&&◌, ◌||◌, Bool, true, false, cond, List, [], ◌∷◌, ◌++◌, length, take, get_or, set, Option, Some, None, refl, sym, ap, ap₂, ◌∙◌, subst, true≢false, eq-eqb, ne_eqb, add-one, arith}
 use Rattle.std.specs.Prelude.{Contains, count_by}
 use Rattle.std.proofs.Math.Seq.{take-suc}
 use Rattle.std.proofs.lemmas.Bool.{cases_eq, cases_lt}
@@ -9,18 +9,17 @@ use Rattle.std.proofs.lemmas.List.{get_or-set_same, get_or-set_other, get_or_pas
 use Rattle.std.proofs.lemmas.List.Elements.{Contains-push_cases, Contains-append_left, Contains-append_right, Contains-append_cases}
 use Rattle.std.proofs.lemmas.List.Sums.{sum_by-set, sum_by-take-le, count_by_more_no, count_by_more_yes}
 use Rattle.lemmas.proofs.Members.{in_head, in_tail, in_cases, in_none}
-use Rattle.tgap_model.specs.declared.merge.MergeStep.{MergeStep}
-use Rattle.tgap_model.specs.History.{relabel}
-use Rattle.map_laws.proofs.MergeSteps.{relabel_other}
 use Rattle.edge_forest.specs.declared.edge.ForestEdge.{ForestEdge}
 use Rattle.edge_forest.specs.declared.nodes.Nodes.{Nodes}
 use Rattle.edge_forest.specs.declared.net.Current.{Current}
+use Rattle.edge_forest.specs.declared.face_labels.Sides.{Sides}
 use Rattle.edge_forest.specs.declared.growth.Growth.{Growth}
 use Rattle.edge_forest.specs.Edges.{edge_at}
+use Rattle.edge_forest.specs.FaceLabels.{moved_label}
 use Rattle.edge_forest.specs.Forest.{never}
 use Rattle.edge_forest.specs.Nodes.{node_at}
 use Rattle.edge_forest.specs.Net.{row_at, key_at, row_ends, HasEnd, IsNetOf}
-use Rattle.edge_forest.specs.Growth.{rows_of, ended, is_row_between, relabel_row, row_after, IsTouched, IsOfEdge}
+use Rattle.edge_forest.specs.Growth.{rows_of, ended, is_row_between, relabel_row, row_after, IsEndBetween, IsOfEdge}
 use Rattle.edge_forest.specs.Settle.{edges_after, nodes_after, is_ending, IsSettling}
 
 -- ---- lists of options
@@ -93,129 +92,153 @@ module _ (nodes : Nodes) (rows : List (Option Current)) (ends : List (Option ℕ
 
 -- ---- a row after the step
 
-module _ (s : MergeStep) (new : (s.made ≢ s.loser) × (s.made ≢ s.winner)) where
-  -- no label is the loser or the winner then
-  label_free : (loser winner made f : ℕ) → made ≢ loser → made ≢ winner
-      → (cond ((f == loser) || (f == winner)) made f ≢ loser) × (cond ((f == loser) || (f == winner)) made f ≢ winner)
-  label_free loser winner made f p q = (λ e. grind (arith, nat_tests), λ e. grind (arith, nat_tests))
+-- a label that is not the loser's stays
+pub moved_other : (sides : Sides) (l : ℕ) → l ≢ sides.loser → moved_label sides l ≡ l
+moved_other sides l ne = ap (λ (b : Bool). cond b sides.winner l) (ne_eqb l sides.loser ne)
 
-  pub relabel_free : (f : ℕ) → (relabel s f ≢ s.loser) × (relabel s f ≢ s.winner)
-  relabel_free f = label_free s.loser s.winner s.made f new.0 new.1
+pub moved_loser : (sides : Sides) (l : ℕ) → l ≡ sides.loser → moved_label sides l ≡ sides.winner
+moved_loser sides l e = ap (λ (b : Bool). cond b sides.winner l) (eq-eqb l sides.loser e)
 
-  relabel_twice : (f : ℕ) → relabel s (relabel s f) ≡ relabel s f
-  relabel_twice f = let free = relabel_free f in relabel_other s (relabel s f) free.0 free.1
+-- a row without the loser's label is not between loser and winner
+pub not_between : (sides : Sides) (r : Current) → r.left ≢ sides.loser → r.right ≢ sides.loser → is_row_between sides r ≡ false
+not_between sides r left right =
+    neither (r.left == sides.loser) (r.right == sides.winner) (r.left == sides.winner) (r.right == sides.loser) (ne_eqb r.left sides.loser left) (ne_eqb r.right sides.loser right)
+  where
+    neither : (a b c d : Bool) → a ≡ false → d ≡ false → ((a && b) || (c && d)) ≡ false
+    neither true b c d p q = absurd cc
+    neither false b true true p q = absurd cc
+    neither false b true false p q = refl
+    neither false b false d p q = refl
+
+-- and is not changed
+pub row_unchanged : (sides : Sides) (r : Current) → r.left ≢ sides.loser → r.right ≢ sides.loser → row_after sides (Some r) ≡ Some r
+row_unchanged sides r left right =
+    ap (λ (b : Bool). cond b None (Some (relabel_row sides r))) (not_between sides r left right)
+    ∙ ap₂ with_labels (moved_other sides r.left left) (moved_other sides r.right right)
+  where
+    with_labels : ℕ → ℕ → Option Current
+    with_labels f g = Some (record { id = r.id; first = r.first; last = r.last; left = f; right = g })
+
+module _ (sides : Sides) (differ : sides.winner ≢ sides.loser) where
+  -- no label is that of the loser then
+  label_free : (loser winner l : ℕ) → winner ≢ loser → cond (l == loser) winner l ≢ loser
+  label_free loser winner l ne = λ e. grind (arith, nat_tests)
+
+  pub moved_free : (l : ℕ) → moved_label sides l ≢ sides.loser
+  moved_free l = label_free sides.loser sides.winner l differ
+
+  moved_twice : (l : ℕ) → moved_label sides (moved_label sides l) ≡ moved_label sides l
+  moved_twice l = moved_other sides (moved_label sides l) (moved_free l)
 
   -- and so no row is between them
-  pub relabelled_apart : (r : Current) → is_row_between s (relabel_row s r) ≡ false
-  relabelled_apart r =
-      let left = relabel_free r.left in
-      rw (ne_eqb (relabel s r.left) s.loser left.0, ne_eqb (relabel s r.left) s.winner left.1) refl
+  pub relabelled_apart : (r : Current) → is_row_between sides (relabel_row sides r) ≡ false
+  relabelled_apart r = not_between sides (relabel_row sides r) (moved_free r.left) (moved_free r.right)
 
-  relabel_row_twice : (r : Current) → relabel_row s (relabel_row s r) ≡ relabel_row s r
+  relabel_row_twice : (r : Current) → relabel_row sides (relabel_row sides r) ≡ relabel_row sides r
   relabel_row_twice r =
-      ap₂ with_labels (relabel_twice r.left) (relabel_twice r.right)
+      ap₂ with_labels (moved_twice r.left) (moved_twice r.right)
     where
       with_labels : ℕ → ℕ → Current
       with_labels f g = record { id = r.id; first = r.first; last = r.last; left = f; right = g }
 
-  pub row_after_twice : (x : Option Current) → row_after s (row_after s x) ≡ row_after s x
+  pub row_after_twice : (x : Option Current) → row_after sides (row_after sides x) ≡ row_after sides x
   row_after_twice None = refl
-  row_after_twice (Some r) = by (is_row_between s r)
+  row_after_twice (Some r) = by (is_row_between sides r)
     where
-      by : (b : Bool) → row_after s (cond b None (Some (relabel_row s r))) ≡ cond b None (Some (relabel_row s r))
+      by : (b : Bool) → row_after sides (cond b None (Some (relabel_row sides r))) ≡ cond b None (Some (relabel_row sides r))
       by true = refl
       by false =
-          ap (λ (b : Bool). cond b None (Some (relabel_row s (relabel_row s r)))) (relabelled_apart r)
+          ap (λ (b : Bool). cond b None (Some (relabel_row sides (relabel_row sides r)))) (relabelled_apart r)
           ∙ ap (λ (t : Current). Some t) (relabel_row_twice r)
 
 -- a row after the step has the number and the ends of the one before
-pub row_before : (s : MergeStep) (x : Option Current) (r : Current) → row_after s x ≡ Some r
-    → (q : Current) × (x ≡ Some q) × (is_row_between s q ≡ false) × (relabel_row s q ≡ r)
-row_before s None r e = absurd (none-some _ e)
-row_before s (Some q) r e = by (is_row_between s q) refl e
+pub row_before : (sides : Sides) (x : Option Current) (r : Current) → row_after sides x ≡ Some r
+    → (q : Current) × (x ≡ Some q) × (is_row_between sides q ≡ false) × (relabel_row sides q ≡ r)
+row_before sides None r e = absurd (none-some _ e)
+row_before sides (Some q) r e = by (is_row_between sides q) refl e
   where
-    by : (b : Bool) → is_row_between s q ≡ b → cond b None (Some (relabel_row s q)) ≡ Some r
-        → (p : Current) × (Some q ≡ Some p) × (is_row_between s p ≡ false) × (relabel_row s p ≡ r)
+    by : (b : Bool) → is_row_between sides q ≡ b → cond b None (Some (relabel_row sides q)) ≡ Some r
+        → (p : Current) × (Some q ≡ Some p) × (is_row_between sides p ≡ false) × (relabel_row sides p ≡ r)
     by true t e = absurd (none-some _ e)
     by false t e = (q, refl, t, same_Some _ _ e)
 
 -- ---- a key is visited
 
-module _ (s : MergeStep) (low : ℕ) (keys : List ℕ) (g : Growth) (rows : List (Option Current)) (edges : List ForestEdge) (touched : List ℕ)
-    (w : IsSettling s low keys g rows edges touched) (new : (s.made ≢ s.loser) × (s.made ≢ s.winner)) (k : ℕ) where
+module _ (sides : Sides) (low : ℕ) (keys : List ℕ) (g : Growth) (rows : List (Option Current)) (edges : List ForestEdge) (touched : List ℕ)
+    (w : IsSettling sides low keys g rows edges touched) (differ : sides.winner ≢ sides.loser) (k : ℕ) where
   -- what the row is set to
-  pub next_row : row_after s (row_at rows k) ≡ row_after s (row_at (rows_of g) k)
+  pub next_row : row_after sides (row_at rows k) ≡ row_after sides (row_at (rows_of g) k)
   next_row = elim (w.rows k) [
-    | inl e ↦ ap (row_after s) e ∙ row_after_twice s new (row_at (rows_of g) k)
-    | inr e ↦ ap (row_after s) e
+    | inl e ↦ ap (row_after sides) e ∙ row_after_twice sides differ (row_at (rows_of g) k)
+    | inr e ↦ ap (row_after sides) e
   ]
 
   -- each row afterwards
-  next_cases : (j : ℕ) → ((j ≡ k) × (row_at (set rows k (row_after s (row_at rows k))) j ≡ row_after s (row_at rows k)))
-      ⊎ ((j ≢ k) × (row_at (set rows k (row_after s (row_at rows k))) j ≡ row_at rows j))
+  next_cases : (j : ℕ) → ((j ≡ k) × (row_at (set rows k (row_after sides (row_at rows k))) j ≡ row_after sides (row_at rows k)))
+      ⊎ ((j ≢ k) × (row_at (set rows k (row_after sides (row_at rows k))) j ≡ row_at rows j))
   next_cases j = elim (cases_eq j k) [
     | inl e ↦ inl (e, ap (row_at next) e ∙ here)
-    | inr ne ↦ inr (ne, get_or-set_other rows k j (row_after s (row_at rows k)) None ne)
+    | inr ne ↦ inr (ne, get_or-set_other rows k j (row_after sides (row_at rows k)) None ne)
   ]
     where
       next : List (Option Current)
-      next = set rows k (row_after s (row_at rows k))
+      next = set rows k (row_after sides (row_at rows k))
 
-      here : row_at next k ≡ row_after s (row_at rows k)
+      here : row_at next k ≡ row_after sides (row_at rows k)
       here = elim (cases_lt k (length rows)) [
-        | inl l ↦ get_or-set_same rows k (row_after s (row_at rows k)) None l
+        | inl l ↦ get_or-set_same rows k (row_after sides (row_at rows k)) None l
         | inr le ↦
-            get_or_past next k None (omega (arith, le, length-set rows k (row_after s (row_at rows k))))
-            ∙ sym (ap (row_after s) (get_or_past rows k None le))
+            get_or_past next k None (omega (arith, le, length-set rows k (row_after sides (row_at rows k))))
+            ∙ sym (ap (row_after sides) (get_or_past rows k None le))
       ]
 
   -- a row was there before the step, with the same ends
   row_was : (r : Current) → row_at rows k ≡ Some r
-      → (q : Current) × (row_at (rows_of g) k ≡ Some q) × (q.first ≡ r.first) × (q.last ≡ r.last) × (is_row_between s r ≡ true → is_row_between s q ≡ true)
+      → (q : Current) × (row_at (rows_of g) k ≡ Some q) × (q.first ≡ r.first) × (q.last ≡ r.last) × (is_row_between sides r ≡ true → is_row_between sides q ≡ true)
   row_was r e = elim (w.rows k) [
     | inl f ↦
-        let b = row_before s (row_at (rows_of g) k) r (sym f ∙ e) in (
+        let b = row_before sides (row_at (rows_of g) k) r (sym f ∙ e) in (
           b.0,
           b.1,
           ap (λ (c : Current). c.first) b.3,
           ap (λ (c : Current). c.last) b.3,
-          λ t. absurd (true≢false (sym t ∙ ap (is_row_between s) (sym b.3) ∙ relabelled_apart s new b.0)),
+          λ t. absurd (true≢false (sym t ∙ ap (is_row_between sides) (sym b.3) ∙ relabelled_apart sides differ b.0)),
         )
     | inr f ↦ (r, sym f ∙ e, refl, refl, λ t. t)
   ]
 
-  pub visited_more : (i : ℕ) → Contains (keys ++ k ∷ []) i → row_at (set rows k (row_after s (row_at rows k))) i ≡ row_after s (row_at (rows_of g) i)
+  pub visited_more : (i : ℕ) → Contains (keys ++ k ∷ []) i → row_at (set rows k (row_after sides (row_at rows k))) i ≡ row_after sides (row_at (rows_of g) i)
   visited_more i c = elim (next_cases i) [
-    | inl u ↦ u.1 ∙ next_row ∙ ap (λ (n : ℕ). row_after s (row_at (rows_of g) n)) (sym u.0)
+    | inl u ↦ u.1 ∙ next_row ∙ ap (λ (n : ℕ). row_after sides (row_at (rows_of g) n)) (sym u.0)
     | inr u ↦ elim (Contains-push_cases keys k i c) [
       | inl d ↦ u.1 ∙ w.visited i d
       | inr e ↦ absurd (u.0 (sym e))
     ]
   ]
 
-  pub rows_more : (i : ℕ) → (row_at (set rows k (row_after s (row_at rows k))) i ≡ row_after s (row_at (rows_of g) i))
-      ⊎ (row_at (set rows k (row_after s (row_at rows k))) i ≡ row_at (rows_of g) i)
+  pub rows_more : (i : ℕ) → (row_at (set rows k (row_after sides (row_at rows k))) i ≡ row_after sides (row_at (rows_of g) i))
+      ⊎ (row_at (set rows k (row_after sides (row_at rows k))) i ≡ row_at (rows_of g) i)
   rows_more i = elim (next_cases i) [
-    | inl u ↦ inl (u.1 ∙ next_row ∙ ap (λ (n : ℕ). row_after s (row_at (rows_of g) n)) (sym u.0))
+    | inl u ↦ inl (u.1 ∙ next_row ∙ ap (λ (n : ℕ). row_after sides (row_at (rows_of g) n)) (sym u.0))
     | inr u ↦ elim (w.rows i) [
       | inl e ↦ inl (u.1 ∙ e)
       | inr e ↦ inr (u.1 ∙ e)
     ]
   ]
 
-  count_more : length (set rows k (row_after s (row_at rows k))) ≡ length (rows_of g)
-  count_more = length-set rows k (row_after s (row_at rows k)) ∙ w.count
+  count_more : length (set rows k (row_after sides (row_at rows k))) ≡ length (rows_of g)
+  count_more = length-set rows k (row_after sides (row_at rows k)) ∙ w.count
 
   -- ---- no edge has the key any more
 
   module _ (none : row_at rows k ≡ None) where
-    none_stays : (j : ℕ) → row_at (set rows k (row_after s (row_at rows k))) j ≡ row_at rows j
+    none_stays : (j : ℕ) → row_at (set rows k (row_after sides (row_at rows k))) j ≡ row_at rows j
     none_stays j = elim (next_cases j) [
-      | inl u ↦ u.1 ∙ ap (row_after s) none ∙ sym (ap (row_at rows) u.0 ∙ none)
+      | inl u ↦ u.1 ∙ ap (row_after sides) none ∙ sym (ap (row_at rows) u.0 ∙ none)
       | inr u ↦ u.1
     ]
 
-    pub visit_none : IsSettling s low (keys ++ k ∷ []) g (set rows k (row_after s (row_at rows k))) edges touched
+    pub visit_none : IsSettling sides low (keys ++ k ∷ []) g (set rows k (row_after sides (row_at rows k))) edges touched
     visit_none = record {
       count = count_more;
       edge_count = w.edge_count;
@@ -230,38 +253,38 @@ module _ (s : MergeStep) (low : ℕ) (keys : List ℕ) (g : Growth) (rows : List
 
   -- ---- it is an edge that is not between loser and winner
 
-  module _ (r : Current) (some : row_at rows k ≡ Some r) (apart : is_row_between s r ≡ false) where
-    next_is : row_after s (row_at rows k) ≡ Some (relabel_row s r)
-    next_is = ap (row_after s) some ∙ ap (λ (b : Bool). cond b None (Some (relabel_row s r))) apart
+  module _ (r : Current) (some : row_at rows k ≡ Some r) (apart : is_row_between sides r ≡ false) where
+    next_is : row_after sides (row_at rows k) ≡ Some (relabel_row sides r)
+    next_is = ap (row_after sides) some ∙ ap (λ (b : Bool). cond b None (Some (relabel_row sides r))) apart
 
-    of_edges_other : (i : ℕ) (q : Current) → row_at (set rows k (row_after s (row_at rows k))) i ≡ Some q → IsOfEdge edges i q
+    of_edges_other : (i : ℕ) (q : Current) → row_at (set rows k (row_after sides (row_at rows k))) i ≡ Some q → IsOfEdge edges i q
     of_edges_other i q e = elim (next_cases i) [
       | inl u ↦
-          let same : relabel_row s r ≡ q = same_Some _ _ (sym next_is ∙ sym u.1 ∙ e) in
+          let same : relabel_row sides r ≡ q = same_Some _ _ (sym next_is ∙ sym u.1 ∙ e) in
           let known = w.of_edges i r (ap (row_at rows) u.0 ∙ some) in
           subst (IsOfEdge edges i) same (record { id = known.id; key = known.key; high = known.high })
       | inr u ↦ w.of_edges i q (sym u.1 ∙ e)
     ]
 
     of_rows_other : (i : ℕ) → i < length edges → (edge_at edges i).high ≡ never
-        → (q : Current) × (row_at (set rows k (row_after s (row_at rows k))) (edge_at edges i).key ≡ Some q) × (q.id ≡ i)
+        → (q : Current) × (row_at (set rows k (row_after sides (row_at rows k))) (edge_at edges i).key ≡ Some q) × (q.id ≡ i)
     of_rows_other i l e =
         let o = w.of_rows i l e in
         elim (next_cases (edge_at edges i).key) [
           | inl u ↦
               let same : r ≡ o.0 = same_Some _ _ (sym some ∙ ap (row_at rows) (sym u.0) ∙ o.1) in
-              (relabel_row s r, u.1 ∙ next_is, ap (λ (c : Current). c.id) same ∙ o.2)
+              (relabel_row sides r, u.1 ∙ next_is, ap (λ (c : Current). c.id) same ∙ o.2)
           | inr u ↦ (o.0, u.1 ∙ o.1, o.2)
         ]
 
-    touched_other : (i : ℕ) (q : Current) → row_at (rows_of g) i ≡ Some q → row_at (set rows k (row_after s (row_at rows k))) i ≡ None
+    touched_other : (i : ℕ) (q : Current) → row_at (rows_of g) i ≡ Some q → row_at (set rows k (row_after sides (row_at rows k))) i ≡ None
         → Contains touched (node_at g.nodes q.first) × Contains touched (node_at g.nodes q.last)
     touched_other i q e f = elim (next_cases i) [
       | inl u ↦ absurd (none-some _ (sym f ∙ u.1 ∙ next_is))
       | inr u ↦ w.touched i q e (sym u.1 ∙ f)
     ]
 
-    pub visit_other : IsSettling s low (keys ++ k ∷ []) g (set rows k (row_after s (row_at rows k))) edges touched
+    pub visit_other : IsSettling sides low (keys ++ k ∷ []) g (set rows k (row_after sides (row_at rows k))) edges touched
     visit_other = record {
       count = count_more;
       edge_count = w.edge_count;
@@ -276,9 +299,9 @@ module _ (s : MergeStep) (low : ℕ) (keys : List ℕ) (g : Growth) (rows : List
 
   -- ---- it is one between them
 
-  module _ (small : low < never) (r : Current) (some : row_at rows k ≡ Some r) (between : is_row_between s r ≡ true) where
-    gone : row_after s (row_at rows k) ≡ None
-    gone = ap (row_after s) some ∙ ap (λ (b : Bool). cond b None (Some (relabel_row s r))) between
+  module _ (small : low < never) (r : Current) (some : row_at rows k ≡ Some r) (between : is_row_between sides r ≡ true) where
+    gone : row_after sides (row_at rows k) ≡ None
+    gone = ap (row_after sides) some ∙ ap (λ (b : Bool). cond b None (Some (relabel_row sides r))) between
 
     own : IsOfEdge edges k r
     own = w.of_edges k r some
@@ -308,7 +331,7 @@ module _ (s : MergeStep) (low : ℕ) (keys : List ℕ) (g : Growth) (rows : List
       ]
     ]
 
-    of_edges_between : (i : ℕ) (q : Current) → row_at (set rows k (row_after s (row_at rows k))) i ≡ Some q → IsOfEdge edges_next i q
+    of_edges_between : (i : ℕ) (q : Current) → row_at (set rows k (row_after sides (row_at rows k))) i ≡ Some q → IsOfEdge edges_next i q
     of_edges_between i q e = elim (next_cases i) [
       | inl u ↦ absurd (none-some _ (sym gone ∙ sym u.1 ∙ e))
       | inr u ↦
@@ -324,7 +347,7 @@ module _ (s : MergeStep) (low : ℕ) (keys : List ℕ) (g : Growth) (rows : List
     ]
 
     of_rows_between : (i : ℕ) → i < length edges_next → (edge_at edges_next i).high ≡ never
-        → (q : Current) × (row_at (set rows k (row_after s (row_at rows k))) (edge_at edges_next i).key ≡ Some q) × (q.id ≡ i)
+        → (q : Current) × (row_at (set rows k (row_after sides (row_at rows k))) (edge_at edges_next i).key ≡ Some q) × (q.id ≡ i)
     of_rows_between i l e = elim (edge_cases i) [
       | inl u ↦ absurd (omega (arith, small, ap (λ (c : ForestEdge). c.high) u.1, e))
       | inr u ↦
@@ -333,14 +356,14 @@ module _ (s : MergeStep) (low : ℕ) (keys : List ℕ) (g : Growth) (rows : List
             | inl v ↦
                 let same : r ≡ o.0 = same_Some _ _ (sym some ∙ ap (row_at rows) (sym v.0) ∙ o.1) in
                 absurd (u.0 (sym o.2 ∙ ap (λ (c : Current). c.id) (sym same)))
-            | inr v ↦ (o.0, ap (λ (c : ForestEdge). row_at (set rows k (row_after s (row_at rows k))) c.key) u.1 ∙ v.1 ∙ o.1, o.2)
+            | inr v ↦ (o.0, ap (λ (c : ForestEdge). row_at (set rows k (row_after sides (row_at rows k))) c.key) u.1 ∙ v.1 ∙ o.1, o.2)
           ]
     ]
 
     abbrev nodes_next : List ℕ
     nodes_next = node_at g.nodes r.first ∷ node_at g.nodes r.last ∷ []
 
-    touched_between : (i : ℕ) (q : Current) → row_at (rows_of g) i ≡ Some q → row_at (set rows k (row_after s (row_at rows k))) i ≡ None
+    touched_between : (i : ℕ) (q : Current) → row_at (rows_of g) i ≡ Some q → row_at (set rows k (row_after sides (row_at rows k))) i ≡ None
         → Contains (touched ++ nodes_next) (node_at g.nodes q.first) × Contains (touched ++ nodes_next) (node_at g.nodes q.last)
     touched_between i q e f = elim (next_cases i) [
       | inl u ↦
@@ -357,7 +380,7 @@ module _ (s : MergeStep) (low : ℕ) (keys : List ℕ) (g : Growth) (rows : List
           (Contains-append_left touched nodes_next _ before.0, Contains-append_left touched nodes_next _ before.1)
     ]
 
-    only_between : (n : ℕ) → Contains (touched ++ nodes_next) n → IsTouched s g n
+    only_between : (n : ℕ) → Contains (touched ++ nodes_next) n → IsEndBetween sides g n
     only_between n c = elim (Contains-append_cases touched nodes_next n c) [
       | inl d ↦ w.only n d
       | inr d ↦
@@ -376,7 +399,7 @@ module _ (s : MergeStep) (low : ℕ) (keys : List ℕ) (g : Growth) (rows : List
           )
     ]
 
-    pub visit_between : IsSettling s low (keys ++ k ∷ []) g (set rows k (row_after s (row_at rows k))) (set edges r.id (ended low (edge_at edges r.id)))
+    pub visit_between : IsSettling sides low (keys ++ k ∷ []) g (set rows k (row_after sides (row_at rows k))) (set edges r.id (ended low (edge_at edges r.id)))
         (touched ++ node_at g.nodes r.first ∷ node_at g.nodes r.last ∷ [])
     visit_between = record {
       count = count_more;
@@ -393,73 +416,73 @@ module _ (s : MergeStep) (low : ℕ) (keys : List ℕ) (g : Growth) (rows : List
   -- ---- together
 
   pub visit : low < never → (x : Option Current) → row_at rows k ≡ x
-      → IsSettling s low (keys ++ k ∷ []) g (set rows k (row_after s (row_at rows k))) (edges_after s low x edges) (touched ++ nodes_after s g.nodes x)
+      → IsSettling sides low (keys ++ k ∷ []) g (set rows k (row_after sides (row_at rows k))) (edges_after sides low x edges) (touched ++ nodes_after sides g.nodes x)
   visit small None e =
-      subst (IsSettling s low (keys ++ k ∷ []) g (set rows k (row_after s (row_at rows k))) edges) (sym (append-nil touched)) (visit_none e)
-  visit small (Some r) e = by (is_row_between s r) refl
+      subst (IsSettling sides low (keys ++ k ∷ []) g (set rows k (row_after sides (row_at rows k))) edges) (sym (append-nil touched)) (visit_none e)
+  visit small (Some r) e = by (is_row_between sides r) refl
     where
-      by : (b : Bool) → is_row_between s r ≡ b
-          → IsSettling s low (keys ++ k ∷ []) g (set rows k (row_after s (row_at rows k))) (cond b (set edges r.id (ended low (edge_at edges r.id))) edges)
+      by : (b : Bool) → is_row_between sides r ≡ b
+          → IsSettling sides low (keys ++ k ∷ []) g (set rows k (row_after sides (row_at rows k))) (cond b (set edges r.id (ended low (edge_at edges r.id))) edges)
           (touched ++ cond b (node_at g.nodes r.first ∷ node_at g.nodes r.last ∷ []) [])
       by true between = visit_between small r e between
       by false apart =
-          subst (IsSettling s low (keys ++ k ∷ []) g (set rows k (row_after s (row_at rows k))) edges) (sym (append-nil touched)) (visit_other r e apart)
+          subst (IsSettling sides low (keys ++ k ∷ []) g (set rows k (row_after sides (row_at rows k))) edges) (sym (append-nil touched)) (visit_other r e apart)
 
 -- a key gives at most two nodes
-pub nodes_few : (s : MergeStep) (nodes : Nodes) (x : Option Current) → length (nodes_after s nodes x) ≤ 2
-nodes_few s nodes None = omega arith
-nodes_few s nodes (Some r) = by (is_row_between s r)
+pub nodes_few : (sides : Sides) (nodes : Nodes) (x : Option Current) → length (nodes_after sides nodes x) ≤ 2
+nodes_few sides nodes None = omega arith
+nodes_few sides nodes (Some r) = by (is_row_between sides r)
   where
     by : (b : Bool) → length (cond b (node_at nodes r.first ∷ node_at nodes r.last ∷ []) []) ≤ 2
     by true = omega arith
     by false = omega arith
 
 -- two where its edge ends, and none otherwise
-nodes_counted : (s : MergeStep) (nodes : Nodes) (rows : List (Option Current)) (i : ℕ) → length (nodes_after s nodes (row_at rows i)) ≤ cond (is_ending s rows i) 2 0
-nodes_counted s nodes rows i = by (row_at rows i)
+nodes_counted : (sides : Sides) (nodes : Nodes) (rows : List (Option Current)) (i : ℕ) → length (nodes_after sides nodes (row_at rows i)) ≤ cond (is_ending sides rows i) 2 0
+nodes_counted sides nodes rows i = by (row_at rows i)
   where
     some : (b : Bool) (x y : ℕ) → length (cond b (x ∷ y ∷ []) []) ≤ cond b 2 0
     some true x y = omega arith
     some false x y = omega arith
 
-    by : (row : Option Current) → length (nodes_after s nodes row) ≤ cond (elim row [ None ↦ false | Some r ↦ is_row_between s r ]) 2 0
+    by : (row : Option Current) → length (nodes_after sides nodes row) ≤ cond (elim row [ None ↦ false | Some r ↦ is_row_between sides r ]) 2 0
     by None = omega arith
-    by (Some r) = some (is_row_between s r) (node_at nodes r.first) (node_at nodes r.last)
+    by (Some r) = some (is_row_between sides r) (node_at nodes r.first) (node_at nodes r.last)
 
 -- a key that ends an edge when it is visited did so before the step
-ending_before : (s : MergeStep) (x : Option Current) → (s.made ≢ s.loser) × (s.made ≢ s.winner)
-    → elim (row_after s x) [ None ↦ false | Some r ↦ is_row_between s r ] ≡ false
-ending_before s None new = refl
-ending_before s (Some r) new = by (is_row_between s r)
+ending_before : (sides : Sides) (x : Option Current) → sides.winner ≢ sides.loser
+    → elim (row_after sides x) [ None ↦ false | Some r ↦ is_row_between sides r ] ≡ false
+ending_before sides None differ = refl
+ending_before sides (Some r) differ = by (is_row_between sides r)
   where
-    by : (b : Bool) → elim (cond b None (Some (relabel_row s r))) [ None ↦ false | Some r ↦ is_row_between s r ] ≡ false
+    by : (b : Bool) → elim (cond b None (Some (relabel_row sides r))) [ None ↦ false | Some r ↦ is_row_between sides r ] ≡ false
     by true = refl
-    by false = relabelled_apart s new r
+    by false = relabelled_apart sides differ r
 
-pub count_next : (s : MergeStep) (low : ℕ) (keys : List ℕ) (i : ℕ) (g : Growth) (nodes : Nodes) (rows : List (Option Current)) (edges : List ForestEdge) (touched : List ℕ)
-    → IsSettling s low (take i keys) g rows edges touched → (s.made ≢ s.loser) × (s.made ≢ s.winner) → i < length keys
-    → length touched ≤ 2 * count_by (is_ending s (rows_of g)) (take i keys)
-    → length touched + length (nodes_after s nodes (row_at rows (get_or keys i 0))) ≤ 2 * count_by (is_ending s (rows_of g)) (take (i + 1) keys)
-count_next s low keys i g nodes rows edges touched w new short few = by (is_ending s (rows_of g) k) refl
+pub count_next : (sides : Sides) (low : ℕ) (keys : List ℕ) (i : ℕ) (g : Growth) (nodes : Nodes) (rows : List (Option Current)) (edges : List ForestEdge) (touched : List ℕ)
+    → IsSettling sides low (take i keys) g rows edges touched → sides.winner ≢ sides.loser → i < length keys
+    → length touched ≤ 2 * count_by (is_ending sides (rows_of g)) (take i keys)
+    → length touched + length (nodes_after sides nodes (row_at rows (get_or keys i 0))) ≤ 2 * count_by (is_ending sides (rows_of g)) (take (i + 1) keys)
+count_next sides low keys i g nodes rows edges touched w differ short few = by (is_ending sides (rows_of g) k) refl
   where
     k : ℕ
     k = get_or keys i 0
 
-    same : is_ending s (rows_of g) k ≡ false → is_ending s rows k ≡ false
+    same : is_ending sides (rows_of g) k ≡ false → is_ending sides rows k ≡ false
     same f = elim (w.rows k) [
-      | inl e ↦ ap (λ (x : Option Current). elim x [ None ↦ false | Some r ↦ is_row_between s r ]) e ∙ ending_before s (row_at (rows_of g) k) new
-      | inr e ↦ ap (λ (x : Option Current). elim x [ None ↦ false | Some r ↦ is_row_between s r ]) e ∙ f
+      | inl e ↦ ap (λ (x : Option Current). elim x [ None ↦ false | Some r ↦ is_row_between sides r ]) e ∙ ending_before sides (row_at (rows_of g) k) differ
+      | inr e ↦ ap (λ (x : Option Current). elim x [ None ↦ false | Some r ↦ is_row_between sides r ]) e ∙ f
     ]
 
-    by : (b : Bool) → is_ending s (rows_of g) k ≡ b → length touched + length (nodes_after s nodes (row_at rows k)) ≤ 2 * count_by (is_ending s (rows_of g)) (take (i + 1) keys)
-    by true e = omega (arith, few, nodes_few s nodes (row_at rows k), count_by_more_yes (is_ending s (rows_of g)) keys i 0 short e)
+    by : (b : Bool) → is_ending sides (rows_of g) k ≡ b → length touched + length (nodes_after sides nodes (row_at rows k)) ≤ 2 * count_by (is_ending sides (rows_of g)) (take (i + 1) keys)
+    by true e = omega (arith, few, nodes_few sides nodes (row_at rows k), count_by_more_yes (is_ending sides (rows_of g)) keys i 0 short e)
     by false e =
         omega (
           arith,
           few,
-          nodes_counted s nodes rows k,
+          nodes_counted sides nodes rows k,
           ap (λ (b : Bool). cond {A = ℕ} b 2 0) (same e),
-          count_by_more_no (is_ending s (rows_of g)) keys i 0 short e,
+          count_by_more_no (is_ending sides (rows_of g)) keys i 0 short e,
         )
 
 -- what is counted of the first keys is no more than of all
@@ -467,17 +490,17 @@ pub count_all : (p : ℕ → Bool) (keys : List ℕ) (i : ℕ) → count_by p (t
 count_all p keys i = sum_by-take-le (λ (k : ℕ). cond (p k) 1 0) keys i
 
 -- one more key of a list is visited
-pub visit_next : (s : MergeStep) (low : ℕ) (keys : List ℕ) (i : ℕ) (g : Growth) (nodes : Nodes) (rows rows' : List (Option Current)) (edges edges' : List ForestEdge)
-    (touched touched' : List ℕ) → IsSettling s low (take i keys) g rows edges touched → (s.made ≢ s.loser) × (s.made ≢ s.winner) → low < never
+pub visit_next : (sides : Sides) (low : ℕ) (keys : List ℕ) (i : ℕ) (g : Growth) (nodes : Nodes) (rows rows' : List (Option Current)) (edges edges' : List ForestEdge)
+    (touched touched' : List ℕ) → IsSettling sides low (take i keys) g rows edges touched → sides.winner ≢ sides.loser → low < never
     → i < length keys → nodes ≡ g.nodes
-    → rows' ≡ set rows (get_or keys i 0) (row_after s (row_at rows (get_or keys i 0)))
-    → edges' ≡ edges_after s low (row_at rows (get_or keys i 0)) edges
-    → touched' ≡ touched ++ nodes_after s nodes (row_at rows (get_or keys i 0))
-    → IsSettling s low (take (i + 1) keys) g rows' edges' touched'
-visit_next s low keys i g nodes rows rows' edges edges' touched touched' w new small short same er ee et =
+    → rows' ≡ set rows (get_or keys i 0) (row_after sides (row_at rows (get_or keys i 0)))
+    → edges' ≡ edges_after sides low (row_at rows (get_or keys i 0)) edges
+    → touched' ≡ touched ++ nodes_after sides nodes (row_at rows (get_or keys i 0))
+    → IsSettling sides low (take (i + 1) keys) g rows' edges' touched'
+visit_next sides low keys i g nodes rows rows' edges edges' touched touched' w differ small short same er ee et =
     rw (er, ee, et, same)
-    (subst (λ (ks : List ℕ). IsSettling s low ks g (set rows k (row_after s (row_at rows k))) (edges_after s low (row_at rows k) edges) (touched ++ nodes_after s g.nodes (row_at rows k)))
-    (sym (ap (λ (n : ℕ). take n keys) (add-one i) ∙ take-suc keys i 0 short)) (visit s low (take i keys) g rows edges touched w new k small (row_at rows k) refl))
+    (subst (λ (ks : List ℕ). IsSettling sides low ks g (set rows k (row_after sides (row_at rows k))) (edges_after sides low (row_at rows k) edges) (touched ++ nodes_after sides g.nodes (row_at rows k)))
+    (sym (ap (λ (n : ℕ). take n keys) (add-one i) ∙ take-suc keys i 0 short)) (visit sides low (take i keys) g rows edges touched w differ k small (row_at rows k) refl))
   where
     k : ℕ
     k = get_or keys i 0

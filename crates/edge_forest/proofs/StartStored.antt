@@ -3,11 +3,11 @@ use Rattle.std.proofs.Common.{◌≡◌, inr, ℕ, zero, suc, ◌+◌, ◌*◌, 
 use Rattle.std.specs.List.{range_with_len}
 use Rattle.std.proofs.lemmas.Bool.{or_right}
 use Rattle.std.proofs.lemmas.List.Concat.{flat_map-append}
-use Rattle.std.proofs.lemmas.List.Elements.{All-cons, All-nil, All-same, All-weaker}
+use Rattle.std.proofs.lemmas.List.Elements.{All-cons, All-get_or, All-nil, All-same, All-weaker}
 use Rattle.std.proofs.lemmas.List.FromFn.{get_or-map-range_with_len, length-map-range_with_len, map-range_with_len_more}
 use Rattle.std.proofs.lemmas.List.Sums.{fold-append}
 use Rattle.tgap_model.specs.declared.base.BaseArc.{BaseArc}
-use Rattle.tgap_model.specs.declared.limits.TheConstants.{MAX_ARCS}
+use Rattle.tgap_model.specs.declared.limits.TheConstants.{MAX_ARCS, MAX_FACES}
 use Rattle.tgap_model.specs.Base.{BaseMap, is_base}
 use Rattle.tgap_model.specs.Partition.{IsPartition, base_segments}
 use Rattle.tgap_model.specs.Merged.{MergedMap, merged, label_at}
@@ -16,14 +16,17 @@ use Rattle.tgap_model.proofs.BaseFacts.{ArcFacts, base_facts, each_arc}
 use Rattle.edge_forest.specs.declared.edge.Part.{Part}
 use Rattle.edge_forest.specs.declared.edge.ForestEdge.{ForestEdge}
 use Rattle.edge_forest.specs.declared.net.Current.{Current}
+use Rattle.edge_forest.specs.declared.face_labels.FaceLabels.{FaceLabels}
 use Rattle.edge_forest.specs.declared.growth.Growth.{Growth}
 use Rattle.edge_forest.specs.Edges.{edge_at, parts_chain, chains_of, chain_of, IsPart, IsForestEdge}
+use Rattle.edge_forest.specs.FaceLabels.{face_of, label_of, HasLabel, IsCurrent}
 use Rattle.edge_forest.specs.Family.{row_chains, family}
 use Rattle.edge_forest.specs.Nodes.{AreNodes}
 use Rattle.edge_forest.specs.Net.{row_at, IsNet}
 use Rattle.edge_forest.specs.Rows.{end_points, first_end, last_end, IsRow, AreRows}
-use Rattle.edge_forest.specs.Growth.{rows_of, IsLabelled, IsOfEdge, IsStored}
+use Rattle.edge_forest.specs.Growth.{rows_of, IsLabelled, AreFacesLabelled, IsOfEdge, IsStored}
 use Rattle.edge_forest.specs.Start.{single, arc_edge, arc_current, arc_row, AreKeysListed}
+use Rattle.edge_forest.proofs.LabelSteps.{has_current}
 use Rattle.edge_forest.proofs.StartNet.{row_of, row_is}
 
 single_directed : (i : ℕ) → is_directed (single i) ≡ true
@@ -125,6 +128,13 @@ module _ (arcs : List BaseArc) where
 
 -- ---- labels
 
+-- Each number below n is a face that is its own label.
+pub record AreOwnLabels (t : FaceLabels) (n : ℕ) : Type 0 where
+  pub faces_count : length t.faces.items ≡ n
+  pub labels_count : length t.labels.items ≡ n
+  pub labels : (f : ℕ) → f < n → HasLabel t f
+  pub own : (f : ℕ) → f < n → label_of t f ≡ f
+
 module _ (h : MergedMap) where
   abbrev arcs : List BaseArc
   arcs = h.base.arcs
@@ -144,17 +154,45 @@ module _ (h : MergedMap) where
         right = subst (λ (e : ForestEdge). e.right ≡ label_at h e.low (arc_number arcs e.key).right) (sym e) refl;
       }
 
-  arc_labels : (faces : List (List ℕ)) → AreKeysListed arcs faces (length arcs) → (i : ℕ) (r : Current)
-      → row_at (map (arc_row arcs) (range_with_len 0 (length arcs))) i ≡ Some r → IsLabelled h 0 faces i r
-  arc_labels faces listed i r e =
-      let w = row_is arcs i r e in
-      subst (IsLabelled h 0 faces i) (sym w.1)
-      (record { left = refl; right = refl; left_listed = λ _. (listed i w.0).left; right_listed = λ _. (listed i w.0).right })
+  module _ (t : FaceLabels) (lists : List (List ℕ)) (same : AreOwnLabels t (2 * length h.base.classes + 1)) where
+    -- a face is the face of its number, which is its label
+    own : (f : ℕ) → f ≤ length h.base.classes → (face_of t f ≡ f) × IsCurrent t f
+    own f le =
+        let inside : f < 2 * length h.base.classes + 1 = omega (arith, le) in
+        let label = same.own f inside in
+        let face : face_of t f ≡ f = ap (face_of t) (sym label) ∙ (same.labels f inside).exact in
+        (face, subst (IsCurrent t) label (has_current t f (same.labels f inside)))
+
+    arc_labels : AreKeysListed arcs lists (length arcs) → ((i : ℕ) → i < length arcs → ArcFacts (length h.base.classes) (arc_number arcs i)) → (i : ℕ) (r : Current)
+        → row_at (map (arc_row arcs) (range_with_len 0 (length arcs))) i ≡ Some r → IsLabelled h 0 t lists i r
+    arc_labels listed facts i r e =
+        let w = row_is arcs i r e in
+        let left = own (arc_number arcs i).left (facts i w.0).left in
+        let right = own (arc_number arcs i).right (facts i w.0).right in
+        subst (IsLabelled h 0 t lists i) (sym w.1) (record {
+          left = left.0;
+          right = right.0;
+          left_current = left.1;
+          right_current = right.1;
+          left_listed = (listed i w.0).left;
+          right_listed = (listed i w.0).right;
+        })
+
+    start_faces : length lists ≡ 2 * length h.base.classes + 1 → AreFacesLabelled h 0 t lists
+    start_faces many = record {
+      lists_count = many;
+      faces_count = same.faces_count;
+      labels_count = same.labels_count;
+      each = λ f le. same.labels f (omega (arith, le));
+    }
 
 -- ---- what is known of the arcs of a base map
 
 pub arcs_few : (m : BaseMap) (arcs : List BaseArc) → is_base m ≡ true → arcs ≡ m.arcs → length arcs ≤ MAX_ARCS
 arcs_few m arcs base e = rw e (base_facts m base).few_arcs
+
+pub faces_few : (m : BaseMap) (n : ℕ) → is_base m ≡ true → n ≡ length m.classes → n ≤ MAX_FACES
+faces_few m n base e = omega (arith, e, (base_facts m base).few_faces)
 
 pub arcs_long : (m : BaseMap) (arcs : List BaseArc) → is_base m ≡ true → arcs ≡ m.arcs → All (λ a. 2 ≤ length a.points) arcs
 arcs_long m arcs base e =
@@ -173,15 +211,16 @@ arcs_below m arcs n base e many =
 stored_at_start : (g : Growth) → is_base g.base ≡ true → IsPartition (base_segments g.base) → AreNodes (end_points g.base.arcs) g.nodes → IsNet g.nodes g.net
     → rows_of g ≡ map (arc_row g.base.arcs) (range_with_len 0 (length g.base.arcs))
     → g.edges.items ≡ map (arc_edge g.base.arcs) (range_with_len 0 (length g.base.arcs))
-    → length g.faces.items ≡ 2 * length g.base.classes + 1 → AreKeysListed g.base.arcs g.faces.items (length g.base.arcs) → IsStored 0 g
-stored_at_start g base partition nodes net er ee many listed = record {
+    → length g.keys.items ≡ 2 * length g.base.classes + 1 → AreKeysListed g.base.arcs g.keys.items (length g.base.arcs)
+    → AreOwnLabels g.labels (2 * length g.base.classes + 1) → IsStored 0 g
+stored_at_start g base partition nodes net er ee many listed same = record {
   base = base;
   partition = partition;
   steps = omega arith;
   nodes = nodes;
   net = net;
   count = ap length er ∙ length-map-range_with_len (arc_row arcs) 0 (length arcs);
-  faces = many;
+  faces = start_faces h g.labels g.keys.items same many;
   edges = λ i l. subst (λ (es : List ForestEdge). IsForestEdge h es i) (sym ee) (arc_is_edge h i (within i l));
   low = λ i l. omega (arith, ap (λ (e : ForestEdge). e.low) (edge_is i l));
   high = λ i l. inr (ap (λ (e : ForestEdge). e.high) (edge_is i l));
@@ -193,7 +232,7 @@ stored_at_start g base partition nodes net er ee many listed = record {
   rows =
       subst (λ (cs : List Chain). AreRows cs (rows_of g)) (sym (ap chains_of ee ∙ chains_are arcs))
       (subst (AreRows (map single (range_with_len 0 (length arcs)))) (sym er) (arc_rows_are arcs));
-  labels = λ i r k. arc_labels h g.faces.items listed i r (read i r k);
+  labels = λ i r k. arc_labels h g.labels g.keys.items same listed facts i r (read i r k);
   of_edges = λ i r k. subst (λ (es : List ForestEdge). IsOfEdge es i r) (sym ee) (arc_of_edges arcs i r (read i r k));
   of_rows = λ i l _.
       subst (λ (es : List ForestEdge). (r : Current) × (row_at (rows_of g) (edge_at es i).key ≡ Some r) × (r.id ≡ i)) (sym ee)
@@ -211,6 +250,10 @@ stored_at_start g base partition nodes net er ee many listed = record {
     made : List ForestEdge
     made = map (arc_edge g.base.arcs) (range_with_len 0 (length g.base.arcs))
 
+    facts : (i : ℕ) → i < length g.base.arcs → ArcFacts (length g.base.classes) (arc_number g.base.arcs i)
+    facts i l =
+        All-get_or (ArcFacts (length g.base.classes)) g.base.arcs i (record { left = 0; right = 0; points = [] }) l (each_arc g.base (base_facts g.base base))
+
     within : (i : ℕ) → i < length g.edges.items → i < length g.base.arcs
     within i l = omega (arith, l, ap length ee, length-map-range_with_len (arc_edge g.base.arcs) 0 (length g.base.arcs))
 
@@ -224,8 +267,8 @@ stored_at_start g base partition nodes net er ee many listed = record {
 pub stored_by_copy : (g : Growth) (m : BaseMap) (arcs : List BaseArc) → g.base ≡ m → arcs ≡ m.arcs → is_base m ≡ true → IsPartition (base_segments m)
     → AreNodes (end_points arcs) g.nodes → IsNet g.nodes g.net
     → rows_of g ≡ map (arc_row arcs) (range_with_len 0 (length arcs)) → g.edges.items ≡ map (arc_edge arcs) (range_with_len 0 (length arcs))
-    → length g.faces.items ≡ 2 * length m.classes + 1 → AreKeysListed arcs g.faces.items (length arcs) → IsStored 0 g
-stored_by_copy g m arcs same e base partition nodes net er ee many listed =
+    → length g.keys.items ≡ 2 * length m.classes + 1 → AreKeysListed arcs g.keys.items (length arcs) → AreOwnLabels g.labels (2 * length m.classes + 1) → IsStored 0 g
+stored_by_copy g m arcs same e base partition nodes net er ee many listed own =
     let of_copy : arcs ≡ g.base.arcs = e ∙ ap (λ (m : BaseMap). m.arcs) (sym same) in
     stored_at_start g
     (ap is_base same ∙ base)
@@ -235,7 +278,8 @@ stored_by_copy g m arcs same e base partition nodes net er ee many listed =
     (er ∙ ap (λ (arcs : List BaseArc). map (arc_row arcs) (range_with_len 0 (length arcs))) of_copy)
     (ee ∙ ap (λ (arcs : List BaseArc). map (arc_edge arcs) (range_with_len 0 (length arcs))) of_copy)
     (many ∙ ap (λ (m : BaseMap). 2 * length m.classes + 1) (sym same))
-    (subst (λ (arcs : List BaseArc). AreKeysListed arcs g.faces.items (length arcs)) of_copy listed)
+    (subst (λ (arcs : List BaseArc). AreKeysListed arcs g.keys.items (length arcs)) of_copy listed)
+    (subst (λ (n : ℕ). AreOwnLabels g.labels n) (ap (λ (m : BaseMap). 2 * length m.classes + 1) (sym same)) own)
 
 pub family_at_start : (arcs : List BaseArc) (edges : List ForestEdge) (rows : List (Option Current)) → edges ≡ map (arc_edge arcs) (range_with_len 0 (length arcs))
     → rows ≡ map (arc_row arcs) (range_with_len 0 (length arcs)) → family (chains_of edges) rows ≡ map single (range_with_len 0 (length arcs))

@@ -1,5 +1,5 @@
 -- The joints of a step: the touched nodes at which two ends are left are the nodes whose degree becomes two.
-use Rattle.std.proofs.Common.{◌≡◌, ◌⊎◌, ◌↔◌, inl, inr, ℕ, suc, ◌+◌, ◌<◌, ◌≤◌, ◌==◌, ◌&&◌, ◌||◌, Bool, true, false, not, cond, List, [], ◌∷◌, map, filter, sum_by, length, get_or, Option, Some, None, All, refl, sym, ap, ap₂, ◌∙◌, subst, arith}
+use Rattle.std.proofs.Common.{◌≡◌, ◌⊎◌, ◌↔◌, inl, inr, ℕ, suc, ◌+◌, ◌-◌, ◌<◌, ◌≤◌, ◌==◌, ◌&&◌, ◌||◌, Bool, true, false, not, cond, List, [], ◌∷◌, map, filter, sum_by, length, get_or, Option, Some, None, All, refl, sym, ap, ap₂, ◌∙◌, subst, arith}
 use Rattle.std.specs.Prelude.{Contains}
 use Rattle.std.specs.List.Sorted.{IsStrictlyIncreasing}
 use Rattle.std.proofs.lemmas.Bool.{cases_eq, and_from, le-leb, or_left, or_right}
@@ -30,8 +30,10 @@ use Rattle.slice_laws.specs.SliceLaws.{KeepsFaces}
 use Rattle.slice_laws.proofs.EvenSides.{chains_keep_faces}
 use Rattle.face_merge.proofs.Start.{history_numbered}
 use Rattle.edge_forest.specs.declared.net.Current.{Current}
+use Rattle.edge_forest.specs.declared.face_labels.Sides.{Sides}
 use Rattle.edge_forest.specs.declared.growth.Growth.{Growth}
 use Rattle.edge_forest.specs.Edges.{chains_of}
+use Rattle.edge_forest.specs.FaceLabels.{face_of, HasLabel, IsCurrent, sides_of}
 use Rattle.edge_forest.specs.Nodes.{node_at}
 use Rattle.edge_forest.specs.Net.{row_at}
 use Rattle.edge_forest.specs.Rows.{end_points}
@@ -41,6 +43,8 @@ use Rattle.edge_forest.specs.Growth as stored
 use Rattle.edge_forest.proofs.Family.{of_family}
 use Rattle.edge_forest.proofs.Counting.{ends_at_most, first_point, last_point, count_is, end_within}
 use Rattle.edge_forest.proofs.InTurn.{IsPointOf, ArePointsOf}
+use Rattle.edge_forest.proofs.LabelSteps.{label_test}
+use Rattle.edge_forest.proofs.Settled.{sides_known as step_labels}
 use Rattle.edge_forest.proofs.NextJoints.{contains_among, among_contains, increasing_pairs, point_at, point_once, Pointed, pointed, pointed_ascend, ends_there}
 
 -- the chains after k steps are joined at the nodes of degree two
@@ -57,15 +61,15 @@ abbrev goes_out : MergedMap → ℕ → MergeStep → Chain → Bool
 goes_out h k s c = is_edge_between s.loser s.winner (edge_of h k [] c)
 
 -- what a step leaves of a family is what it leaves of the chains
-family_left : (p : Chain → Bool) (s : MergeStep) (chains : List Chain) (rows : List (Option Current))
-    → ((i : ℕ) (r : Current) → row_at rows i ≡ Some r → is_row_between s r ≡ p (get_or chains r.id []))
-    → family chains (map (row_after s) rows) ≡ filter (λ c. not (p c)) (family chains rows)
-family_left p s chains [] same = refl
-family_left p s chains (None ∷ rows) same = family_left p s chains rows (λ i r e. same (suc i) r e)
-family_left p s chains (Some r ∷ rows) same = by (is_row_between s r) (p (get_or chains r.id [])) refl (same 0 r refl) (family_left p s chains rows (λ i r e. same (suc i) r e))
+family_left : (p : Chain → Bool) (sides : Sides) (chains : List Chain) (rows : List (Option Current))
+    → ((i : ℕ) (r : Current) → row_at rows i ≡ Some r → is_row_between sides r ≡ p (get_or chains r.id []))
+    → family chains (map (row_after sides) rows) ≡ filter (λ c. not (p c)) (family chains rows)
+family_left p sides chains [] same = refl
+family_left p sides chains (None ∷ rows) same = family_left p sides chains rows (λ i r e. same (suc i) r e)
+family_left p sides chains (Some r ∷ rows) same = by (is_row_between sides r) (p (get_or chains r.id [])) refl (same 0 r refl) (family_left p sides chains rows (λ i r e. same (suc i) r e))
   where
-    by : (b c : Bool) → is_row_between s r ≡ b → b ≡ c → family chains (map (row_after s) rows) ≡ filter (λ c. not (p c)) (family chains rows)
-        → family chains (cond b None (Some (relabel_row s r)) ∷ map (row_after s) rows)
+    by : (b c : Bool) → is_row_between sides r ≡ b → b ≡ c → family chains (map (row_after sides) rows) ≡ filter (λ c. not (p c)) (family chains rows)
+        → family chains (cond b None (Some (relabel_row sides r)) ∷ map (row_after sides) rows)
         ≡ cond (not c) (get_or chains r.id [] ∷ filter (λ c. not (p c)) (family chains rows)) (filter (λ c. not (p c)) (family chains rows))
     by true true e f t = t
     by true false e f t = absurd cc
@@ -99,16 +103,34 @@ module _ (k : ℕ) (g g' : Growth) (rest : IsAtRest k g) (more : k < length (his
 
   -- ---- the chains that are left
 
-  row_goes : (i : ℕ) (r : Current) → row_at (rows_of g) i ≡ Some r → is_row_between s r ≡ goes_out h k s (get_or (chains_of g.edges.items) r.id [])
+  abbrev sides : Sides
+  sides = sides_of g.labels s
+
+  -- the loser and the winner have labels
+  sides_known : HasLabel g.labels s.loser × HasLabel g.labels s.winner
+  sides_known =
+      let same : k ≡ k + 1 - 1 = omega arith in
+      step_labels g (k + 1) s (omega arith) (omega (arith, more)) is (subst (λ (n : ℕ). IsAtRest n g) same rest)
+
+  -- a row is between them by labels where it is by faces
+  row_by_faces : (r : Current) → IsCurrent g.labels r.left → IsCurrent g.labels r.right
+      → is_row_between sides r ≡ (((face_of g.labels r.left == s.loser) && (face_of g.labels r.right == s.winner)) || ((face_of g.labels r.left == s.winner) && (face_of g.labels r.right == s.loser)))
+  row_by_faces r left right =
+      ap₂ (λ (a b : Bool). a || b)
+      (ap₂ (λ (a b : Bool). a && b) (label_test g.labels r.left s.loser left sides_known.0) (label_test g.labels r.right s.winner right sides_known.1))
+      (ap₂ (λ (a b : Bool). a && b) (label_test g.labels r.left s.winner left sides_known.1) (label_test g.labels r.right s.loser right sides_known.0))
+
+  row_goes : (i : ℕ) (r : Current) → row_at (rows_of g) i ≡ Some r → is_row_between sides r ≡ goes_out h k s (get_or (chains_of g.edges.items) r.id [])
   row_goes i r e =
       let l = w.labels i r e in
       let u = w.rows i r e in
-      ap₂ (λ (a b : ℕ). ((a == s.loser) && (b == s.winner)) || ((a == s.winner) && (b == s.loser)))
+      row_by_faces r l.left_current l.right_current
+      ∙ ap₂ (λ (a b : ℕ). ((a == s.loser) && (b == s.winner)) || ((a == s.winner) && (b == s.loser)))
       (l.left ∙ ap (λ (n : ℕ). label_at h k (arc_number g.base.arcs n).left) (sym u.key))
       (l.right ∙ ap (λ (n : ℕ). label_at h k (arc_number g.base.arcs n).right) (sym u.key))
 
   left_family : stored.family_of g' ≡ filter (λ c. not (goes_out h k s c)) (stored.family_of g)
-  left_family = rw (settled.rows, settled.chains) (family_left (goes_out h k s) s (chains_of g.edges.items) (rows_of g) row_goes)
+  left_family = rw (settled.rows, settled.chains) (family_left (goes_out h k s) sides (chains_of g.edges.items) (rows_of g) row_goes)
 
   left_chains : stored.family_of g' ≡ chains_left h k
   left_chains =
@@ -146,14 +168,14 @@ module _ (k : ℕ) (g g' : Growth) (rest : IsAtRest k g) (more : k < length (his
   touched_point n t = at_end t.0 t.1 t.2 t.3 t.4
     where
       -- the chain is one of those that went out
-      out : (i : ℕ) (r : Current) → row_at (rows_of g) i ≡ Some r → is_row_between s r ≡ true
+      out : (i : ℕ) (r : Current) → row_at (rows_of g) i ≡ Some r → is_row_between sides r ≡ true
           → Among (get_or (chains_of g.edges.items) r.id []) (filter (λ c. not (not (goes_out h k s c))) (stored.family_of g))
       out i r e b =
           among_kept (λ c. not (not (goes_out h k s c))) (stored.family_of g) (get_or (chains_of g.edges.items) r.id [])
           (of_family (chains_of g.edges.items) (rows_of g) i r e) (ap (λ (b : Bool). not (not b)) (sym (row_goes i r e) ∙ b))
 
       -- it has an end at the point
-      ends : (i : ℕ) (r : Current) (e : row_at (rows_of g) i ≡ Some r) (b : is_row_between s r ≡ true) (p : Point)
+      ends : (i : ℕ) (r : Current) (e : row_at (rows_of g) i ≡ Some r) (b : is_row_between sides r ≡ true) (p : Point)
           → touches g.base.arcs p (get_or (chains_of g.edges.items) r.id []) ≡ true
           → 1 ≤ sum_by (chain_ends g.base.arcs p) (filter (λ c. not (not (goes_out h k s c))) (stored.family_of g))
       ends i r e b p t =
@@ -163,7 +185,7 @@ module _ (k : ℕ) (g g' : Growth) (rest : IsAtRest k g) (more : k < length (his
             sum_member (chain_ends g.base.arcs p) (filter (λ c. not (not (goes_out h k s c))) (stored.family_of g)) (get_or (chains_of g.edges.items) r.id []) (out i r e b),
           )
 
-      at_end : (i : ℕ) (r : Current) → row_at (rows_of g) i ≡ Some r → is_row_between s r ≡ true → (node_at g.nodes r.first ≡ n) ⊎ (node_at g.nodes r.last ≡ n)
+      at_end : (i : ℕ) (r : Current) → row_at (rows_of g) i ≡ Some r → is_row_between sides r ≡ true → (node_at g.nodes r.first ≡ n) ⊎ (node_at g.nodes r.last ≡ n)
           → (p : Point) × IsPointOf g.base g.nodes n p × (1 ≤ sum_by (chain_ends g.base.arcs p) (filter (λ c. not (not (goes_out h k s c))) (stored.family_of g)))
       at_end i r e b (inl t) =
           let c : Chain = get_or (chains_of g.edges.items) r.id [] in

@@ -14,7 +14,7 @@ use Rattle.edge_forest.proofs.Walks.{chain_step}
 abbrev pub AreArcs : ℕ → Chain → Type 0
 AreArcs arcs c = All (λ (d : Link). d.arc < arcs) c
 
-turned_arcs : (arcs : ℕ) (c : Chain) → AreArcs arcs c → AreArcs arcs (turned_round c)
+pub turned_arcs : (arcs : ℕ) (c : Chain) → AreArcs arcs c → AreArcs arcs (turned_round c)
 turned_arcs arcs c all =
     let turned : Chain = map (λ d. record { arc = d.arc; turned = not d.turned }) c in
     All-permutation (λ d. d.arc < arcs) turned (reverse turned) (IsPermutation-reverse turned)

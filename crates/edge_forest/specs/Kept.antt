@@ -6,7 +6,11 @@ use Rattle.edge_forest.specs.declared.edge.ForestEdge.{ForestEdge}
 use Rattle.edge_forest.specs.declared.growth.Growth.{Growth}
 use Rattle.edge_forest.specs.Forest.{EdgeForest, never, IsForest}
 use Rattle.edge_forest.specs.Growth.{ended, IsAtRest, IsFew}
+use Rattle.edge_forest.specs.declared.index.RangeIndex.{RangeIndex}
+use Rattle.edge_forest.specs.Index.{IsIndex}
 use Rattle.edge_forest.specs.Removed.{PointSteps, arc_points, step_of}
+use Rattle.edge_forest.specs.declared.spent.Spent.{Spent}
+use Rattle.edge_forest.specs.Spent.{AreSpent}
 
 -- the forest with its edges, its base map and the removed points
 abbrev pub forest_of : ℕ → Bool → Growth → PointSteps → EdgeForest
@@ -21,6 +25,12 @@ pub record IsKept (made : ℕ) (closed : Bool) (g : Growth) (t : PointSteps) : T
   pub done : closed ≡ true → made ≡ length (history_of g.base)
   pub listed : (p : Point) → Contains (arc_points g.base.arcs) p → Contains t.points p
   pub within : (p : Point) → step_of t p ≤ made
+
+-- Once it is closed, its index has the edges of each step, and its tables tell from which step on they have no points left.
+pub record IsWhole (made : ℕ) (closed : Bool) (g : Growth) (t : PointSteps) (index : RangeIndex) (spent : Spent) : Type 0 where
+  pub kept : IsKept made closed g t
+  pub indexed : closed ≡ true → IsIndex made g.edges.items index
+  pub told : closed ≡ true → AreSpent g.base.arcs t g.edges.items spent
 
 -- the edge with its high step, when the history is at its end
 abbrev pub closed_edge : ℕ → ForestEdge → ForestEdge

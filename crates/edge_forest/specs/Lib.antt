@@ -10,6 +10,8 @@ pub mod Walks
 pub mod Growth
 pub mod Start
 pub mod Settle
+pub mod Index
+pub mod Spent
 pub mod Kept
 pub mod Continued
-pub mod Beside
+pub mod FaceLabels

@@ -1,5 +1,5 @@
 -- The edges that have not ended, by their keys, and the arc ends at which they end.
-use Rattle.std.specs.Prelude.{◌≡◌, ◌≢◌, ◌<◌, ◌⊎◌, ℕ, ◌+◌, ◌*◌, ◌==◌, Bool, List, length, get_or, sum_by, Contains, Option, Some, None, if◌then◌else◌}
+use Rattle.std.specs.Prelude.{◌≡◌, ◌≢◌, ◌<◌, ◌⊎◌, ℕ, ◌+◌, ◌*◌, ◌==◌, Bool, List, [], ◌∷◌, flat_map, length, get_or, sum_by, Contains, Option, Some, None, if◌then◌else◌}
 use Rattle.edge_forest.specs.declared.nodes.Nodes.{Nodes}
 use Rattle.edge_forest.specs.declared.net.Current.{Current}
 use Rattle.edge_forest.specs.declared.net.Net.{Net}
@@ -66,3 +66,7 @@ pub record IsMeeting (net : Net) (places : List ℕ) (m : Meeting) : Type 0 wher
   pub other : row_at net.rows.items m.other_key ≡ Some m.other
   pub one_there : Contains places (tip_end m.one_ends m.one)
   pub other_there : Contains places (tip_end m.other_ends m.other)
+
+-- the numbers of the edges, in the order of their keys
+abbrev pub numbers_of : List (Option Current) → List ℕ
+numbers_of rows = flat_map (λ (row : Option Current). elim row [ None ↦ [] | Some r ↦ r.id ∷ [] ]) rows

@@ -1,41 +1,68 @@
 //! The edges whose range holds a step.
 
-ghost use Rattle.std.specs.Prelude.{◌≡◌, ◌≢◌, ◌<◌, ◌^◌, ℕ, true, length, filter, IfOk};
-ghost use Rattle.std.specs.List.{range_with_len};
+ghost use Rattle.std.specs.Prelude.{◌≡◌, ◌≢◌, ◌<◌, ◌≤◌, ◌+◌, ◌^◌, ◌++◌, ℕ, true, length, filter, All, IfOk, OnOk};
 ghost use Rattle.edge_forest.specs.Edges.{edge_at, is_alive, alive_edges};
+ghost use Rattle.edge_forest.specs.Index.{IsIndexFor};
 
 use crate::edge::ForestEdge;
+use crate::index::RangeIndex;
+use crate::looks::look;
 use std::alloc::Global;
-use tgap_model::{List, Memory};
+use std::sync::ledger::Ledger;
+use tgap_model::{List, Memory, Steps};
 
 /// Whether the range of the edge holds k.
-fn holds(edge: &ForestEdge, k: u32) -> bool
+pub fn holds(edge: &ForestEdge, k: u32) -> bool
     ensures { result ≡ is_alive k edge.now }
 {
     edge.low <= k && k < edge.high
 }
 
-/// The numbers of the edges whose range holds k, in ascending order.
-fn numbers_alive_at(alloc: Global, edges: &[ForestEdge], k: u32) -> Result<Vec<u32>, Memory>
-    requires few { length edges.now < 2 ^ 32 }
-    ensures { IfOk result (λ ids. ids.items ≡ filter (λ i. is_alive k (edge_at edges.now i)) (range_with_len 0 (length edges.now))) }
+/// Reads the ranges of these edges, and puts those after `ids` that hold k.
+fn read_ranges<L: Ledger>(
+    ids: &mut Vec<u32>,
+    edges: &[ForestEdge],
+    listed: &[u32],
+    k: u32,
+    looks: &mut Steps<L>,
+) -> Result<(), Memory>
+    requires { All (λ i. i < length edges.now) listed.now }
+    ensures ids { IfOk result (λ _. ids.new.items ≡ ids.old.items ++ filter (λ i. is_alive k (edge_at edges.now i)) listed.now) }
+    ensures most { looks.new ≤ looks.old + length listed.now }
+    ensures all { OnOk result (looks.new ≡ looks.old + length listed.now) }
 {
-    let mut ids = Vec::new(alloc);
-    for id in 0..edges.len() {
-        if holds(&edges[id], k) {
-            ids.push(id as u32)?;
+    for id in listed {
+        let edge = look(edges, *id as usize, looks);
+        if holds(edge, k) {
+            ids.push(*id)?;
         }
     }
-    Ok(ids)
+    Ok(())
 }
 
-/// The numbers of the edges whose range holds k, in the order of their keys.
-pub fn alive_at(alloc: Global, edges: &[ForestEdge], k: u32) -> Result<List<u32>, Memory>
+/// The numbers of the edges whose range holds k, in the order of their keys. The index is gone up from the leaf of the step
+/// to the root, and the edges that are listed on the way are read: one look for each of both.
+pub fn alive_at<L: Ledger>(
+    alloc: Global,
+    edges: &[ForestEdge],
+    index: &RangeIndex,
+    k: u32,
+    looks: &mut Steps<L>,
+) -> Result<List<u32>, Memory>
     requires few { length edges.now < 2 ^ 32 }
+    requires index { IsIndexFor k edges.now index.now }
     requires keys { (i j : ℕ) → i < length edges.now → j < length edges.now → i ≢ j → is_alive k (edge_at edges.now i) ≡ true → is_alive k (edge_at edges.now j) ≡ true → (edge_at edges.now i).key ≢ (edge_at edges.now j).key }
-    ensures { IfOk result (λ ids. ids ≡ alive_edges edges.now k) }
+    ensures ids { IfOk result (λ ids. ids ≡ alive_edges edges.now k) }
+    ensures most { looks.new ≤ looks.old + length (alive_edges edges.now k) + index.now.depth + 1 }
+    ensures all { OnOk result (looks.new ≡ looks.old + length (alive_edges edges.now k) + index.now.depth + 1) }
 {
-    let mut ids = numbers_alive_at(alloc, edges, k)?;
+    let mut ids = Vec::new(alloc);
+    let mut node = index.leaves + k as usize;
+    for _ in 0..index.depth + 1 {
+        let listed = look(index.nodes.as_slice(), node, looks);
+        read_ranges(&mut ids, edges, listed.as_slice(), k, looks)?;
+        node /= 2;
+    }
     ids.sort_unstable_by_key(|id| edges.get(*id as usize).map_or(0, |edge| edge.key));
     Ok(List::from(ids))
 }

@@ -7,24 +7,29 @@ ghost use Rattle.tgap_model.specs.Base.{same_point};
 ghost use Rattle.tgap_model.specs.Merged.{merged, step_number};
 ghost use Rattle.tgap_model.specs.Chains.{chain_points, chains_at};
 ghost use Rattle.edge_forest.specs.Edges.{IsForestEdge, edge_at, chain_of, is_alive, alive_edges};
-ghost use Rattle.edge_forest.specs.Beside.{AreBeside};
 ghost use Rattle.edge_forest.specs.Forest.{IsForest, IsRange, last_step, never, is_gone};
-ghost use Rattle.edge_forest.specs.Continued.{AreContinued};
+ghost use Rattle.edge_forest.specs.Continued.{AreContinued, AreJoined};
 ghost use Rattle.edge_forest.specs.Kept.{closed_edge};
 ghost use Rattle.edge_forest.specs.Removed.{arc_points};
 ghost use Rattle.edge_forest.specs.Walks.{chain_link};
 
 use crate::alive::alive_at;
 use crate::edge::ForestEdge;
-use crate::growth::{Growth, NEVER};
+use crate::face_labels::FaceLabels;
+use crate::growth::{Growth, closed_high};
+use crate::index::{RangeIndex, index_of};
+use crate::left::left_of_edge;
 use crate::net::Net;
 use crate::nodes::Nodes;
+use crate::present::numbers_of;
 use crate::removed::Removed;
-use crate::step::{grown, keys_at_both, make_step};
+use crate::spent::Spent;
+use crate::step::{grown, make_step};
 use crate::walk::{Link, links_of, points_of};
 use std::alloc::Global;
 use std::marker::Model;
-use tgap_model::{Base, Checked, List, Memory, MergeStep, Point, Removal};
+use std::sync::ledger::Ledger;
+use tgap_model::{Base, Checked, List, Memory, MergeStep, Point, Removal, Steps};
 
 /// The edges of a base map: those of the map as it is, and those that the steps of its merge history make, one step after
 /// the other until the history is closed. Beside them it has the vertices that were removed, with their steps.
@@ -32,6 +37,8 @@ use tgap_model::{Base, Checked, List, Memory, MergeStep, Point, Removal};
 pub struct Forest {
     growth: Growth,
     removed: Removed,
+    index: RangeIndex,
+    spent: Spent,
     made: u32,
     closed: bool,
 }
@@ -39,20 +46,13 @@ pub struct Forest {
 impl Model for Forest {
     ghost use Rattle.edge_forest.specs.Forest.{EdgeForest};
     ghost use Rattle.edge_forest.specs.Continued.{AreContinued};
-    ghost use Rattle.edge_forest.specs.Kept.{IsKept};
+    ghost use Rattle.edge_forest.specs.Kept.{IsWhole};
 
     ghost Value = { EdgeForest };
 
     ghost view = { λ f. record { base = f.growth.base; made = f.made; closed = f.closed; edges = f.growth.edges.items; removed = f.removed } };
 
-    ghost invariant = { λ f. IsKept f.made f.closed f.growth f.removed };
-}
-
-/// The high step of an edge when the history is at its end.
-fn closed_high(high: u32, last: u32) -> u32
-    ensures { result ≡ (if high == never then last else high) }
-{
-    if high == NEVER { last } else { high }
+    ghost invariant = { λ f. IsWhole f.made f.closed f.growth f.removed f.index f.spent };
 }
 
 /// Gives the edges that have not ended their high step.
@@ -79,7 +79,8 @@ fn give_up(alloc: Global, growth: &mut Growth)
         ends: Vec::new(alloc),
         counts: Vec::new(alloc),
     };
-    growth.faces = Vec::new(alloc);
+    growth.labels = FaceLabels::none(alloc);
+    growth.keys = Vec::new(alloc);
 }
 
 impl Forest {
@@ -95,6 +96,8 @@ impl Forest {
         Ok(Forest {
             growth,
             removed,
+            index: RangeIndex::none(alloc),
+            spent: Spent::none(alloc),
             made: 0,
             closed: false,
         })
@@ -119,6 +122,7 @@ impl Forest {
         ensures made { OnOk result (self.new.made ≡ self.old.made + 1) }
         ensures closed { OnOk result (self.new.closed ≡ false) }
         ensures continued { OnOk result (AreContinued self.old.edges self.new.edges) }
+        ensures joined { OnOk result (AreJoined (self.old.made + 1) (length self.old.edges) self.new.edges) }
         ensures gone { OnOk result ((k : ℕ) (p : Point) → is_gone self.new k p ≡ is_gone self.old k p) }
         ensures err { OnErr result (self.new ≡ self.old) }
     {
@@ -126,17 +130,6 @@ impl Forest {
         make_step(alloc, &mut self.growth, step, low)?;
         self.made = low;
         Ok(())
-    }
-
-    /// The keys of the edges that have not ended and border the loser or the winner of the next step. That of one that borders
-    /// both is given twice.
-    pub fn keys_beside(&self, alloc: Global, step: &MergeStep) -> Result<List<u32>, Memory>
-        requires open { self.now.closed ≡ false }
-        requires more { self.now.made < last_step self.now }
-        requires next { step.now ≡ step_number (merged self.now.base) (self.now.made + 1) }
-        ensures { IfOk result (λ keys. AreBeside self.now step.now keys) }
-    {
-        keys_at_both(alloc, &self.growth, step)
     }
 
     /// Notes these vertices, which are there, as removed at the step that was made last. It takes no memory, and a search
@@ -169,8 +162,14 @@ impl Forest {
         ensures gone { OnOk result ((k : ℕ) (p : Point) → is_gone self.new k p ≡ is_gone self.old k p) }
         ensures err { OnErr result (self.new ≡ self.old) }
     {
+        let edges = self.growth.edges.as_slice();
+        let index = index_of(alloc, edges, self.made)?;
+        let arcs = self.growth.base.arcs().as_slice();
+        let spent = Spent::of(alloc, arcs, edges, &self.removed)?;
         close_edges(&mut self.growth.edges, self.made + 1);
         give_up(alloc, &mut self.growth);
+        self.index = index;
+        self.spent = spent;
         self.closed = true;
         Ok(())
     }
@@ -218,15 +217,20 @@ impl Forest {
         self.removed.is_gone(point, k)
     }
 
-    /// The points of an edge after k steps, each junction once, less those removed at step k or before. It takes
-    /// a search among the points of the map for each of them.
+    /// The points of an edge after k steps, each junction once, less those removed at step k or before. Once the history is
+    /// closed the time is that of the points that are left and of the parts on the way to them, with a search among the
+    /// points of the map for each; before, that of all points of the edge.
     pub fn points_at(&self, alloc: Global, id: u32, k: u32) -> Result<List<Point>, Memory>
         requires { id < length self.now.edges }
         ensures { IfOk result (λ points. points
             ≡ filter (λ p. not (is_gone self.now k p)) (chain_points self.now.base.arcs (chain_of self.now.edges id))) }
     {
         let arcs = self.growth.base.arcs().as_slice();
-        let points = points_of(alloc, arcs, self.growth.edges.as_slice(), id)?;
+        let edges = self.growth.edges.as_slice();
+        if self.closed {
+            return left_of_edge(alloc, arcs, edges, &self.removed, &self.spent, id, k);
+        }
+        let points = points_of(alloc, arcs, edges, id)?;
         Ok(self.removed.left_of(points, k))
     }
 
@@ -237,18 +241,27 @@ impl Forest {
         ensures within { IfOk result (λ ids. All (λ id. id < length self.now.edges) ids) }
         ensures chains { IfOk result (λ ids. map (chain_of self.now.edges) ids ≡ chains_at (merged self.now.base) self.now.made) }
     {
-        alive_at(alloc, self.growth.edges.as_slice(), self.made)
+        numbers_of(alloc, self.growth.net.rows.as_slice())
     }
 
-    /// The numbers of the edges whose range holds k, in the order of their keys.
-    pub fn alive(&self, alloc: Global, k: u32) -> Result<List<u32>, Memory>
+    /// The numbers of the edges whose range holds k, in the order of their keys. One step is a look at an edge's range or at
+    /// a node of the index: as many as there are such edges, and one for each level of the index.
+    pub fn alive<L: Ledger>(
+        &self,
+        alloc: Global,
+        k: u32,
+        steps: &mut Steps<L>,
+    ) -> Result<List<u32>, Memory>
         requires closed { self.now.closed ≡ true }
         requires step { k ≤ last_step self.now }
         ensures value { IfOk result (λ ids. ids ≡ alive_edges self.now.edges k) }
         ensures within { IfOk result (λ ids. All (λ id. id < length self.now.edges) ids) }
         ensures low { IfOk result (λ ids. All (λ id. (edge_at self.now.edges id).low ≤ k) ids) }
         ensures chains { IfOk result (λ ids. map (chain_of self.now.edges) ids ≡ chains_at (merged self.now.base) k) }
+        ensures looks_most { (d : ℕ) → last_step self.now < 2 ^ d
+            → steps.new ≤ steps.old + length (chains_at (merged self.now.base) k) + d + 1 }
+        ensures looks_least { OnOk result (steps.old + length (chains_at (merged self.now.base) k) ≤ steps.new) }
     {
-        alive_at(alloc, self.growth.edges.as_slice(), k)
+        alive_at(alloc, self.growth.edges.as_slice(), &self.index, k, steps)
     }
 }

@@ -1,10 +1,10 @@
 //! A join at a node of degree two: two edges become one.
 
-ghost use Rattle.std.specs.Prelude.{◌≡◌, false, ◌<◌, ◌≤◌, ◌+◌, ◌-◌, ◌^◌, [], length, set};
+ghost use Rattle.std.specs.Prelude.{◌≡◌, ℕ, false, ◌<◌, ◌≤◌, ◌+◌, ◌-◌, ◌^◌, [], length, set};
 ghost use Rattle.std.specs.Vec.{vec_capacity, vec_len};
 ghost use Rattle.edge_forest.specs.Edges.{edge_at};
 ghost use Rattle.edge_forest.specs.Forest.{never};
-ghost use Rattle.edge_forest.specs.Continued.{AreContinued};
+ghost use Rattle.edge_forest.specs.Continued.{AreContinued, AreJoined};
 ghost use Rattle.edge_forest.specs.Growth.{IsStored, IsJoinedAt, meeting_parts, ended};
 
 use crate::edge::{ForestEdge, Part};
@@ -62,6 +62,7 @@ pub fn join(growth: &mut Growth, node: u32, low: u32, room: Vec<Part>)
     ensures stored { IsStored low growth.new }
     ensures joined { IsJoinedAt growth.old node growth.new }
     ensures continued { AreContinued growth.old.edges.items growth.new.edges.items }
+    ensures parts { (first : ℕ) → first ≤ length growth.old.edges.items → AreJoined low first growth.old.edges.items → AreJoined low first growth.new.edges.items }
     ensures capacity { vec_capacity growth.new.edges ≡ vec_capacity growth.old.edges }
     ensures count { vec_len growth.new.edges ≤ vec_len growth.old.edges + 1 }
 {
@@ -76,8 +77,8 @@ pub fn join(growth: &mut Growth, node: u32, low: u32, room: Vec<Part>)
         key: meeting.key,
         low,
         high: NEVER,
-        left: meeting.one.left,
-        right: meeting.one.right,
+        left: growth.labels.face(meeting.one.left),
+        right: growth.labels.face(meeting.one.right),
         parts: joined_parts(meeting, room),
     });
 }

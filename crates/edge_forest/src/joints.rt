@@ -5,7 +5,7 @@ ghost use Rattle.std.specs.List.{All};
 ghost use Rattle.std.specs.Vec.{vec_capacity, vec_len};
 ghost use Rattle.std.specs.List.Sorted.{IsStrictlyIncreasing};
 ghost use Rattle.edge_forest.specs.Forest.{never};
-ghost use Rattle.edge_forest.specs.Continued.{AreContinued};
+ghost use Rattle.edge_forest.specs.Continued.{AreContinued, AreJoined};
 ghost use Rattle.edge_forest.specs.Growth.{IsStored, IsJoinedInTurn, IsFew};
 
 use crate::edge::Part;
@@ -44,6 +44,7 @@ pub fn join_all(growth: &mut Growth, joints: &[u32], low: u32, mut rooms: Vec<Ve
     ensures stored { IsStored low growth.new }
     ensures joined { IsJoinedInTurn low growth.old joints.now growth.new }
     ensures continued { AreContinued growth.old.edges.items growth.new.edges.items }
+    ensures parts { AreJoined low (length growth.old.edges.items) growth.new.edges.items }
     ensures few { IsFew growth.new }
 {
     for node in joints {

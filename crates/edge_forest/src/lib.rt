@@ -5,18 +5,27 @@
 mod alive;
 mod copy;
 mod edge;
+mod face_labels;
 mod forest;
 mod growth;
+mod index;
 mod join;
 mod joints;
+mod keys;
+mod left;
+mod looks;
 mod net;
 mod nodes;
+mod present;
 mod removed;
 mod settle;
+mod span;
+mod spent;
 mod start;
 mod step;
 mod walk;
 
 pub use edge::{ForestEdge, Part};
+pub use face_labels::FaceLabels;
 pub use forest::Forest;
 pub use walk::Link;

@@ -9,7 +9,7 @@ ghost use Rattle.std.specs.List.{All};
 
 use crate::nodes::Nodes;
 
-/// An edge that has not ended: its number, the arc ends at which it starts and ends, and the present labels at its left
+/// An edge that has not ended: its number, the arc ends at which it starts and ends, and the labels of the faces at its left
 /// and right.
 #[derive(Clone, Copy, Debug)]
 pub struct Current {

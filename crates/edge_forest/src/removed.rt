@@ -5,7 +5,9 @@ ghost use Rattle.std.specs.List.{All, list_any};
 ghost use Rattle.std.specs.List.Sorted.{IsStrictlySortedBy};
 ghost use Rattle.tgap_model.specs.Base.{same_point};
 ghost use Rattle.edge_forest.specs.Removed.{point_cmp, arc_points, step_of, is_gone_by};
+ghost use Rattle.edge_forest.specs.Spent.{gone_step};
 
+use crate::growth::NEVER;
 use std::alloc::Global;
 use std::marker::Model;
 use tgap_model::{BaseArc, List, Memory, Point, Removal};
@@ -78,6 +80,14 @@ impl Removed {
     {
         let step = self.step_of(point);
         1 <= step && step <= k
+    }
+
+    /// The step at which a point was removed, or `NEVER` where it was not.
+    pub fn gone_step(&self, point: &Point) -> u32
+        ensures { result ≡ gone_step self.now point.now }
+    {
+        let step = self.step_of(point);
+        if step == 0 { NEVER } else { step }
     }
 
     /// Those of the points that were not removed at step k or before, in their order.

@@ -11,6 +11,7 @@ ghost use Rattle.edge_forest.specs.Start.{single, arc_edge, arc_row, AreKeysList
 
 use crate::copy::copy_base;
 use crate::edge::{ForestEdge, Part};
+use crate::face_labels::FaceLabels;
 use crate::growth::{Growth, NEVER};
 use crate::net::{Current, Net};
 use crate::nodes::{Nodes, empty_lists};
@@ -148,11 +149,13 @@ pub fn start(alloc: Global, checked: &Checked) -> Result<Growth, Memory>
     let points = end_points(alloc, arcs)?;
     let nodes = Nodes::of(alloc, points.as_slice())?;
     let net = single_net(alloc, arcs, &nodes)?;
+    let faces = 2 * base.classes().len() + 1;
     Ok(Growth {
         base: copy_base(alloc, base)?,
         edges: single_edges(alloc, arcs)?,
         nodes,
         net,
-        faces: face_keys(alloc, arcs, 2 * base.classes().len() + 1)?,
+        labels: FaceLabels::of(alloc, faces as u32)?,
+        keys: face_keys(alloc, arcs, faces)?,
     })
 }

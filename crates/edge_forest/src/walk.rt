@@ -31,7 +31,7 @@ fn push_turned(stack: &mut Vec<Part>, parts: &[Part]) -> Result<(), Memory>
 }
 
 /// Puts the parts of the edge that this part is at the end, in the direction of the part.
-fn push_parts_of(stack: &mut Vec<Part>, edges: &[ForestEdge], part: Part) -> Result<(), Memory>
+pub fn push_parts_of(stack: &mut Vec<Part>, edges: &[ForestEdge], part: Part) -> Result<(), Memory>
     requires edge { part.id < length edges.now }
     ensures { IfOk result (λ _. stack.new.items ≡ stack.old.items ++ inner_parts edges.now part) }
 {

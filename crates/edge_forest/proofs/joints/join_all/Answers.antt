@@ -1,4 +1,4 @@
-use Rattle.std.proofs.Common.{◌≡◌, ◌≤◌, [], Some, refl, ◌∙◌, arith}
+use Rattle.std.proofs.Common.{◌≡◌, ◌≤◌, [], length, Some, refl, ◌∙◌, arith}
 use Rattle.std.specs.Vec.{vec_capacity}
 use Rattle.std.proofs.lemmas.List.Elements.{All-pop}
 use Rattle.edge_forest.proofs.Continued.{continued_twice}
@@ -29,6 +29,7 @@ loop-node-preserved c = record {
       turn_next c.args.low c.args.growth.now c.loop-node.growth c.join.new.growth c.args.joints.now c.loop-node.node-index 0 _
       c.loop-node.invariant.joined c.loop-node-test.true refl c.join.ensures.joined c.join.ensures.stored;
   continued = continued_twice _ _ _ c.loop-node.invariant.continued c.join.ensures.continued;
+  parts = c.join.ensures.parts (length c.args.growth.now.edges.items) c.loop-node.invariant.continued.count c.loop-node.invariant.parts;
   rooms = omega (arith, c.loop-node.invariant.rooms, popped c.loop-node.rooms.items c.pop.new.self.items c.in-Some.room c.in-Some.ensures.items);
   empty = (All-pop (λ room. room.items ≡ []) c.loop-node.rooms.items c.pop.new.self.items (Some c.in-Some.room) c.in-Some.ensures.items c.loop-node.invariant.empty).0;
   room = (All-pop (λ room. 2 ≤ vec_capacity room) c.loop-node.rooms.items c.pop.new.self.items (Some c.in-Some.room) c.in-Some.ensures.items c.loop-node.invariant.room).0;

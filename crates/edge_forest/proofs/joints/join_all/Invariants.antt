@@ -2,7 +2,7 @@
 use Rattle.std.proofs.Common.{◌≡◌, ◌≤◌, ◌+◌, take, length, []}
 use Rattle.std.specs.List.{All}
 use Rattle.std.specs.Vec.{vec_capacity, vec_len}
-use Rattle.edge_forest.specs.Continued.{AreContinued}
+use Rattle.edge_forest.specs.Continued.{AreContinued, AreJoined}
 use Rattle.edge_forest.specs.Growth.{IsStored, IsJoinedInTurn, IsFew}
 use Rattle.edge_forest.proofs.joints.join_all.Given as goal
 
@@ -11,6 +11,7 @@ invariant-loop-node l = record {
   stored : IsStored l.low l.growth;
   joined : IsJoinedInTurn l.low l.fn.growth (take l.node-index l.joints) l.growth;
   continued : AreContinued l.fn.growth.edges.items l.growth.edges.items;
+  parts : AreJoined l.low (length l.fn.growth.edges.items) l.growth.edges.items;
   few : IsFew l.growth;
   rooms : length l.joints ≤ l.node-index + length l.rooms.items;
   empty : All (λ room. room.items ≡ []) l.rooms.items;

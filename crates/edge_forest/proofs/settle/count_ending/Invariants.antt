@@ -5,6 +5,6 @@ use Rattle.edge_forest.proofs.settle.count_ending.Given as goal
 
 abbrev pub invariant-loop-key : goal.invariant-loop-key
 invariant-loop-key l = record {
-  count : l.count ≡ count_by (is_ending l.step l.net.rows.items) (take l.key-index l.keys);
+  count : l.count ≡ count_by (is_ending l.sides l.net.rows.items) (take l.key-index l.keys);
   small : l.count ≤ l.key-index;
 }

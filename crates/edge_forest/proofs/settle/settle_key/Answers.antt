@@ -23,4 +23,4 @@ returns-else-is_between-clause-net c =
     let read : row_at growth.net.rows.items c.args.key ≡ Some c.in-Some.row = sym c.row_at.ensures ∙ c.in-Some.is in
     rw (c.relabel.ensures.rows, c.relabel.ensures.ends, c.relabel.ensures.counts)
     (relabelled_net growth.nodes growth.net.rows.items growth.net.ends.items growth.net.counts.items c.requires.net c.args.key c.in-Some.row
-    (relabel_row c.args.step.now c.in-Some.row) read refl refl)
+    (relabel_row c.args.sides c.in-Some.row) read refl refl)

@@ -12,9 +12,9 @@ settle_key-requires-clause-room c =
     let before = c.loop-key.invariant in
     omega (
       arith,
-      count_next c.args.step.now c.args.low c.args.keys.now c.loop-key.key-index c.args.growth.now c.loop-key.growth.nodes _ _ c.loop-key.touched.items
-          before.settling c.requires.made c.loop-key-test.true before.room,
-      count_all (is_ending c.args.step.now c.args.growth.now.net.rows.items) c.args.keys.now (c.loop-key.key-index + 1),
+      count_next c.args.sides c.args.low c.args.keys.now c.loop-key.key-index c.args.growth.now c.loop-key.growth.nodes _ _ c.loop-key.touched.items
+          before.settling c.requires.apart c.loop-key-test.true before.room,
+      count_all (is_ending c.args.sides c.args.growth.now.net.rows.items) c.args.keys.now (c.loop-key.key-index + 1),
       c.requires.room.1,
       before.capacity,
     )
@@ -26,15 +26,16 @@ loop-key-preserved c =
     record {
       base = after.base ∙ before.base;
       nodes = after.nodes ∙ before.nodes;
-      faces = after.faces ∙ before.faces;
+      labels = after.labels ∙ before.labels;
+      keys = after.keys ∙ before.keys;
       net = after.net;
-      settling = visit_next c.args.step.now c.args.low c.args.keys.now c.loop-key.key-index c.args.growth.now c.loop-key.growth.nodes _ _ _ _ _ _
-          before.settling c.requires.made c.requires.low c.loop-key-test.true before.nodes after.rows after.edges after.touched;
+      settling = visit_next c.args.sides c.args.low c.args.keys.now c.loop-key.key-index c.args.growth.now c.loop-key.growth.nodes _ _ _ _ _ _
+          before.settling c.requires.apart c.requires.low c.loop-key-test.true before.nodes after.rows after.edges after.touched;
       room = omega (
         arith,
         ap length after.touched ∙ length-append c.loop-key.touched.items _,
-        count_next c.args.step.now c.args.low c.args.keys.now c.loop-key.key-index c.args.growth.now c.loop-key.growth.nodes _ _ c.loop-key.touched.items
-            before.settling c.requires.made c.loop-key-test.true before.room,
+        count_next c.args.sides c.args.low c.args.keys.now c.loop-key.key-index c.args.growth.now c.loop-key.growth.nodes _ _ c.loop-key.touched.items
+            before.settling c.requires.apart c.loop-key-test.true before.room,
       );
       edges_capacity = after.edges_capacity ∙ before.edges_capacity;
       edges_count = after.edges_count ∙ before.edges_count;

@@ -9,10 +9,11 @@ abbrev pub invariant-loop-key : goal.invariant-loop-key
 invariant-loop-key l = record {
   base : l.growth.base ≡ l.initial.growth.base;
   nodes : l.growth.nodes ≡ l.initial.growth.nodes;
-  faces : l.growth.faces ≡ l.initial.growth.faces;
+  labels : l.growth.labels ≡ l.initial.growth.labels;
+  keys : l.growth.keys ≡ l.initial.growth.keys;
   net : IsNet l.growth.nodes l.growth.net;
-  settling : IsSettling l.step l.low (take l.key-index l.keys) l.initial.growth l.growth.net.rows.items l.growth.edges.items l.touched.items;
-  room : length l.touched.items ≤ 2 * count_by (is_ending l.step l.initial.growth.net.rows.items) (take l.key-index l.keys);
+  settling : IsSettling l.sides l.low (take l.key-index l.keys) l.initial.growth l.growth.net.rows.items l.growth.edges.items l.touched.items;
+  room : length l.touched.items ≤ 2 * count_by (is_ending l.sides l.initial.growth.net.rows.items) (take l.key-index l.keys);
   edges_capacity : vec_capacity l.growth.edges ≡ vec_capacity l.initial.growth.edges;
   edges_count : vec_len l.growth.edges ≡ vec_len l.initial.growth.edges;
   capacity : vec_capacity l.touched ≡ vec_capacity l.initial.touched;

@@ -10,7 +10,7 @@ use Rattle.edge_forest.specs.Nodes.{AreNodes}
 use Rattle.edge_forest.specs.Start.{single}
 use Rattle.edge_forest.proofs.StartNet.{end_points_length}
 use Rattle.edge_forest.proofs.Few.{few_at_start}
-use Rattle.edge_forest.proofs.StartStored.{arcs_few, arcs_long, arcs_below, stored_by_copy, family_at_start}
+use Rattle.edge_forest.proofs.StartStored.{arcs_few, faces_few, arcs_long, arcs_below, AreOwnLabels, stored_by_copy, family_at_start}
 use Rattle.edge_forest.proofs.start.start.Goals as goal
 
 pub end_points-requires : goal.end_points-requires
@@ -46,6 +46,15 @@ face_keys-requires-clause-below c =
     let many : c.len.result ≡ length c.base-base.result.now.classes = c.len.ensures ∙ ap length c.classes.ensures.value in
     arcs_below c.base-base.result.now c.as_slice-arcs.result.now c.len.result c.arcs.ensures.base (c.as_slice-arcs.ensures ∙ c.arcs.ensures.value) many
 
+pub overflow_mul-faces : goal.overflow_mul-faces
+overflow_mul-faces c = omega (arith, faces_few c.base-base.result.now c.len.result c.arcs.ensures.base (c.len.ensures ∙ ap length c.classes.ensures.value))
+
+pub overflow_add-faces : goal.overflow_add-faces
+overflow_add-faces c = omega (arith, faces_few c.base-base.result.now c.len.result c.arcs.ensures.base (c.len.ensures ∙ ap length c.classes.ensures.value))
+
+pub overflow_cast-faces : goal.overflow_cast-faces
+overflow_cast-faces c = omega (arith, faces_few c.base-base.result.now c.len.result c.arcs.ensures.base (c.len.ensures ∙ ap length c.classes.ensures.value))
+
 pub returns-clause-stored : goal.returns-clause-stored
 returns-clause-stored c =
     let m = c.base-base.result.now in
@@ -55,7 +64,8 @@ returns-clause-stored c =
       edges = c.in_ok-single_edges.field-0;
       nodes = c.in_ok-nodes.nodes;
       net = c.in_ok-net.net;
-      faces = c.in_ok-face_keys.field-0;
+      labels = c.in_ok-of.field-0;
+      keys = c.in_ok-face_keys.field-0;
     } in
     let partition = subst (λ (m : BaseMap). IsPartition (base_segments m)) (sym c.base-base.ensures.value) c.base-base.ensures.partition in
     let nodes = subst (λ (points : List Point). AreNodes points c.in_ok-nodes.nodes) (c.as_slice.ensures.value ∙ c.in_ok-points.ensures) c.in_ok-nodes.ensures in
@@ -63,6 +73,12 @@ returns-clause-stored c =
     stored_by_copy growth m arcs c.in_ok-copy_base.ensures (c.as_slice-arcs.ensures ∙ c.arcs.ensures.value) c.arcs.ensures.base partition nodes
     c.in_ok-net.ensures.net c.in_ok-net.ensures.rows c.in_ok-single_edges.ensures
     (c.in_ok-face_keys.ensures.count ∙ ap (λ (n : ℕ). 2 * n + 1) many) c.in_ok-face_keys.ensures.listed
+    (subst (λ (n : ℕ). AreOwnLabels c.in_ok-of.field-0 n) (ap (λ (n : ℕ). 2 * n + 1) many) (record {
+      faces_count = c.in_ok-of.ensures.faces_count;
+      labels_count = c.in_ok-of.ensures.labels_count;
+      labels = c.in_ok-of.ensures.labels;
+      own = c.in_ok-of.ensures.same;
+    }))
 
 pub returns-clause-singles : goal.returns-clause-singles
 returns-clause-singles c =

@@ -1,5 +1,5 @@
 -- Points that were there are removed at the step that was made last.
-use Rattle.std.proofs.Common.{◌≡◌, ◌<◌, ◌||◌, ◌&&◌, nat_le, ℕ, false, List, All, Contains, get_or, sym, subst}
+use Rattle.std.proofs.Common.{◌≡◌, ◌<◌, ◌||◌, ◌&&◌, nat_le, ℕ, false, List, All, Contains, get_or, true≢false, sym, ap, ◌∙◌, subst}
 use Rattle.std.specs.List.{list_any}
 use Rattle.tgap_model.specs.declared.geometry.Point.{Point}
 use Rattle.tgap_model.specs.declared.slice.Removal.{Removal}
@@ -14,15 +14,19 @@ pub note_all-requires : goal.note_all-requires
 note_all-requires c =
     subst (λ (rs : List Removal). All (λ r. Contains c.self.inside.removed.points r.point) rs) (sym c.as_slice.ensures) (λ k d l.
     let p = (get_or c.args.list.now k d).point in
-    c.self.invariant.listed p (subst (λ (f : EdgeForest). Contains (arc_points f.base.arcs) p) (sym c.self.view_is) (c.requires.there k d l)))
+    c.self.invariant.kept.listed p (subst (λ (f : EdgeForest). Contains (arc_points f.base.arcs) p) (sym c.self.view_is) (c.requires.there k d l)))
 
 pub invariant_of-self : goal.invariant_of-self
 invariant_of-self c =
     let made = c.self.inside.made in
     let steps = subst (λ (f : EdgeForest). All (λ (r : Removal). r.step ≡ f.made) c.args.list.now) (sym c.self.view_is) c.requires.steps in
     let noted = c.note_all.ensures.steps made (subst (λ (rs : List Removal). All (λ r. r.step ≡ made) rs) (sym c.as_slice.ensures) steps) in
-    removed_is_kept made c.self.inside.closed c.self.inside.growth c.self.inside.removed c.note_all.new.self c.self.invariant c.note_all.ensures.points
-    (steps_within c.self.inside.removed c.note_all.new.self made c.as_slice.result.now c.self.invariant.within noted)
+    record {
+      indexed = c.self.invariant.indexed;
+      told = λ e. absurd (true≢false (sym e ∙ ap (λ (f : EdgeForest). f.closed) c.self.view_is ∙ c.requires.open));
+      kept = removed_is_kept made c.self.inside.closed c.self.inside.growth c.self.inside.removed c.note_all.new.self c.self.invariant.kept c.note_all.ensures.points
+          (steps_within c.self.inside.removed c.note_all.new.self made c.as_slice.result.now c.self.invariant.kept.within noted);
+    }
 
 pub returns-clause-gone : goal.returns-clause-gone
 returns-clause-gone c =
@@ -35,4 +39,4 @@ returns-clause-gone c =
     c.as_slice.ensures (c.note_all.ensures.steps made) steps in
     subst (λ (f : EdgeForest). (k : ℕ) (p : Point)
     → is_gone_by c.note_all.new.self k p ≡ (is_gone f k p || (nat_le f.made k && list_any (λ r. same_point r.point p) list)))
-    c.self.view_is (gone_after c.self.inside.removed c.note_all.new.self made list positive c.self.invariant.within left noted)
+    c.self.view_is (gone_after c.self.inside.removed c.note_all.new.self made list positive c.self.invariant.kept.within left noted)
