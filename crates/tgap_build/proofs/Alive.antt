@@ -1,14 +1,11 @@
 -- The edges of a forest whose range holds a step: their chains are those after the step, they have different keys, and each key is that
 -- of an arc.
-use Rattle.std.proofs.Common.{◌≡◌, inl, inr, ℕ, ◌-◌, ◌<◌, ◌≤◌, Bool, true, nat_le, nat_lt, List, [], ◌∷◌, map, filter, length, IsPermutation, refl, sym, ap, ◌∙◌, subst, arith}
+use Rattle.std.proofs.Common.{◌≡◌, inl, inr, ℕ, ◌<◌, ◌≤◌, Bool, true, nat_lt, List, [], ◌∷◌, filter, length, IsPermutation, sym, subst, arith}
 use Rattle.std.specs.List.{range_with_len}
-use Rattle.std.proofs.lemmas.Bool.{cases_eq, and_from, and_parts, le-leb, lt-ltb, ltb-true}
+use Rattle.std.proofs.lemmas.Bool.{cases_eq}
 use Rattle.lemmas.proofs.Sorting.{sort_by-permutation}
-use Rattle.tgap_model.specs.declared.slice.Edge.{Edge}
-use Rattle.tgap_model.specs.declared.slice.Removal.{Removal}
 use Rattle.tgap_model.specs.Merged.{MergedMap, merged}
 use Rattle.tgap_model.specs.Chains.{Chain, key, has_links, chains_at}
-use Rattle.tgap_model.specs.Removals.{edge_of, edges_of}
 use Rattle.map_laws.proofs.ChainMembers.{Among, filter_among}
 use Rattle.map_laws.proofs.ChainLinks.{key_among}
 use Rattle.map_laws.proofs.Lists.{kept_among, among_kept, among_map, map_among, among_range, sort_among, among_sort}
@@ -16,7 +13,6 @@ use Rattle.removal_laws.proofs.ChainEnds.{chain_links, chain_arcs}
 use Rattle.slice_laws.proofs.Coverage.{range_holds}
 use Rattle.edge_forest.specs.Edges.{edge_at, chain_of, is_alive, alive_edges}
 use Rattle.edge_forest.specs.Forest.{EdgeForest, IsForest}
-use Rattle.edge_forest.specs.Continued.{AreContinued}
 use Rattle.edge_forest.proofs.Forests.{keys_differ}
 
 -- the key of a chain is the number of an arc
@@ -26,15 +22,6 @@ key_within h k c m = by c m (chain_links h k c m)
     by : (c : Chain) → Among c (chains_at h k) → has_links c ≡ true → key c < length h.base.arcs
     by [] m links = absurd cc
     by (d ∷ c) m links = let e = key_among d c in omega (arith, chain_arcs h k (d ∷ c) m e.0 e.1, e.2)
-
--- what has not ended after a step had not before
-pub alive_earlier : (f g : EdgeForest) → IsForest f → (k : ℕ) → 0 < k → f.made ≡ k - 1 → AreContinued f.edges g.edges
-    → (i : ℕ) → i < length f.edges → is_alive k (edge_at g.edges i) ≡ true → is_alive (k - 1) (edge_at f.edges i) ≡ true
-alive_earlier f g w k some made continued i l a =
-    let high : k < (edge_at g.edges i).high = ltb-true k (edge_at g.edges i).high (and_parts (nat_le (edge_at g.edges i).low k) (nat_lt k (edge_at g.edges i).high) a).1 in
-    and_from (nat_le (edge_at f.edges i).low (k - 1)) (nat_lt (k - 1) (edge_at f.edges i).high)
-    (le-leb (edge_at f.edges i).low (k - 1) (omega (arith, w.low i l, made)))
-    (lt-ltb (k - 1) (edge_at f.edges i).high (omega (arith, high, (continued.each i l).high)))
 
 module _ (f : EdgeForest) (w : IsForest f) (k : ℕ) (made : k ≤ f.made) where
   abbrev before : ℕ → ℕ → Bool
@@ -70,9 +57,6 @@ module _ (f : EdgeForest) (w : IsForest f) (k : ℕ) (made : k ≤ f.made) where
       let known = alive_known i.0 i.1 in
       (i.0, known.0, known.1, i.2)
 
-  pub alive_key : (i : ℕ) → i < length f.edges → is_alive k (edge_at f.edges i) ≡ true → (edge_at f.edges i).key < length f.base.arcs
-  alive_key i l a = omega (arith, key_within (merged f.base) k (chain_of f.edges i) (alive_chain i l a), (w.edges i l).key)
-
   -- one key, one number
   pub alive_same : (i j : ℕ) → i < length f.edges → j < length f.edges → is_alive k (edge_at f.edges i) ≡ true → is_alive k (edge_at f.edges j) ≡ true
       → (edge_at f.edges j).key ≡ (edge_at f.edges i).key → j ≡ i
@@ -80,12 +64,3 @@ module _ (f : EdgeForest) (w : IsForest f) (k : ℕ) (made : k ≤ f.made) where
     | inl s ↦ s
     | inr ne ↦ absurd (keys_differ f w k (w.chains k made) j i lj li ne aj ai e)
   ]
-
-  -- the edges after the step by number
-  pub edges_alive : (removals : List Removal) → map (λ i. edge_of (merged f.base) k removals (chain_of f.edges i)) (alive_edges f.edges k)
-      ≡ edges_of (merged f.base) k removals (chains_at (merged f.base) k)
-  edges_alive removals = mapped (alive_edges f.edges k) ∙ ap (edges_of (merged f.base) k removals) (w.chains k made)
-    where
-      mapped : (is : List ℕ) → map (λ i. edge_of (merged f.base) k removals (chain_of f.edges i)) is ≡ edges_of (merged f.base) k removals (map (chain_of f.edges) is)
-      mapped [] = refl
-      mapped (i ∷ is) = ap (λ (es : List Edge). edge_of (merged f.base) k removals (chain_of f.edges i) ∷ es) (mapped is)

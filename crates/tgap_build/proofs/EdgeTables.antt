@@ -4,7 +4,6 @@ use Rattle.std.specs.Prelude.{option_to_list, slice_set}
 use Rattle.std.specs.List.{list_any}
 use Rattle.std.specs.List.Sorted.{IsNonDecreasing}
 use Rattle.std.proofs.lemmas.Bool.{cases_eq, cases_lt, eq-eqb, ne_eqb, false_from_ne_true}
-use Rattle.std.proofs.lemmas.Grind.{flat_map-append}
 use Rattle.std.proofs.lemmas.List.{append-nil, take_all, get_or-set_same, get_or-set_other, get_or_default}
 use Rattle.std.proofs.lemmas.List.Elements.{filter-append}
 use Rattle.std.proofs.lemmas.List.Kept.{AllPairs-cons}
@@ -51,7 +50,7 @@ ascending_from a (Some x ∷ xs) h =
 pub ascending : (places : List (Option Edge)) → AreAtKeys places → AllPairs (λ (e f : Edge). e.key < f.key) (edges_in places)
 ascending places h = ascending_from 0 places (from_keyed places h)
 
-at_among : (places : List (Option Edge)) (i : ℕ) (e : Edge) → edge_in places i ≡ Some e → Among e (edges_in places)
+pub at_among : (places : List (Option Edge)) (i : ℕ) (e : Edge) → edge_in places i ≡ Some e → Among e (edges_in places)
 at_among [] i e is = absurd cc
 at_among (None ∷ xs) zero e is = absurd cc
 at_among (Some x ∷ xs) zero e is = inl (some_injective x e is)
@@ -91,15 +90,6 @@ cleared_from a (Some x ∷ xs) (suc i) h =
 pub cleared : (places : List (Option Edge)) (k : ℕ) → AreAtKeys places → edges_in (slice_set places k None) ≡ without_keys (k ∷ []) (edges_in places)
 cleared places k h = cleared_from 0 places k (from_keyed places h) ∙ (let e : 0 + k ≡ k = omega arith in ap (λ (n : ℕ). without_keys (n ∷ []) (edges_in places)) e)
 
--- a place that is not there is that of no edge
-pub not_there : (places : List (Option Edge)) (k : ℕ) → AreAtKeys places → length places ≤ k → without_keys (k ∷ []) (edges_in places) ≡ edges_in places
-not_there places k h le = sym (cleared places k h) ∙ ap edges_in (unchanged places k le)
-  where
-    unchanged : (xs : List (Option Edge)) (k : ℕ) → length xs ≤ k → slice_set xs k None ≡ xs
-    unchanged [] k le = refl
-    unchanged (x ∷ xs) zero le = absurd (omega (arith, le))
-    unchanged (x ∷ xs) (suc k) le = ap (λ (ys : List (Option Edge)). x ∷ ys) (unchanged xs k (omega (arith, le)))
-
 -- one key after the other
 pub without_more : (keys : List ℕ) (k : ℕ) (edges : List Edge) → without_keys (k ∷ []) (without_keys keys edges) ≡ without_keys (keys ++ k ∷ []) edges
 without_more keys k edges =
@@ -122,19 +112,6 @@ without_more keys k edges =
         by false c h = h
 
 -- ---- an edge comes
-
--- another place
-pub edges_push : (places : List (Option Edge)) → edges_in (places ++ None ∷ []) ≡ edges_in places
-edges_push places = flat_map-append option_to_list places (None ∷ []) ∙ append-nil (edges_in places)
-
-pub keyed_push : (places : List (Option Edge)) → AreAtKeys places → AreAtKeys (places ++ None ∷ [])
-keyed_push places h i e is = h i e (before places i is)
-  where
-    before : (xs : List (Option Edge)) (i : ℕ) → edge_in (xs ++ None ∷ []) i ≡ Some e → edge_in xs i ≡ Some e
-    before [] zero is = absurd cc
-    before [] (suc i) is = is
-    before (x ∷ xs) zero is = is
-    before (x ∷ xs) (suc i) is = before xs i is
 
 pub keyed_put : (places : List (Option Edge)) (e : Edge) → e.key < length places → AreAtKeys places → AreAtKeys (slice_set places e.key (Some e))
 keyed_put places e within h j f is = elim (cases_eq j e.key) [

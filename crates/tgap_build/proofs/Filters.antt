@@ -1,7 +1,5 @@
 -- Filters, one after the other and through maps.
-use Rattle.std.proofs.Common.{◌≡◌, inl, inr, Bool, true, false, cond, ◌&&◌, List, [], ◌∷◌, map, filter, refl, sym, ap, ap₂, ◌∙◌}
-use Rattle.std.proofs.Math.Bool.{and_comm}
-use Rattle.lemmas.proofs.Members.{filter_agree_on, All-from_members}
+use Rattle.std.proofs.Common.{◌≡◌, inl, inr, Bool, true, false, cond, ◌&&◌, List, [], ◌∷◌, map, filter, refl, ap, ap₂, ◌∙◌}
 use Rattle.map_laws.proofs.ChainMembers.{Among}
 
 -- maps that agree on the members
@@ -46,10 +44,3 @@ filter_both p q (x ∷ xs) = by (q x) (p x) refl (filter_both p q xs)
     by true false u h = ap (λ (d : Bool). cond d (x ∷ filter p (filter q xs)) (filter p (filter q xs))) u ∙ h
     by false true u h = h
     by false false u h = h
-
--- in either order
-pub filter_swap : {A : Type 0} (p q : A → Bool) (xs : List A) → filter p (filter q xs) ≡ filter q (filter p xs)
-filter_swap p q xs =
-    filter_both p q xs
-    ∙ filter_agree_on (λ x. p x && q x) (λ x. q x && p x) xs (All-from_members (λ x. (p x && q x) ≡ (q x && p x)) xs (λ x m. and_comm (p x) (q x)))
-    ∙ sym (filter_both q p xs)

@@ -1,18 +1,18 @@
 -- Edges in ascending order of key, some of which go while others come.
-use Rattle.std.proofs.Common.{◌≡◌, ◌≢◌, inl, inr, ℕ, ◌<◌, ◌≤◌, ◌==◌, Bool, true, false, not, nat_lt, List, [], ◌∷◌, ◌++◌, map, filter, get_or, All, AllPairs, Contains, IsPermutation, refl, sym, ap, ap₂, ◌∙◌, subst, true≢false, eq-eqb, arith}
+use Rattle.std.proofs.Common.{◌≡◌, ◌≢◌, inl, inr, ℕ, ◌<◌, ◌≤◌, ◌==◌, Bool, true, false, not, nat_lt, List, [], ◌∷◌, ◌++◌, map, filter, get_or, All, AllPairs, Contains, IsPermutation, refl, sym, ap, ◌∙◌, subst, true≢false, eq-eqb, arith}
 use Rattle.std.specs.Prelude.{⊤}
 use Rattle.std.specs.List.{list_any}
 use Rattle.std.specs.List.Sorted.{IsNonDecreasingBy}
-use Rattle.std.proofs.lemmas.Bool.{lt-ltb, eqb-true, false_from_ne_true}
+use Rattle.std.proofs.lemmas.Bool.{cases_lt, lt-ltb, eqb-true, false_from_ne_true}
 use Rattle.std.proofs.lemmas.List.Elements.{All-map}
 use Rattle.std.proofs.lemmas.List.Kept.{AllPairs-cons, AllPairs-filter}
-use Rattle.std.proofs.lemmas.List.Sorted.{IsPermutation-sym, IsPermutation-trans, All-permutation}
+use Rattle.std.proofs.lemmas.List.Sorted.{Contains-permutation, IsPermutation-sym, All-permutation}
 use Rattle.lemmas.specs.Sorting.{is_sorted_by, IsStrictOrderOn}
 use Rattle.lemmas.proofs.Orders.{nat_lt_order, order_by_key}
 use Rattle.lemmas.proofs.Members.{AllPairs-nil, AllPairs-head, AllPairs-tail, related_members, filter_agree_on, Contains-from_map}
 use Rattle.lemmas.proofs.Sorting.{sorted_cons, sorted_permutation, AllPairs-permutation}
 use Rattle.tgap_model.specs.declared.slice.Edge.{Edge}
-use Rattle.map_laws.proofs.ChainMembers.{Among, any_among, filter_among, among_right, append_among}
+use Rattle.map_laws.proofs.ChainMembers.{Among, any_among, filter_among, among_right, append_among, sorted_same}
 use Rattle.map_laws.proofs.Lists.{all_members, members_all, any_from, kept_among, among_kept, map_among, among_map}
 use Rattle.removal_laws.proofs.ChainEnds.{contained, among_contained}
 use Rattle.grid_index.specs.Live.{keys, without_keys, AreLive, IsLiveEdge}
@@ -45,6 +45,13 @@ pairs_both R (x ∷ xs) ys a b across =
     ]))
     (pairs_both R xs ys (AllPairs-tail R x xs a) b (λ y z m n. across y z (inr m) n))
 
+-- what ascends does not fall
+pub nondecreasing : {A : Type 0} (f : A → ℕ) (xs : List A) → AllPairs (λ x y. f x < f y) xs → IsNonDecreasingBy f xs
+nondecreasing f xs a i j d l s = elim (cases_lt i j) [
+  | inl less ↦ (let b = a i j d less s in omega (arith, b))
+  | inr more ↦ (let same : i ≡ j = omega (arith, l, more) in omega (arith, ap (λ (n : ℕ). f (get_or xs n d)) same))
+]
+
 -- ---- ascending edges
 
 abbrev pub Ascend : List Edge → Type 0
@@ -56,35 +63,34 @@ by_key e f = nat_lt e.key f.key
 key_order : IsStrictOrderOn (λ (e : Edge). ⊤) (λ (e f : Edge). nat_lt e.key f.key)
 key_order = order_by_key (λ (e : Edge). e.key) nat_lt_order
 
-sorted_from_pairs : {A : Type 0} (before : A → A → Bool) (xs : List A) → AllPairs (λ x y. before x y ≡ true) xs → is_sorted_by before xs ≡ true
+pub sorted_from_pairs : {A : Type 0} (before : A → A → Bool) (xs : List A) → AllPairs (λ x y. before x y ≡ true) xs → is_sorted_by before xs ≡ true
 sorted_from_pairs before [] h = refl
 sorted_from_pairs before (x ∷ xs) h =
     sorted_cons before x xs (AllPairs-head (λ x y. before x y ≡ true) x xs h) (sorted_from_pairs before xs (AllPairs-tail (λ x y. before x y ≡ true) x xs h))
 
-sorted : (edges : List Edge) → Ascend edges → is_sorted_by (λ (e f : Edge). nat_lt e.key f.key) edges ≡ true
+pub sorted : (edges : List Edge) → Ascend edges → is_sorted_by (λ (e f : Edge). nat_lt e.key f.key) edges ≡ true
 sorted edges a = sorted_from_pairs (λ (e f : Edge). nat_lt e.key f.key) edges (λ i j d l s. lt-ltb (get_or edges i d).key (get_or edges j d).key (a i j d l s))
+
+-- members that were put in order of a number which differs for each two of them are another list in that order with the same members
+pub in_order_same : {A : Type 0} (f : A → ℕ) (raw sorted whole : List A) → IsPermutation raw sorted → IsNonDecreasingBy f sorted → AllPairs (λ x y. f x ≢ f y) raw
+    → is_sorted_by (λ x y. nat_lt (f x) (f y)) whole ≡ true → ((x : A) → Among x raw → Among x whole) → ((x : A) → Among x whole → Among x raw) → sorted ≡ whole
+in_order_same {A} f raw sorted whole moved order apart ascend there back =
+    sorted_same f sorted whole (sorted_from_pairs (λ x y. nat_lt (f x) (f y)) sorted strictly) ascend
+    (λ x m. there x (among_contained raw x (Contains-permutation sorted raw x (IsPermutation-sym raw sorted moved) (contained sorted x m))))
+    (λ x m. among_contained sorted x (Contains-permutation raw sorted x moved (contained raw x (back x m))))
+  where
+    differ : AllPairs (λ x y. f x ≢ f y) sorted
+    differ = AllPairs-permutation (λ x y. f x ≢ f y) (λ x y ne e. ne (sym e)) raw sorted moved apart
+
+    strictly : AllPairs (λ x y. nat_lt (f x) (f y) ≡ true) sorted
+    strictly i j d l s =
+        let le : f (get_or sorted i d) ≤ f (get_or sorted j d) = order i j d (omega (arith, l)) s in
+        let ne : f (get_or sorted i d) ≢ f (get_or sorted j d) = differ i j d l s in
+        lt-ltb (f (get_or sorted i d)) (f (get_or sorted j d)) (omega arith)
 
 -- two such lists of the same edges are one
 pub ascending_same : (xs ys : List Edge) → Ascend xs → Ascend ys → IsPermutation xs ys → xs ≡ ys
 ascending_same xs ys a b moved = sorted_permutation key_order xs ys (λ k d l. tt) (sorted xs a) (sorted ys b) moved
-
--- edges that were put in order of key are those of another list in that order, if they are the same
-pub put_in_order : (kept sorted whole : List Edge) → IsPermutation kept sorted → IsNonDecreasingBy (λ (e : Edge). e.key) sorted → IsPermutation kept whole → Ascend whole
-    → sorted ≡ whole
-put_in_order kept sorted whole moved order same ascend = ascending_same sorted whole strictly ascend again
-  where
-    again : IsPermutation sorted whole
-    again = IsPermutation-trans sorted kept whole (IsPermutation-sym kept sorted moved) same
-
-    apart : AllPairs (λ (e f : Edge). e.key ≢ f.key) sorted
-    apart = AllPairs-permutation (λ (e f : Edge). e.key ≢ f.key) (λ e f ne eq. ne (sym eq)) whole sorted (IsPermutation-sym sorted whole again)
-        (λ i j d l s e. absurd (omega (arith, ascend i j d l s, e)))
-
-    strictly : Ascend sorted
-    strictly i j d l s =
-        let le : (get_or sorted i d).key ≤ (get_or sorted j d).key = order i j d (omega (arith, l)) s in
-        let ne : (get_or sorted i d).key ≢ (get_or sorted j d).key = apart i j d l s in
-        omega arith
 
 -- one key, one edge
 pub same_key : (edges : List Edge) → Ascend edges → (e f : Edge) → Among e edges → Among f edges → e.key ≡ f.key → e ≡ f
@@ -109,7 +115,7 @@ module _ (edges : List Edge) (a : Ascend edges) (p : Edge → Bool) where
           let same = same_key edges a f.0 e (kept_among p edges f.0 f.1) m (f.2 ∙ eqb-true k.0 e.key k.2) in
           true≢false (sym (filter_among p edges f.0 f.1) ∙ ap p same ∙ t))
 
-  left_is : without_keys (keys (filter p edges)) edges ≡ filter (λ e. not (p e)) edges
+  pub left_is : without_keys (keys (filter p edges)) edges ≡ filter (λ e. not (p e)) edges
   left_is =
       filter_agree_on (λ (e : Edge). not (list_any (λ k. k == e.key) (keys (filter p edges)))) (λ (e : Edge). not (p e)) edges
       (all_members (λ (e : Edge). not (list_any (λ k. k == e.key) (keys (filter p edges))) ≡ not (p e)) edges (λ e m. ap not (listed e m)))
@@ -152,15 +158,6 @@ module _ (edges : List Edge) (a : Ascend edges) (p : Edge → Bool) where
         subst (λ (ks : List ℕ). IsReplacement edges ks new) (sym gone_is)
         (subst (IsReplacement edges (keys (filter p edges))) (sym new_is)
         (record { there = gone_there; apart = gone_apart; fresh = come_fresh; distinct = come_distinct; live = come_live }))
-
-    -- then all are there
-    pub replaced : (gone : List ℕ) (new : List Edge) → gone ≡ keys (filter p edges) → new ≡ come
-        → (after : List Edge) → Ascend after → IsPermutation (without_keys gone edges ++ new) after → after ≡ all
-    replaced gone new gone_is new_is after ascend h =
-        let same : without_keys gone edges ++ new ≡ kept ++ come
-        = ap₂ (λ (ks : List ℕ) (es : List Edge). without_keys ks edges ++ es) gone_is new_is ∙ ap (λ (es : List Edge). es ++ come) left_is in
-        ascending_same after all ascend live.ascending
-        (IsPermutation-trans after (kept ++ come) all (IsPermutation-sym (kept ++ come) after (subst (λ (es : List Edge). IsPermutation es after) same h)) moved)
 
 -- what may come has other keys than what is left
 pub keys_apart : (edges : List Edge) (gone : List ℕ) (come : List Edge) → Ascend edges → IsReplacement edges gone come → AllPairs (λ (e f : Edge). e.key ≢ f.key) (without_keys gone edges ++ come)

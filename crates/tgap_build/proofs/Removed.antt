@@ -13,7 +13,6 @@ use Rattle.tgap_model.specs.History.{history_of}
 use Rattle.tgap_model.specs.Merged.{merged}
 use Rattle.tgap_model.specs.Removals.{is_removed, without, removals_to}
 use Rattle.edge_forest.specs.Forest.{EdgeForest, is_gone}
-use Rattle.slice_laws.proofs.Unions.{nothing_removed}
 use Rattle.step_laws.proofs.StepRemovals.{step_list, listed_next}
 use Rattle.tgap_build.specs.Built.{AreGone, HasRemoved}
 
@@ -33,26 +32,6 @@ none_removed f none = record {
       none k p ∙ ap (λ (i : ℕ). is_removed (removals_to (merged f.base) i) p) (sym first);
   later = λ k l p. none k p;
 }
-
--- nothing has changed
-pub still_removed : (f g : EdgeForest) (j : ℕ) → g.base ≡ f.base → ((k : ℕ) (p : Point) → is_gone g k p ≡ is_gone f k p) → HasRemoved f j → HasRemoved g j
-still_removed f g j base same h = record {
-  by_then = λ k l p. same k p ∙ h.by_then k l p ∙ ap (λ (m : BaseMap). is_removed (removals_to (merged m) k) p) (sym base);
-  later = λ k l p. same k p ∙ h.later k l p ∙ ap (λ (m : BaseMap). is_removed (removals_to (merged m) j) p) (sym base);
-}
-
--- where no vertex is ever removed, none is by one more step
-pub step_without : (f : EdgeForest) (k : ℕ) → f.base.rules.ratio ≡ 0 → HasRemoved f (k - 1) → HasRemoved f k
-step_without f k ratio h = record { by_then = λ i l. none i; later = λ i l p. none i p ∙ sym (to_none i p) ∙ to_none k p }
-  where
-    to_none : (j : ℕ) (p : Point) → false ≡ is_removed (removals_to (merged f.base) j) p
-    to_none j p = sym (ap (λ (rs : List Removal). is_removed rs p) (nothing_removed (merged f.base) j ratio))
-
-    none : (i : ℕ) → AreGone f i (removals_to (merged f.base) i)
-    none i p = elim (cases_lt (k - 1) i) [
-      | inl later ↦ h.later i (omega (arith, later)) p ∙ sym (to_none (k - 1) p) ∙ to_none i p
-      | inr early ↦ h.by_then i early p
-    ]
 
 -- what a step removes is noted with its number
 module _ (f g : EdgeForest) (k : ℕ) (base : is_base f.base ≡ true) (planar : IsPartition (base_segments f.base)) (some : 0 < k)

@@ -1,6 +1,6 @@
 -- What a sweep takes out of the edges: the edges that do not border the new face stay as they are.
-use Rattle.std.proofs.Common.{◌≡◌, ℕ, zero, suc, ◌+◌, ◌-◌, ◌<◌, ◌≤◌, ℤ, Bool, true, false, cond, ◌==◌, List, [], ◌∷◌, ◌++◌, length, length-append, get_or, All, refl, sym, ap, ap₂, ◌∙◌, arith}
-use Rattle.std.proofs.lemmas.List.{get_or-map, get_or_append_left}
+use Rattle.std.proofs.Common.{◌≡◌, ℕ, zero, suc, ◌+◌, ◌-◌, ◌<◌, ◌≤◌, ℤ, Bool, true, false, cond, ◌==◌, List, [], ◌∷◌, ◌++◌, length, length-append, get_or, filter, All, refl, sym, ap, ap₂, ◌∙◌, subst, arith}
+use Rattle.std.proofs.lemmas.List.{append_cancel_left, get_or-map, get_or_append_left}
 use Rattle.std.proofs.Math.Seq.{get_or-append_seam}
 use Rattle.tgap_model.specs.declared.geometry.Point.{Point}
 use Rattle.tgap_model.specs.declared.slice.Edge.{Edge}
@@ -16,6 +16,7 @@ use Rattle.removal_laws.specs.Trace.{swept_edge, swept_edges, step_area, edges_b
 use Rattle.removal_laws.proofs.Less.{without_both}
 use Rattle.removal_laws.proofs.StandOnce.{partition_has_removals}
 use Rattle.step_laws.proofs.StepRemovals.{step_list, listed_next}
+use Rattle.record_laws.proofs.PutsBack.{listed_at}
 
 -- ---- a sweep
 
@@ -55,6 +56,17 @@ module _ (ratio : ℕ) (area : ℤ) (made : ℕ) where
       by false next = next e
 
 -- ---- a step
+
+-- the vertices that are listed with its number are what it takes out
+pub now_is : (m : BaseMap) (base : is_base m ≡ true) (planar : IsPartition (base_segments m)) (k : ℕ) (some : 0 < k) (within : k ≤ length (history_of m))
+    → step_list m base planar k some within ≡ filter (λ (r : Removal). r.step == k) (removals_to (merged m) k)
+now_is m base planar k some within =
+    let next : suc (k - 1) ≡ k = omega (arith, some) in
+    append_cancel_left (removals_to (merged m) (k - 1)) _ _ (
+    sym (listed_next m base planar k some within)
+    ∙ subst (λ (i : ℕ). removals_to (merged m) i ≡ removals_to (merged m) (k - 1) ++ filter (λ (r : Removal). r.step == i) (removals_to (merged m) i)) next
+    (listed_at (merged m) (k - 1) (omega (arith, some, within)))
+    )
 
 -- less some vertices and then others
 less_more : (m : BaseMap) (k : ℕ) (rs ss : List Removal) (cs : List Chain) → edges_less ss (edges_of (merged m) k rs cs) ≡ edges_of (merged m) k (rs ++ ss) cs

@@ -1,7 +1,7 @@
 pub mod Built
 pub mod Running
 pub mod EdgeTable
+pub mod Table
+pub mod OldEdges
 pub mod Boxes
-pub mod Holders
-pub mod Pieces
-pub mod Mends
+pub mod Changes

@@ -1,194 +1,406 @@
 //! Edges by their keys, while the history is run.
 
-ghost use Rattle.std.specs.Prelude.{◌≡◌, ◌≢◌, ◌<◌, ◌++◌, ◌∷◌, [], true, filter, length, All, AllPairs, Contains, IsPermutation, IfOk, OnOk, option_to_list};
-ghost use Rattle.std.specs.List.Sorted.{IsNonDecreasing};
-ghost use Rattle.grid_index.specs.Live.{without_keys};
+ghost use Rattle.std.specs.Prelude.{◌≡◌, ◌≢◌, ◌<◌, ◌↔◌, ◌++◌, ◌∷◌, [], ℕ, None, filter, map, length, replicate, set, reverse, option_map, option_to_list, All, AllPairs, Contains, IsPermutation, IfOk, OnOk, not};
+ghost use Rattle.tgap_model.specs.Removals.{has_side};
+ghost use Rattle.tgap_model.specs.Records.{is_edge_between};
+ghost use Rattle.grid_index.specs.Live.{keys, without_keys};
+ghost use Rattle.edge_forest.specs.FaceLabels.{label_of, HasLabel, IsCurrent};
 ghost use Rattle.tgap_build.specs.EdgeTable.{edge_in, edges_in, AreAtKeys};
-ghost use Rattle.tgap_build.specs.Running.{is_touched};
+ghost use Rattle.tgap_build.specs.Running.{relabelled};
+ghost use Rattle.tgap_build.specs.Table.{faced, labelled_edges, table_edges, IsTable, HaveSameRoom, left_by, moved_label, moved_edge, has_both, has_first, place_after, lists_after, oriented, glued, edge_with, joined_row, joined_edge, old_keys, with_points};
 
-use crate::face_edges::is_touched;
+use crate::joined::OldEdge;
+use edge_forest::FaceLabels;
 use std::alloc::Global;
-use std::marker::Model;
-use tgap_model::{Edge, List, Memory, MergeStep, copied_edge};
+use std::mem;
+use tgap_model::{Edge, List, Memory, MergeStep, Point, copied_edge};
 
-/// Edges, each at the place of its key. Contracts see the list of them, in order of key.
+/// Edges, each at the place of its key, and for each label the keys of the edges that have it at a side, and maybe of others. An
+/// edge has labels where it would have faces.
 #[derive(Debug, Drop)]
 pub struct EdgeTable {
     places: Vec<Option<Edge>>,
+    beside: Vec<List<u32>>,
+    labels: FaceLabels,
 }
 
-impl Model for EdgeTable {
-    ghost use Rattle.std.specs.Prelude.{List as Sequence};
-    ghost use Rattle.tgap_model.specs.declared.slice.Edge.{Edge as Line};
-    ghost use Rattle.tgap_build.specs.EdgeTable.{edges_in, AreAtKeys};
-
-    ghost Value = { Sequence Line };
-
-    ghost view = { λ t. edges_in t.places.items };
-
-    ghost invariant = { λ t. AreAtKeys t.places.items };
+/// What a step changes in the table: the edges between its loser and its winner, which are out, and the keys of those that had the
+/// loser at a side and stay, in ascending order.
+#[derive(Debug, Drop)]
+pub struct Merging {
+    pub ended: List<Edge>,
+    pub losing: Vec<u32>,
 }
 
-/// Empties the place of a key.
-fn clear(places: &mut Vec<Option<Edge>>, key: u32)
-    requires { AreAtKeys places.old.items }
-    ensures keyed { AreAtKeys places.new.items }
-    ensures left { edges_in places.new.items ≡ without_keys (key ∷ []) (edges_in places.old.items) }
+/// So many empty lists.
+fn empty_lists(alloc: Global, count: u32) -> Result<Vec<List<u32>>, Memory>
+    ensures { IfOk result (λ lists. lists.items ≡ replicate count []) }
 {
-    if (key as usize) < places.len() {
-        places[key as usize] = None;
+    let mut lists = Vec::with_capacity(alloc, count as usize)?;
+    for _ in 0..count {
+        lists.push(List::new(alloc))?;
     }
+    Ok(lists)
 }
 
-/// Empties the places of these keys.
-fn clear_all(places: &mut Vec<Option<Edge>>, keys: &[u32])
-    requires { AreAtKeys places.old.items }
-    ensures keyed { AreAtKeys places.new.items }
-    ensures left { edges_in places.new.items ≡ without_keys keys.now (edges_in places.old.items) }
+/// So many empty places.
+fn empty_places(alloc: Global, count: usize) -> Result<Vec<Option<Edge>>, Memory>
+    ensures { IfOk result (λ places. places.items ≡ replicate count None) }
 {
-    for key in keys {
-        clear(places, *key);
-    }
-}
-
-/// Makes empty places up to that of a key.
-fn widen(places: &mut Vec<Option<Edge>>, key: u32) -> Result<(), Memory>
-    requires { AreAtKeys places.old.items }
-    ensures keyed { AreAtKeys places.new.items }
-    ensures same { edges_in places.new.items ≡ edges_in places.old.items }
-    ensures room { OnOk result (key < length places.new.items) }
-{
-    for _i in places.len()..key as usize + 1 {
+    let mut places = Vec::with_capacity(alloc, count)?;
+    for _ in 0..count {
         places.push(None)?;
     }
-    Ok(())
+    Ok(places)
 }
 
-/// Puts an edge at the place of its key.
-fn put(places: &mut Vec<Option<Edge>>, edge: Edge) -> Result<(), Memory>
-    requires { AreAtKeys places.old.items }
-    ensures keyed { AreAtKeys places.new.items }
-    ensures moved { OnOk result (IsPermutation (without_keys (edge.key ∷ []) (edges_in places.old.items) ++ edge ∷ []) (edges_in places.new.items)) }
+/// These keys, in ascending order, each once.
+pub fn in_order(keys: List<u32>) -> Vec<u32>
+    ensures ascending { AllPairs (λ j k. j < k) result.items }
+    ensures same { (k : ℕ) → Contains result.items k ↔ Contains keys k }
 {
-    let place = edge.key as usize;
-    widen(places, edge.key)?;
-    places[place] = Some(edge);
+    let mut keys = keys.into_vec();
+    keys.sort_unstable();
+    keys.dedup();
+    keys
+}
+
+/// A label after one has taken the place of another.
+fn moved_label(from: u32, to: u32, label: u32) -> u32
+    ensures { result ≡ moved_label from to label }
+{
+    if label == from { to } else { label }
+}
+
+/// The edge with its faces in place of their labels.
+fn faced(labels: &FaceLabels, edge: Edge) -> Edge
+    requires left { edge.left < length labels.now.faces.items }
+    requires right { edge.right < length labels.now.faces.items }
+    ensures { result ≡ faced labels.now edge }
+{
+    Edge {
+        key: edge.key,
+        left: labels.face(edge.left),
+        right: labels.face(edge.right),
+        points: edge.points,
+    }
+}
+
+/// Puts points at the end, from the last one to the first.
+fn push_reversed(row: &mut Vec<Point>, points: &[Point]) -> Result<(), Memory>
+    ensures { OnOk result (row.new.items ≡ row.old.items ++ reverse points.now) }
+{
+    for point in points.iter().rev() {
+        row.push(*point)?;
+    }
     Ok(())
 }
 
-/// Puts edges, whose keys are new and differ, each at the place of its key.
-fn put_all(places: &mut Vec<Option<Edge>>, edges: List<Edge>) -> Result<(), Memory>
+/// The points of a row and those of an edge, turned round where it runs against the row, which begins where the row ends.
+fn appended(row: Vec<Point>, points: List<Point>, turned: bool) -> Result<Vec<Point>, Memory>
+    ensures { IfOk result (λ longer. longer.items ≡ glued row.items (oriented turned points)) }
+{
+    if row.is_empty() && !turned {
+        return Ok(points.into_vec());
+    }
+    let mut row = row;
+    row.pop();
+    if turned {
+        push_reversed(&mut row, points.as_slice())?;
+    } else {
+        row.extend_from_slice(points.as_slice())?;
+    }
+    Ok(row)
+}
+
+/// Takes the edges out of which another one is made, and gives the points of that one.
+fn take_row(
+    alloc: Global,
+    places: &mut Vec<Option<Edge>>,
+    parts: &[OldEdge],
+) -> Result<Vec<Point>, Memory>
     requires keyed { AreAtKeys places.old.items }
-    requires apart { AllPairs (λ e f. e.key ≢ f.key) (edges_in places.old.items ++ edges) }
-    ensures keyed { AreAtKeys places.new.items }
-    ensures moved { OnOk result (IsPermutation (edges_in places.old.items ++ edges) (edges_in places.new.items)) }
+    requires there { All (λ p. Contains (keys (edges_in places.old.items)) p.key) parts.now }
+    requires apart { AllPairs (λ p q. p.key ≢ q.key) parts.now }
+    ensures row { IfOk result (λ row. row.items ≡ joined_row places.old.items parts.now) }
+    ensures keyed { OnOk result (AreAtKeys places.new.items) }
+    ensures left { OnOk result (edges_in places.new.items ≡ without_keys (old_keys parts.now) (edges_in places.old.items)) }
+    ensures room { OnOk result (length places.new.items ≡ length places.old.items) }
 {
-    for edge in edges.into_vec() {
-        put(places, edge)?;
-    }
-    Ok(())
-}
-
-/// Copies of the edges at these places.
-fn copies_at(alloc: Global, places: &[Option<Edge>]) -> Result<List<Edge>, Memory>
-    ensures { IfOk result (λ copies. copies ≡ edges_in places.now) }
-{
-    let mut copies = List::new(alloc);
-    for place in places {
-        if let Some(edge) = place {
-            copies.push(copied_edge(alloc, edge)?)?;
+    let mut row = Vec::new(alloc);
+    for part in parts {
+        if let Some(edge) = places[part.key as usize].take() {
+            row = appended(row, edge.points, part.turned)?;
         }
     }
-    Ok(copies)
-}
-
-/// Appends a copy of the edge at a place, if there is one and it borders a face that the step merges.
-fn push_touched(
-    alloc: Global,
-    step: &MergeStep,
-    places: &[Option<Edge>],
-    place: usize,
-    touched: &mut List<Edge>,
-) -> Result<(), Memory>
-    ensures { OnOk result (touched.new ≡ touched.old ++ filter (is_touched step.now) (option_to_list (edge_in places.now place))) }
-{
-    if place >= places.len() {
-        return Ok(());
-    }
-    if let Some(edge) = &places[place] {
-        if is_touched(step, edge) {
-            touched.push(copied_edge(alloc, edge)?)?;
-        }
-    }
-    Ok(())
-}
-
-/// Copies of the edges that border a face that the step merges, whose keys are among these, which ascend.
-fn touched_at(
-    alloc: Global,
-    step: &MergeStep,
-    places: &[Option<Edge>],
-    keys: &[u32],
-) -> Result<List<Edge>, Memory>
-    requires keyed { AreAtKeys places.now }
-    requires ascending { IsNonDecreasing keys.now }
-    requires listed { All (λ e. is_touched step.now e ≡ true → Contains keys.now e.key) (edges_in places.now) }
-    ensures { IfOk result (λ touched. touched ≡ filter (is_touched step.now) (edges_in places.now)) }
-{
-    let mut touched = List::new(alloc);
-    let mut next = 0;
-    for key in keys {
-        let place = *key as usize;
-        if next <= place {
-            push_touched(alloc, step, places, place, &mut touched)?;
-            next = place + 1;
-        }
-    }
-    Ok(touched)
+    Ok(row)
 }
 
 impl EdgeTable {
-    /// The table of these edges.
-    pub fn of(alloc: Global, edges: List<Edge>) -> Result<EdgeTable, Memory>
-        requires { AllPairs (λ e f. e.key < f.key) edges }
-        ensures { IfOk result (λ table. table ≡ edges) }
+    /// The table of these edges of a map before its first step, whose keys are below `keys`. Faces are numbered below `faces` in
+    /// the end.
+    pub fn of(
+        alloc: Global,
+        keys: usize,
+        faces: u32,
+        edges: List<Edge>,
+    ) -> Result<EdgeTable, Memory>
+        requires ascending { AllPairs (λ e f. e.key < f.key) edges }
+        requires keys { All (λ e. e.key < keys) edges }
+        requires sides { All (λ e. (e.left < faces) × (e.right < faces)) edges }
+        ensures table { IfOk result (λ table. IsTable table) }
+        ensures edges { IfOk result (λ table. table_edges table ≡ edges) }
+        ensures places { IfOk result (λ table. length table.places.items ≡ keys) }
+        ensures lists { IfOk result (λ table. length table.beside.items ≡ faces) }
+        ensures labels { IfOk result (λ table. (f : ℕ) → f < faces → HasLabel table.labels f) }
     {
-        let mut places = Vec::new(alloc);
-        put_all(&mut places, edges)?;
-        Ok(EdgeTable { places })
+        let mut table = EdgeTable {
+            places: empty_places(alloc, keys)?,
+            beside: empty_lists(alloc, faces)?,
+            labels: FaceLabels::of(alloc, faces)?,
+        };
+        for edge in edges.into_vec() {
+            table.put(edge)?;
+        }
+        Ok(table)
     }
 
-    /// Copies of all edges, in order of key.
-    pub fn copies(&self, alloc: Global) -> Result<List<Edge>, Memory>
-        ensures { IfOk result (λ copies. copies ≡ self.now) }
+    /// Puts an edge that has labels at the place of its key, which is empty.
+    fn put(&mut self, edge: Edge) -> Result<(), Memory>
+        requires table { IsTable self.old }
+        requires key { edge.key < length self.old.places.items }
+        requires left { (edge.left < length self.old.beside.items) × IsCurrent self.old.labels edge.left }
+        requires right { (edge.right < length self.old.beside.items) × IsCurrent self.old.labels edge.right }
+        ensures table { OnOk result (IsTable self.new) }
+        ensures moved { OnOk result (IsPermutation (without_keys (edge.key ∷ []) (labelled_edges self.old) ++ edge ∷ []) (labelled_edges self.new)) }
+        ensures labels { self.new.labels ≡ self.old.labels }
+        ensures room { OnOk result (HaveSameRoom self.old self.new) }
     {
-        copies_at(alloc, &self.places)
+        let place = edge.key as usize;
+        self.beside[edge.left as usize].push(edge.key)?;
+        self.beside[edge.right as usize].push(edge.key)?;
+        self.places[place] = Some(edge);
+        Ok(())
     }
 
-    /// Copies of the edges that border a face that the step merges, in order of key. Their keys are among those that are given,
-    /// and no other edge is looked at.
-    pub fn touched(
+    /// Merges the loser of a step with its winner, whose labels these are, on the edge with this key, if it is there and has
+    /// the loser's label.
+    fn merge_edge(
+        &mut self,
+        loser: u32,
+        winner: u32,
+        key: u32,
+        merging: &mut Merging,
+    ) -> Result<(), Memory>
+        requires key { key < length self.old.places.items }
+        requires winner { winner < length self.old.beside.items }
+        requires labels { All (λ e. (e.left < length self.old.labels.faces.items) × (e.right < length self.old.labels.faces.items)) (option_to_list (edge_in self.old.places.items key)) }
+        ensures places { OnOk result (self.new.places.items ≡ set self.old.places.items key (place_after loser winner (edge_in self.old.places.items key))) }
+        ensures lists { OnOk result (self.new.beside.items ≡ lists_after loser winner key (edge_in self.old.places.items key) self.old.beside.items) }
+        ensures labels { self.new.labels ≡ self.old.labels }
+        ensures ended { OnOk result (merging.new.ended
+            ≡ merging.old.ended ++ map (faced self.old.labels) (filter (has_both loser winner) (option_to_list (edge_in self.old.places.items key)))) }
+        ensures losing { OnOk result (merging.new.losing.items
+            ≡ merging.old.losing.items ++ map (λ e. key) (filter (has_first loser winner) (option_to_list (edge_in self.old.places.items key)))) }
+    {
+        let place = key as usize;
+        let Some(edge) = self.places[place].take() else {
+            return Ok(());
+        };
+        if !edge.has_side(loser) {
+            self.places[place] = Some(edge);
+        } else if edge.has_side(winner) {
+            let edge = faced(&self.labels, edge);
+            merging.ended.push(edge)?;
+        } else {
+            let edge = Edge {
+                key: edge.key,
+                left: moved_label(loser, winner, edge.left),
+                right: moved_label(loser, winner, edge.right),
+                points: edge.points,
+            };
+            self.places[place] = Some(edge);
+            self.beside[winner as usize].push(key)?;
+            merging.losing.push(key)?;
+        }
+        Ok(())
+    }
+
+    /// Takes out the edges between the loser of a step and its winner, and gives all others the new face where they had one of the
+    /// two. The time is that of the loser's edges, less their points.
+    pub fn merge(&mut self, alloc: Global, step: &MergeStep) -> Result<Merging, Memory>
+        requires table { IsTable self.old }
+        requires loser { (step.now.loser < length self.old.beside.items) × HasLabel self.old.labels step.now.loser }
+        requires winner { (step.now.winner < length self.old.beside.items) × HasLabel self.old.labels step.now.winner }
+        requires apart { step.now.loser ≢ step.now.winner }
+        requires made { step.now.made < length self.old.beside.items }
+        requires fresh { All (λ e. (e.left ≢ step.now.made) × (e.right ≢ step.now.made)) (table_edges self.old) }
+        ensures table { OnOk result (IsTable self.new) }
+        ensures edges { OnOk result (table_edges self.new ≡ map (relabelled step.now) (left_by step.now (table_edges self.old))) }
+        ensures labelled { OnOk result (labelled_edges self.new
+            ≡ map (moved_edge (label_of self.old.labels step.now.loser) (label_of self.old.labels step.now.winner))
+            (filter (λ e. not (is_edge_between step.now.loser step.now.winner (faced self.old.labels e))) (labelled_edges self.old))) }
+        ensures ended { IfOk result (λ m. m.ended ≡ filter (is_edge_between step.now.loser step.now.winner) (table_edges self.old)) }
+        ensures losing { IfOk result (λ m. m.losing.items ≡ keys (filter (has_side step.now.loser) (left_by step.now (table_edges self.old)))) }
+        ensures label { OnOk result (label_of self.new.labels step.now.made ≡ label_of self.old.labels step.now.winner) }
+        ensures made { OnOk result (HasLabel self.new.labels step.now.made) }
+        ensures others { OnOk result ((f : ℕ) → f ≢ step.now.loser → f ≢ step.now.winner → f ≢ step.now.made → HasLabel self.old.labels f → HasLabel self.new.labels f) }
+        ensures room { OnOk result (HaveSameRoom self.old self.new) }
+    {
+        let loser = self.labels.label(step.loser);
+        let winner = self.labels.label(step.winner);
+        let listed = mem::replace(&mut self.beside[loser as usize], List::new(alloc));
+        let mut merging = Merging {
+            ended: List::new(alloc),
+            losing: Vec::new(alloc),
+        };
+        let keys = in_order(listed);
+        for key in &keys {
+            self.merge_edge(loser, winner, *key, &mut merging)?;
+        }
+        self.labels.merge(step);
+        Ok(merging)
+    }
+
+    /// The labels at the left and at the right of the edge with this key.
+    fn sides(&self, key: u32) -> (u32, u32)
+        requires { key < length self.now.places.items }
+        ensures left { result.0 ≡ (edge_with self.now.places.items key).left }
+        ensures right { result.1 ≡ (edge_with self.now.places.items key).right }
+    {
+        match &self.places[key as usize] {
+            Some(edge) => (edge.left, edge.right),
+            None => (0, 0),
+        }
+    }
+
+    /// Puts one edge, with this key, in place of those of which it is made, one of which has the key. The points of the first one are
+    /// not copied, if it is not turned.
+    pub fn join(&mut self, alloc: Global, key: u32, parts: &[OldEdge]) -> Result<(), Memory>
+        requires table { IsTable self.old }
+        requires there { All (λ p. Contains (keys (labelled_edges self.old)) p.key) parts.now }
+        requires apart { AllPairs (λ p q. p.key ≢ q.key) parts.now }
+        requires key { Contains (old_keys parts.now) key }
+        ensures table { OnOk result (IsTable self.new) }
+        ensures edges { OnOk result (IsPermutation (without_keys (old_keys parts.now) (labelled_edges self.old) ++ joined_edge self.old.places.items key parts.now ∷ []) (labelled_edges self.new)) }
+        ensures labels { self.new.labels ≡ self.old.labels }
+        ensures room { OnOk result (HaveSameRoom self.old self.new) }
+    {
+        let (left, right) = self.sides(key);
+        let row = take_row(alloc, &mut self.places, parts)?;
+        self.places[key as usize] = Some(Edge {
+            key,
+            left,
+            right,
+            points: List::from(row),
+        });
+        Ok(())
+    }
+
+    /// Gives the edge with this key other points.
+    pub fn set_points(&mut self, key: u32, points: List<Point>)
+        requires table { IsTable self.old }
+        requires key { key < length self.old.places.items }
+        ensures table { IsTable self.new }
+        ensures edges { labelled_edges self.new ≡ map (with_points key points) (labelled_edges self.old) }
+        ensures labels { self.new.labels ≡ self.old.labels }
+        ensures room { HaveSameRoom self.old self.new }
+    {
+        if let Some(edge) = self.places[key as usize].take() {
+            let edge = Edge {
+                key: edge.key,
+                left: edge.left,
+                right: edge.right,
+                points,
+            };
+            self.places[key as usize] = Some(edge);
+        }
+    }
+
+    /// The points of the edge with this key, if there is one.
+    pub fn points(&self, key: u32) -> Option<&List<Point>>
+        requires { key < length self.now.places.items }
+        ensures { option_map (λ points. points.now) result ≡ option_map (λ e. e.points) (edge_in self.now.places.items key) }
+    {
+        match &self.places[key as usize] {
+            Some(edge) => Some(&edge.points),
+            None => None,
+        }
+    }
+
+    /// The label of a face.
+    pub fn label(&self, face: u32) -> u32
+        requires { face < length self.now.labels.labels.items }
+        ensures { result ≡ label_of self.now.labels face }
+    {
+        self.labels.label(face)
+    }
+
+    /// Appends a copy of the edge with this key, if there is one, with its labels.
+    pub fn push_copy(&self, alloc: Global, key: u32, copies: &mut List<Edge>) -> Result<(), Memory>
+        requires { key < length self.now.places.items }
+        ensures { OnOk result (copies.new ≡ copies.old ++ option_to_list (edge_in self.now.places.items key)) }
+    {
+        if let Some(edge) = &self.places[key as usize] {
+            copies.push(copied_edge(alloc, edge)?)?;
+        }
+        Ok(())
+    }
+
+    /// Appends a copy of the edge with this key, and the key, if there is one and it has the label.
+    fn push_beside(
         &self,
         alloc: Global,
-        step: &MergeStep,
-        keys: List<u32>,
-    ) -> Result<List<Edge>, Memory>
-        requires { All (λ e. is_touched step.now e ≡ true → Contains keys e.key) self.now }
-        ensures { IfOk result (λ touched. touched ≡ filter (is_touched step.now) self.now) }
+        label: u32,
+        key: u32,
+        kept: &mut List<u32>,
+        edges: &mut List<Edge>,
+    ) -> Result<(), Memory>
+        requires { key < length self.now.places.items }
+        ensures edges { OnOk result (edges.new ≡ edges.old ++ filter (has_side label) (option_to_list (edge_in self.now.places.items key))) }
+        ensures kept { OnOk result (kept.new ≡ kept.old ++ keys (filter (has_side label) (option_to_list (edge_in self.now.places.items key)))) }
     {
-        let mut keys = keys.into_vec();
-        keys.sort_unstable();
-        touched_at(alloc, step, &self.places, &keys)
+        if let Some(edge) = &self.places[key as usize] {
+            if edge.has_side(label) {
+                kept.push(edge.key)?;
+                edges.push(copied_edge(alloc, edge)?)?;
+            }
+        }
+        Ok(())
     }
 
-    /// Takes the edges with these keys out, and puts others in, in the time of those that go and come. On want of memory some of
-    /// them may be missing.
-    pub fn replace(&mut self, gone: &[u32], come: List<Edge>) -> Result<(), Memory>
-        requires { AllPairs (λ e f. e.key ≢ f.key) (without_keys gone.now self.old ++ come) }
-        ensures moved { OnOk result (IsPermutation (without_keys gone.now self.old ++ come) self.new) }
-        ensures ascending { AllPairs (λ e f. e.key < f.key) self.new }
+    /// Copies of the edges with a label, in order of key. The time is that of a sort of their keys, of their points, and of the
+    /// keys that were listed since it was asked last.
+    pub fn beside(&mut self, alloc: Global, label: u32) -> Result<List<Edge>, Memory>
+        requires table { IsTable self.old }
+        requires label { label < length self.old.beside.items }
+        ensures edges { IfOk result (λ edges. edges ≡ filter (has_side label) (labelled_edges self.old)) }
+        ensures table { OnOk result (IsTable self.new) }
+        ensures places { self.new.places ≡ self.old.places }
+        ensures labels { self.new.labels ≡ self.old.labels }
+        ensures room { HaveSameRoom self.old self.new }
     {
-        clear_all(&mut self.places, gone);
-        put_all(&mut self.places, come)
+        let listed = mem::replace(&mut self.beside[label as usize], List::new(alloc));
+        let keys = in_order(listed);
+        let mut kept = List::new(alloc);
+        let mut edges = List::new(alloc);
+        for key in &keys {
+            self.push_beside(alloc, label, *key, &mut kept, &mut edges)?;
+        }
+        self.beside[label as usize] = kept;
+        Ok(edges)
+    }
+
+    /// Copies of all edges, in order of key, with their labels.
+    pub fn copies(&self, alloc: Global) -> Result<List<Edge>, Memory>
+        ensures { IfOk result (λ copies. copies ≡ labelled_edges self.now) }
+    {
+        let mut copies = List::new(alloc);
+        for place in &self.places {
+            if let Some(edge) = place {
+                copies.push(copied_edge(alloc, edge)?)?;
+            }
+        }
+        Ok(copies)
     }
 }

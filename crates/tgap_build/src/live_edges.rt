@@ -1,97 +1,208 @@
 //! The edges of the last step, which are kept while the history is run.
 
-ghost use Rattle.std.specs.Prelude.{◌≡◌, ◌<◌, ◌≤◌, ◌-◌, ◌++◌, false, map, filter, length, IsPermutation, All, AllPairs, IfOk, OnOk};
-ghost use Rattle.tgap_model.specs.History.{history_of};
+ghost use Rattle.std.specs.Prelude.{◌≡◌, ◌<◌, ◌≤◌, ℕ, ◌+◌, ◌-◌, ◌^◌, ◌==◌, ◌++◌, ◌∷◌, [], true, false, not, List as Sequence, Bool, map, filter, flat_map, sum_by, length, get_or, option_to_list, All, AllPairs, IfOk, OnOk, if◌then◌else◌};
+ghost use Rattle.std.specs.List.{list_any};
+ghost use Rattle.std.specs.List.Sorted.{IsNonDecreasing};
+ghost use Rattle.tgap_model.specs.declared.slice.Edge.{Edge as Line};
 ghost use Rattle.tgap_model.specs.Merged.{merged, step_number};
-ghost use Rattle.tgap_model.specs.Removals.{has_side, without, removals_to};
-ghost use Rattle.removal_laws.specs.StandLaws.{edges_less};
-ghost use Rattle.grid_index.specs.Live.{keys, without_keys, AreLive};
+ghost use Rattle.tgap_model.specs.Chains.{key as chain_key, chains_at};
+ghost use Rattle.tgap_model.specs.Removals.{edges_of, removals_to};
+ghost use Rattle.tgap_model.specs.Records.{is_edge_between, runs};
+ghost use Rattle.record_laws.specs.RunLaws.{chain_of_run};
+ghost use Rattle.grid_index.specs.Live.{keys, AreLive};
 ghost use Rattle.face_tree.specs.Tree.{face_history};
+ghost use Rattle.edge_forest.specs.Continued.{AreJoined};
 ghost use Rattle.edge_forest.specs.Edges.{edge_at, chain_of, is_alive};
 ghost use Rattle.edge_forest.specs.Forest.{IsForest};
 ghost use Rattle.tgap_build.specs.Built.{HasRemoved};
-ghost use Rattle.tgap_build.specs.EdgeTable.{IsSought};
-ghost use Rattle.tgap_build.specs.Holders.{AreHolders, all_held};
-ghost use Rattle.tgap_build.specs.Running.{AreRunning, AreBehind, born, number_of, is_present, is_touched, relabelled, IsReplacement, noted, less, has_any};
+ghost use Rattle.tgap_build.specs.EdgeTable.{edge_in, IsSought};
+ghost use Rattle.tgap_build.specs.Running.{AreRunning, less};
+ghost use Rattle.tgap_build.specs.Table.{labelled_edges, IsTable, HaveSameRoom, old_keys};
+ghost use Rattle.tgap_build.specs.Changes.{HasGrown, born_chains, part_pieces, count_at, side_with, losing_keys, made_of, is_changed, HasJoined, whole_of, part_keys, come_of, IsExchange, less_where, with_all};
 
-use crate::edge_table::EdgeTable;
-use crate::edges::{edges_of, push_edges};
-use crate::face_edges::FaceEdges;
-use crate::holders::{Holder, note_holders};
+use crate::edge_table::{EdgeTable, Merging, in_order};
+use crate::edges::edges_of;
+use crate::joined::{OldEdge, old_edges};
 use crate::point_set::PointSet;
 use crate::sought::sought_after;
 use edge_forest::Forest;
 use face_tree::FaceTree;
 use grid_index::Live;
 use std::alloc::Global;
-use tgap_model::{Edge, List, Memory, MergeStep, Removal, copied_edges};
+use tgap_model::{Edge, List, Memory, MergeStep, Piece};
 
-/// The edges after some steps of the history, a look-up of their segments where one was asked for, for each edge the number that
-/// it has in the forest, at the place of its key, and for each arc of theirs the edge that holds it.
+/// The edges after some steps of the history, and a look-up of their segments where one was asked for.
 #[derive(Debug, Drop)]
 pub struct LiveEdges {
     pub edges: EdgeTable,
     pub sought: Option<Live>,
-    pub numbers: Vec<u32>,
-    pub holders: Vec<Holder>,
 }
 
-/// The keys of edges that go, and the edges that come.
+/// An edge by its key, and the pieces of which it is made: the edges before the step.
 #[derive(Debug, Drop)]
-struct Change {
-    gone: List<u32>,
-    come: List<Edge>,
+pub struct Made {
+    pub key: u32,
+    pub pieces: List<Piece>,
 }
 
-/// The numbers of the edges from number `first` on whose range holds k, in ascending order.
-fn born(alloc: Global, forest: &Forest, first: u32, k: u32) -> Result<List<u32>, Memory>
-    requires { first ≤ length forest.now.edges }
-    ensures { IfOk result (λ ids. ids ≡ born forest.now first k) }
+/// What a step changed, but for the points that it takes out: the edges that ended, and those that are new or had the loser at a
+/// side, in order of key.
+#[derive(Debug, Drop)]
+pub struct Changed {
+    pub ended: List<Edge>,
+    pub made: Vec<Made>,
+}
+
+/// Whether a key is one of these, which ascend.
+pub fn holds(keys: &[u32], key: u32) -> bool
+    requires { IsNonDecreasing keys.now }
+    ensures { result ≡ list_any (λ k. k == key) keys.now }
 {
-    let mut ids = List::new(alloc);
-    for id in first..forest.count() {
-        if forest.is_alive(id, k) {
-            ids.push(id)?;
-        }
-    }
-    Ok(ids)
+    keys.binary_search(&key).is_ok()
 }
 
-/// The edge with its faces after the step.
-fn relabelled(step: &MergeStep, edge: Edge) -> Edge
-    ensures { result ≡ relabelled step.now edge }
+/// How many points the edge with this key has behind its first one.
+fn points_behind(edges: &EdgeTable, key: u32) -> u32
+    requires room { key < length edges.now.places.items }
+    requires few { count_at edges.now.places.items key - 1 < 2 ^ 32 }
+    ensures { result ≡ count_at edges.now.places.items key - 1 }
 {
-    Edge {
-        key: edge.key,
-        left: step.label_after(edge.left),
-        right: step.label_after(edge.right),
-        points: edge.points,
+    match edges.points(key) {
+        Some(points) => points.len().saturating_sub(1) as u32,
+        None => 0,
     }
 }
 
-/// Those of these edges that step k does not end, with their faces after it.
-fn still_there(
+/// The face that an edge before the step had at the side of the new face. The edges of the loser have the keys of `losing`, and the
+/// other ones of which edges of the new face are made are those of the winner.
+fn side_of(step: &MergeStep, losing: &[u32], key: u32) -> u32
+    requires { IsNonDecreasing losing.now }
+    ensures { result ≡ side_with step.now losing.now key }
+{
+    if holds(losing, key) {
+        step.loser
+    } else {
+        step.winner
+    }
+}
+
+/// The pieces of an edge with these parts, in the time of their number.
+fn pieces_of(
     alloc: Global,
-    forest: &Forest,
-    numbers: &[u32],
+    edges: &EdgeTable,
     step: &MergeStep,
-    k: u32,
-    edges: List<Edge>,
-) -> Result<List<Edge>, Memory>
-    requires { All (λ e. (e.key < length numbers.now) × (number_of numbers.now e < length forest.now.edges)) edges }
-    ensures { IfOk result (λ after. after ≡ map (relabelled step.now) (filter (is_present forest.now numbers.now k) edges)) }
+    losing: &[u32],
+    parts: &[OldEdge],
+) -> Result<List<Piece>, Memory>
+    requires room { All (λ p. p.key < length edges.now.places.items) parts.now }
+    requires few { sum_by (λ p. count_at edges.now.places.items p.key - 1) parts.now < 2 ^ 32 }
+    requires losing { IsNonDecreasing losing.now }
+    ensures { IfOk result (λ pieces. pieces ≡ part_pieces (count_at edges.now.places.items) (side_with step.now losing.now) 0 parts.now) }
 {
-    let mut after = List::new(alloc);
-    for edge in edges.into_vec() {
-        if forest.is_alive(numbers[edge.key as usize], k) {
-            after.push(relabelled(step, edge))?;
+    let mut pieces = List::new(alloc);
+    let mut last = 0;
+    for i in 0..parts.len() {
+        let part = parts[i];
+        last += points_behind(edges, part.key);
+        pieces.push(Piece {
+            key: part.key,
+            last,
+            side: side_of(step, losing, part.key),
+            turned: part.turned,
+        })?;
+    }
+    Ok(pieces)
+}
+
+/// An edge that is one piece.
+fn whole(
+    alloc: Global,
+    step: &MergeStep,
+    losing: &[u32],
+    edges: &EdgeTable,
+    key: u32,
+) -> Result<Made, Memory>
+    requires room { key < length edges.now.places.items }
+    requires few { count_at edges.now.places.items key - 1 < 2 ^ 32 }
+    requires losing { IsNonDecreasing losing.now }
+    ensures { IfOk result (λ made. made ≡ whole_of edges.now.places.items step.now losing.now key) }
+{
+    let mut parts = Vec::new(alloc);
+    parts.push(OldEdge { key, turned: false })?;
+    Ok(Made {
+        key,
+        pieces: pieces_of(alloc, edges, step, losing, &parts)?,
+    })
+}
+
+/// Appends the keys of these parts.
+fn push_keys(keys: &mut Vec<u32>, parts: &[OldEdge]) -> Result<(), Memory>
+    ensures { OnOk result (keys.new.items ≡ keys.old.items ++ old_keys parts.now) }
+{
+    for part in parts {
+        keys.push(part.key)?;
+    }
+    Ok(())
+}
+
+/// Appends edges that are one piece: of those with these keys, the ones whose keys are not among `others`, which ascend.
+pub fn push_whole(
+    alloc: Global,
+    edges: &EdgeTable,
+    step: &MergeStep,
+    losing: &[u32],
+    keys: &[u32],
+    others: &[u32],
+    made: &mut Vec<Made>,
+) -> Result<(), Memory>
+    requires room { All (λ i. i < length edges.now.places.items) keys.now }
+    requires few { (i : ℕ) → count_at edges.now.places.items i < 2 ^ 32 }
+    requires losing { IsNonDecreasing losing.now }
+    requires others { IsNonDecreasing others.now }
+    ensures { OnOk result (made.new.items
+        ≡ made.old.items ++ map (whole_of edges.now.places.items step.now losing.now) (filter (λ i. not (list_any (λ j. j == i) others.now)) keys.now)) }
+{
+    for i in 0..keys.len() {
+        let key = keys[i];
+        if !holds(others, key) {
+            made.push(whole(alloc, step, losing, edges, key)?)?;
         }
     }
-    Ok(after)
+    Ok(())
+}
+
+/// These keys, those of these edges and others, in ascending order, each once.
+fn all_keys(
+    alloc: Global,
+    joined: &[u32],
+    losing: &[u32],
+    ended: &[Edge],
+) -> Result<List<u32>, Memory>
+    ensures ascending { IfOk result (λ all. AllPairs (λ j k. j < k) all) }
+    ensures same { IfOk result (λ all. (i : ℕ) → list_any (λ k. k == i) all ≡ list_any (λ k. k == i) (joined.now ++ losing.now ++ keys ended.now)) }
+{
+    let mut all = Vec::from_slice(alloc, joined)?;
+    all.extend_from_slice(losing)?;
+    for edge in ended {
+        all.push(edge.key)?;
+    }
+    Ok(List::from(in_order(List::from(all))))
+}
+
+/// Copies of these edges as they stand in the table.
+fn come_of(alloc: Global, edges: &EdgeTable, made: &[Made]) -> Result<List<Edge>, Memory>
+    requires { All (λ one. one.key < length edges.now.places.items) made.now }
+    ensures { IfOk result (λ come. come ≡ come_of edges.now.places.items made.now) }
+{
+    let mut come = List::new(alloc);
+    for one in made {
+        edges.push_copy(alloc, one.key, &mut come)?;
+    }
+    Ok(come)
 }
 
 /// The keys of these edges.
-fn keys_of(alloc: Global, edges: &[Edge]) -> Result<List<u32>, Memory>
+pub fn keys_of(alloc: Global, edges: &[Edge]) -> Result<List<u32>, Memory>
     ensures { IfOk result (λ found. found ≡ keys edges.now) }
 {
     let mut found = List::with_capacity(alloc, edges.len())?;
@@ -99,17 +210,6 @@ fn keys_of(alloc: Global, edges: &[Edge]) -> Result<List<u32>, Memory>
         found.push(edge.key)?;
     }
     Ok(found)
-}
-
-/// Notes the numbers of these edges at their keys.
-fn note_numbers(forest: &Forest, numbers: &mut Vec<u32>, ids: &[u32])
-    requires within { All (λ id. id < length forest.now.edges) ids.now }
-    requires room { All (λ id. (edge_at forest.now.edges id).key < length numbers.old.items) ids.now }
-    ensures { numbers.new.items ≡ noted forest.now.edges ids.now numbers.old.items }
-{
-    for id in ids {
-        numbers[forest.edge(*id).key as usize] = *id;
-    }
 }
 
 /// The edge less the points of the set.
@@ -124,41 +224,29 @@ fn less(alloc: Global, gone: &PointSet, edge: &Edge) -> Result<Edge, Memory>
     })
 }
 
-/// Those of these edges that lose a point of the set.
-fn losses(alloc: Global, gone: &PointSet, edges: &[Edge]) -> Result<Change, Memory>
-    ensures gone { IfOk result (λ change. change.gone ≡ keys (filter (has_any gone.now) edges.now)) }
-    ensures come { IfOk result (λ change. change.come ≡ map (less gone.now) (filter (has_any gone.now) edges.now)) }
+/// These edges less the points of the set.
+fn less_edges(alloc: Global, gone: &PointSet, edges: &[Edge]) -> Result<List<Edge>, Memory>
+    ensures { IfOk result (λ come. come ≡ map (less gone.now) edges.now) }
 {
-    let mut change = Change {
-        gone: List::new(alloc),
-        come: List::new(alloc),
-    };
+    let mut come = List::with_capacity(alloc, edges.len())?;
     for edge in edges {
-        if gone.holds_any(edge.points.as_slice()) {
-            change.gone.push(edge.key)?;
-            change.come.push(less(alloc, gone, edge)?)?;
-        }
+        come.push(less(alloc, gone, edge)?)?;
     }
-    Ok(change)
+    Ok(come)
 }
 
-/// Takes edges out and puts others in.
-fn replace(
-    alloc: Global,
-    edges: &mut EdgeTable,
-    sought: &mut Option<Live>,
-    change: Change,
-) -> Result<(), Memory>
-    requires change { IsReplacement edges.old change.gone change.come }
-    requires ascending { AllPairs (λ e f. e.key < f.key) edges.old }
-    requires sought { IsSought edges.old sought.old }
-    ensures moved { OnOk result (IsPermutation (without_keys change.gone edges.old ++ change.come) edges.new) }
-    ensures ascending { OnOk result (AllPairs (λ e f. e.key < f.key) edges.new) }
-    ensures sought { OnOk result (IsSought edges.new sought.new) }
+/// Gives the edges of the table that have the keys of these their points.
+fn set_all(table: &mut EdgeTable, edges: List<Edge>)
+    requires table { IsTable table.old }
+    requires room { All (λ e. e.key < length table.old.places.items) edges }
+    ensures table { IsTable table.new }
+    ensures edges { labelled_edges table.new ≡ with_all edges (labelled_edges table.old) }
+    ensures labels { table.new.labels ≡ table.old.labels }
+    ensures room { HaveSameRoom table.old table.new }
 {
-    let Change { gone, come } = change;
-    *sought = sought_after(alloc, sought.take(), &gone, come.as_slice())?;
-    edges.replace(gone.as_slice(), come)
+    for edge in edges.into_vec() {
+        table.set_points(edge.key, edge.points);
+    }
 }
 
 impl LiveEdges {
@@ -169,112 +257,177 @@ impl LiveEdges {
         requires made { forest.now.made ≡ 0 }
         requires history { tree.now ≡ face_history (merged forest.now.base) }
         requires removed { HasRemoved forest.now 0 }
-        ensures running { IfOk result (λ live. AreRunning forest.now 0 (removals_to (merged forest.now.base) 0) live.edges live.numbers.items) }
-        ensures sought { IfOk result (λ live. IsSought live.edges live.sought) }
-        ensures holders { IfOk result (λ live. AreHolders (merged forest.now.base) 0 live.holders.items) }
+        ensures running { IfOk result (λ live. AreRunning forest.now 0 (removals_to (merged forest.now.base) 0) live.edges) }
+        ensures sought { IfOk result (λ live. IsSought (labelled_edges live.edges) live.sought) }
     {
         let ids = forest.present(alloc)?;
         let edges = edges_of(alloc, tree, forest, ids.as_slice(), 0)?;
         let arcs = forest.base().arcs().len();
-        let mut numbers = vec![in alloc; 0u32; arcs]?;
-        note_numbers(forest, &mut numbers, ids.as_slice());
-        let none = Holder {
-            key: 0,
-            turned: false,
-        };
-        let mut holders = vec![in alloc; none; arcs]?;
-        note_holders(alloc, forest, ids.as_slice(), &mut holders)?;
+        let classes = forest.base().classes().len() as u32;
+        let faces = classes + tree.steps() + 1;
         Ok(LiveEdges {
-            edges: EdgeTable::of(alloc, edges)?,
+            edges: EdgeTable::of(alloc, arcs, faces, edges)?,
             sought: None,
-            numbers,
-            holders,
         })
     }
 
-    /// Brings the edges up to step number k, which the forest has made, and gives those that then border its new face. The forest
-    /// had the first `old` edges before, and `touched` are copies of those that border the step's loser or its winner: no other
-    /// edge changes. The time is that of the points of those that go or come, and where there is a look-up of their segments, of a
-    /// pass over the edges.
-    pub fn merge(
+    /// Puts a new edge of the forest in place of those of which it is made, where the forest had the first `old` edges before, and
+    /// tells the keys of those.
+    fn join(
         &mut self,
         alloc: Global,
-        tree: &FaceTree,
         forest: &Forest,
         step: &MergeStep,
-        touched: List<Edge>,
+        losing: &[u32],
         old: u32,
+        id: u32,
         k: u32,
-    ) -> Result<FaceEdges, Memory>
-        requires forest { IsForest forest.now }
+        joined: &mut Vec<u32>,
+    ) -> Result<Made, Memory>
+        requires grown { HasGrown forest.now k old }
         requires some { 0 < k }
-        requires made { forest.now.made ≡ k }
-        requires history { tree.now ≡ face_history (merged forest.now.base) }
+        requires parts { AreJoined k old forest.now.edges }
         requires step { step.now ≡ step_number (merged forest.now.base) k }
-        requires removed { HasRemoved forest.now (k - 1) }
-        requires old { old ≤ length forest.now.edges }
-        requires behind { AreBehind forest.now k old (removals_to (merged forest.now.base) (k - 1)) self.old.edges self.old.numbers.items }
-        requires touched { touched ≡ filter (is_touched step.now) self.old.edges }
-        requires sought { IsSought self.old.edges self.old.sought }
-        ensures running { OnOk result (AreRunning forest.now k (removals_to (merged forest.now.base) (k - 1)) self.new.edges self.new.numbers.items) }
-        ensures sought { OnOk result (IsSought self.new.edges self.new.sought) }
-        ensures holders { OnOk result (self.new.holders ≡ self.old.holders) }
-        ensures face { IfOk result (λ border. border.face ≡ step.now.made) }
-        ensures border { IfOk result (λ border. border.edges ≡ filter (has_side border.face) self.new.edges) }
+        requires losing { losing.now ≡ losing_keys (merged forest.now.base) k }
+        requires new { old ≤ id }
+        requires within { id < length forest.now.edges }
+        requires alive { is_alive k (edge_at forest.now.edges id) ≡ true }
+        requires table { (left : Sequence Line) × HasJoined (merged forest.now.base) k left (born_chains forest.now k old id) self.old.edges }
+        ensures made { IfOk result (λ made. made ≡ made_of (merged forest.now.base) k (chain_of forest.now.edges id)) }
+        ensures table { (left : Sequence Line) → HasJoined (merged forest.now.base) k left (born_chains forest.now k old id) self.old.edges
+            → OnOk result (HasJoined (merged forest.now.base) k left (born_chains forest.now k old id ++ chain_of forest.now.edges id ∷ []) self.new.edges) }
+        ensures joined { OnOk result (joined.new.items ≡ joined.old.items ++ part_keys (merged forest.now.base) k (chain_of forest.now.edges id)) }
+        ensures labels { OnOk result (self.new.edges.labels ≡ self.old.edges.labels) }
+        ensures room { OnOk result (HaveSameRoom self.old.edges self.new.edges) }
+        ensures sought { self.new.sought ≡ self.old.sought }
     {
-        let born = born(alloc, forest, old, k)?;
-        let gone = keys_of(alloc, touched.as_slice())?;
-        let mut come = still_there(alloc, forest, &self.numbers, step, k, touched)?;
-        push_edges(alloc, tree, forest, born.as_slice(), k, &mut come)?;
-        // They all border the new face. The forest does not tell so, and a look at their sides does.
-        let border = FaceEdges::among(step.made, come);
-        let come = copied_edges(alloc, border.edges.as_slice())?;
-        replace(
-            alloc,
-            &mut self.edges,
-            &mut self.sought,
-            Change { gone, come },
-        )?;
-        note_numbers(forest, &mut self.numbers, born.as_slice());
-        Ok(border)
+        let key = forest.edge(id).key;
+        let parts = old_edges(alloc, forest, old, id, k)?;
+        let pieces = pieces_of(alloc, &self.edges, step, losing, &parts)?;
+        self.edges.join(alloc, key, &parts)?;
+        push_keys(joined, &parts)?;
+        Ok(Made { key, pieces })
     }
 
-    /// Takes vertices out of the edges that border a face, of which no other edge has one.
-    pub fn remove(
+    /// Puts each new edge of the forest in place of those of which it is made, and tells the keys of those.
+    fn join_new(
         &mut self,
         alloc: Global,
-        border: &FaceEdges,
-        removals: &List<Removal>,
-    ) -> Result<(), Memory>
-        requires ascending { AllPairs (λ e f. e.key < f.key) self.old.edges }
-        requires sought { IsSought self.old.edges self.old.sought }
-        requires live { AreLive (edges_less removals.now self.old.edges) }
-        requires border { border.now.edges ≡ filter (has_side border.now.face) self.old.edges }
-        requires others { All (λ e. has_side border.now.face e ≡ false → without removals.now e.points ≡ e.points) self.old.edges }
-        ensures edges { OnOk result (self.new.edges ≡ edges_less removals.now self.old.edges) }
-        ensures sought { OnOk result (IsSought self.new.edges self.new.sought) }
-        ensures numbers { self.new.numbers ≡ self.old.numbers }
-        ensures holders { self.new.holders ≡ self.old.holders }
+        forest: &Forest,
+        step: &MergeStep,
+        losing: &[u32],
+        old: u32,
+        k: u32,
+        joined: &mut Vec<u32>,
+    ) -> Result<Vec<Made>, Memory>
+        requires grown { HasGrown forest.now k old }
+        requires some { 0 < k }
+        requires parts { AreJoined k old forest.now.edges }
+        requires step { step.now ≡ step_number (merged forest.now.base) k }
+        requires losing { losing.now ≡ losing_keys (merged forest.now.base) k }
+        requires table { (left : Sequence Line) × HasJoined (merged forest.now.base) k left [] self.old.edges }
+        ensures made { IfOk result (λ made. made.items ≡ map (made_of (merged forest.now.base) k) (born_chains forest.now k old (length forest.now.edges))) }
+        ensures table { (left : Sequence Line) → HasJoined (merged forest.now.base) k left [] self.old.edges
+            → OnOk result (HasJoined (merged forest.now.base) k left (born_chains forest.now k old (length forest.now.edges)) self.new.edges) }
+        ensures joined { OnOk result (joined.new.items ≡ joined.old.items ++ flat_map (part_keys (merged forest.now.base) k) (born_chains forest.now k old (length forest.now.edges))) }
+        ensures labels { OnOk result (self.new.edges.labels ≡ self.old.edges.labels) }
+        ensures room { OnOk result (HaveSameRoom self.old.edges self.new.edges) }
+        ensures sought { self.new.sought ≡ self.old.sought }
     {
-        if removals.is_empty() {
+        let mut made = Vec::new(alloc);
+        for id in old..forest.count() {
+            if forest.is_alive(id, k) {
+                made.push(self.join(alloc, forest, step, losing, old, id, k, joined)?)?;
+            }
+        }
+        Ok(made)
+    }
+
+    /// Brings the look-up up to a step, where there is one, in the time of the edges that ended, were joined, had the loser at a
+    /// side or are new.
+    fn seek(
+        &mut self,
+        alloc: Global,
+        joined: &[u32],
+        losing: &[u32],
+        ended: &[Edge],
+        made: &[Made],
+    ) -> Result<(), Memory>
+        requires room { All (λ one. one.key < length self.old.edges.places.items) made.now }
+        requires sought { (before : Sequence Line) × IsSought before self.old.sought
+            × IsExchange before (joined.now ++ losing.now ++ keys ended.now) (come_of self.old.edges.places.items made.now) (labelled_edges self.old.edges) }
+        ensures edges { self.new.edges ≡ self.old.edges }
+        ensures sought { (before : Sequence Line) → IsSought before self.old.sought
+            → IsExchange before (joined.now ++ losing.now ++ keys ended.now) (come_of self.old.edges.places.items made.now) (labelled_edges self.old.edges)
+            → OnOk result (IsSought (labelled_edges self.old.edges) self.new.sought) }
+    {
+        if self.sought.is_none() {
             return Ok(());
         }
-        let gone = PointSet::of(alloc, removals.as_slice())?;
-        let change = losses(alloc, &gone, border.edges.as_slice())?;
-        replace(alloc, &mut self.edges, &mut self.sought, change)?;
+        let gone = all_keys(alloc, joined, losing, ended)?;
+        let come = come_of(alloc, &self.edges, made)?;
+        self.sought = sought_after(alloc, self.sought.take(), &gone, come.as_slice())?;
         Ok(())
     }
 
-    /// Notes the edges that step number k brought, of which the first has the number `old`, at each of their arcs.
-    pub fn hold(&mut self, alloc: Global, forest: &Forest, old: u32, k: u32) -> Result<(), Memory>
-        requires old { old ≤ length forest.now.edges }
-        requires room { All (λ i. All (λ d. d.arc < length self.old.holders.items) (chain_of forest.now.edges i)) (born forest.now old k) }
-        ensures edges { self.new.edges ≡ self.old.edges }
-        ensures sought { self.new.sought ≡ self.old.sought }
-        ensures numbers { self.new.numbers ≡ self.old.numbers }
-        ensures holders { OnOk result (self.new.holders.items ≡ all_held forest.now.edges (born forest.now old k) self.old.holders.items) }
+    /// Brings the edges up to step number k, which the forest has made. The forest had the first `old` edges before. The time is
+    /// that of the loser's edges, and of the points of the new ones but for the first part of each.
+    pub fn merge(
+        &mut self,
+        alloc: Global,
+        forest: &Forest,
+        step: &MergeStep,
+        old: u32,
+        k: u32,
+    ) -> Result<Changed, Memory>
+        requires grown { HasGrown forest.now k old }
+        requires some { 0 < k }
+        requires parts { AreJoined k old forest.now.edges }
+        requires step { step.now ≡ step_number (merged forest.now.base) k }
+        requires running { AreRunning forest.now (k - 1) (removals_to (merged forest.now.base) (k - 1)) self.old.edges }
+        requires sought { IsSought (labelled_edges self.old.edges) self.old.sought }
+        ensures running { OnOk result (AreRunning forest.now k (removals_to (merged forest.now.base) (k - 1)) self.new.edges) }
+        ensures sought { OnOk result (IsSought (labelled_edges self.new.edges) self.new.sought) }
+        ensures ended { IfOk result (λ changed. changed.ended
+            ≡ filter (is_edge_between step.now.loser step.now.winner) (edges_of (merged forest.now.base) (k - 1) (removals_to (merged forest.now.base) (k - 1)) (chains_at (merged forest.now.base) (k - 1)))) }
+        ensures made { IfOk result (λ changed. changed.made.items
+            ≡ map (made_of (merged forest.now.base) k) (filter (is_changed (merged forest.now.base) k) (chains_at (merged forest.now.base) k))) }
     {
-        let ids = born(alloc, forest, old, k)?;
-        note_holders(alloc, forest, ids.as_slice(), &mut self.holders)
+        let Merging { ended, losing } = self.edges.merge(alloc, step)?;
+        let mut joined = Vec::new(alloc);
+        let mut made = self.join_new(alloc, forest, step, &losing, old, k, &mut joined)?;
+        joined.sort_unstable();
+        push_whole(
+            alloc,
+            &self.edges,
+            step,
+            &losing,
+            &losing,
+            &joined,
+            &mut made,
+        )?;
+        made.sort_unstable_by_key(|one| one.key);
+        self.seek(alloc, &joined, &losing, ended.as_slice(), &made)?;
+        Ok(Changed { ended, made })
+    }
+
+    /// Takes points out of these edges of the table, which have some of the set.
+    pub fn remove(&mut self, alloc: Global, losing: &[Edge], gone: &PointSet) -> Result<(), Memory>
+        requires table { IsTable self.old.edges }
+        requires losing { (p : Line → Bool) × (losing.now ≡ filter p (labelled_edges self.old.edges)) }
+        requires live { (p : Line → Bool) → losing.now ≡ filter p (labelled_edges self.old.edges) → AreLive (map (less_where gone.now p) (labelled_edges self.old.edges)) }
+        requires sought { IsSought (labelled_edges self.old.edges) self.old.sought }
+        ensures edges { (p : Line → Bool) → losing.now ≡ filter p (labelled_edges self.old.edges)
+            → OnOk result (labelled_edges self.new.edges ≡ map (less_where gone.now p) (labelled_edges self.old.edges)) }
+        ensures table { OnOk result (IsTable self.new.edges) }
+        ensures labels { OnOk result (self.new.edges.labels ≡ self.old.edges.labels) }
+        ensures room { OnOk result (HaveSameRoom self.old.edges self.new.edges) }
+        ensures sought { OnOk result (IsSought (labelled_edges self.new.edges) self.new.sought) }
+    {
+        let keys = keys_of(alloc, losing)?;
+        let come = less_edges(alloc, gone, losing)?;
+        self.sought = sought_after(alloc, self.sought.take(), &keys, come.as_slice())?;
+        set_all(&mut self.edges, come);
+        Ok(())
     }
 }

@@ -72,6 +72,9 @@ impl PointSet {
     pub fn holds_any(&self, points: &[Point]) -> bool
         ensures { result ≡ list_any (has_point self.now) points.now }
     {
+        if self.points.as_slice().is_empty() {
+            return false;
+        }
         for point in points {
             if self.holds(point) {
                 return true;

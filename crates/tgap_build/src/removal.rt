@@ -1,36 +1,86 @@
 //! A step of the history, with what it removes, and its record.
 
-ghost use Rattle.std.specs.Prelude.{◌≡◌, ◌<◌, ◌≤◌, ◌-◌, false, filter, IfOk, OnOk};
+ghost use Rattle.std.specs.Prelude.{◌≡◌, ◌<◌, ◌≤◌, ◌-◌, ◌^◌, ◌==◌, ◌++◌, ℕ, [], true, false, not, map, filter, length, All, IsPermutation, IfOk, OnOk};
+ghost use Rattle.std.specs.List.{list_any};
+ghost use Rattle.std.specs.List.Sorted.{IsNonDecreasing, IsNonDecreasingBy};
 ghost use Rattle.tgap_model.specs.Merged.{merged, step_number, face_area};
-ghost use Rattle.tgap_model.specs.Removals.{has_side, removals_to};
+ghost use Rattle.tgap_model.specs.Chains.{chains_at};
+ghost use Rattle.tgap_model.specs.Removals.{removals_to};
 ghost use Rattle.tgap_model.specs.Records.{step_record};
+ghost use Rattle.grid_index.specs.Live.{keys};
 ghost use Rattle.face_tree.specs.Tree.{face_history};
 ghost use Rattle.edge_forest.specs.Forest.{last_step};
 ghost use Rattle.tgap_build.specs.Built.{HasRemoved};
 ghost use Rattle.tgap_build.specs.EdgeTable.{IsSought};
-ghost use Rattle.tgap_build.specs.Holders.{AreHolders};
-ghost use Rattle.tgap_build.specs.Running.{AreRunning};
+ghost use Rattle.tgap_build.specs.Table.{labelled_edges};
+ghost use Rattle.tgap_build.specs.Running.{AreRunning, has_any};
+ghost use Rattle.tgap_build.specs.Changes.{count_at, whole_of, made_of, is_changed};
 
-use crate::face_edges::FaceEdges;
-use crate::live_edges::LiveEdges;
-use crate::mends::{ended_edges, mends_of};
+use crate::edge_table::EdgeTable;
+use crate::live_edges::{Changed, LiveEdges, Made, keys_of, push_whole};
+use crate::mends::mends_of;
 use crate::point_set::PointSet;
 use crate::sought::swept;
 use edge_forest::Forest;
 use face_tree::FaceTree;
 use std::alloc::Global;
-use tgap_model::{List, Memory, Mend, MergeStep, StepRecord};
+use tgap_model::{Edge, List, Memory, Mend, MergeStep, StepRecord};
 
-/// Takes out of the forest and of the edges the vertices that the last step, number k, removes: those of the edges that border
-/// its new face, which are given. It gives the mends of the step. Twice the area of the step's loser is given, and the holders of
-/// the arcs are those before the step.
+/// Those of these edges that have a point of the set.
+fn losing(alloc: Global, gone: &PointSet, edges: List<Edge>) -> Result<List<Edge>, Memory>
+    ensures { IfOk result (λ losing. losing ≡ filter (has_any gone.now) edges) }
+{
+    let mut losing = List::new(alloc);
+    for edge in edges.into_vec() {
+        if gone.holds_any(edge.points.as_slice()) {
+            losing.push(edge)?;
+        }
+    }
+    Ok(losing)
+}
+
+/// The keys of these edges.
+fn made_keys(alloc: Global, made: &[Made]) -> Result<Vec<u32>, Memory>
+    ensures { IfOk result (λ found. found.items ≡ map (λ one. one.key) made.now) }
+{
+    let mut found = Vec::with_capacity(alloc, made.len())?;
+    for one in made {
+        found.push(one.key)?;
+    }
+    Ok(found)
+}
+
+/// These edges, which stand in order of key, and those that lose a point, as the pieces of which they are made, in order of key.
+fn with_losing(
+    alloc: Global,
+    edges: &EdgeTable,
+    step: &MergeStep,
+    made: Vec<Made>,
+    losing: &[Edge],
+) -> Result<Vec<Made>, Memory>
+    requires room { All (λ e. e.key < length edges.now.places.items) losing.now }
+    requires few { (i : ℕ) → count_at edges.now.places.items i < 2 ^ 32 }
+    requires order { IsNonDecreasing (map (λ one. one.key) made.items) }
+    ensures moved { IfOk result (λ all. IsPermutation
+        (made.items ++ map (whole_of edges.now.places.items step.now []) (filter (λ i. not (list_any (λ j. j == i) (map (λ one. one.key) made.items))) (keys losing.now))) all.items) }
+    ensures order { IfOk result (λ all. IsNonDecreasingBy (λ one. one.key) all.items) }
+{
+    let mut all = made;
+    let others = made_keys(alloc, &all)?;
+    let keys = keys_of(alloc, losing)?;
+    push_whole(alloc, edges, step, &[], keys.as_slice(), &others, &mut all)?;
+    all.sort_unstable_by_key(|one| one.key);
+    Ok(all)
+}
+
+/// Takes out of the forest and of the edges the vertices that the last step, number k, removes. It gives the mends of the step.
+/// What the step changed and twice the area of its loser are given.
 fn remove_vertices(
     alloc: Global,
-    tree: &FaceTree,
     forest: &mut Forest,
     live: &mut LiveEdges,
     step: &MergeStep,
-    border: &FaceEdges,
+    made: Vec<Made>,
     loser_area: i128,
     ratio: u32,
     k: u32,
@@ -38,41 +88,104 @@ fn remove_vertices(
     requires open { forest.old.closed ≡ false }
     requires some { 0 < k }
     requires made { forest.old.made ≡ k }
-    requires history { tree.now ≡ face_history (merged forest.old.base) }
     requires step { step.now ≡ step_number (merged forest.old.base) k }
     requires area { loser_area ≡ face_area (merged forest.old.base) (k - 1) (step_number (merged forest.old.base) k).loser }
     requires ratio { ratio ≡ forest.old.base.rules.ratio }
     requires removed { HasRemoved forest.old (k - 1) }
-    requires running { AreRunning forest.old k (removals_to (merged forest.old.base) (k - 1)) live.old.edges live.old.numbers.items }
-    requires sought { IsSought live.old.edges live.old.sought }
-    requires holders { AreHolders (merged forest.old.base) (k - 1) live.old.holders.items }
-    requires face { border.now.face ≡ step.now.made }
-    requires border { border.now.edges ≡ filter (has_side border.now.face) live.old.edges }
+    requires running { AreRunning forest.old k (removals_to (merged forest.old.base) (k - 1)) live.old.edges }
+    requires sought { IsSought (labelled_edges live.old.edges) live.old.sought }
+    requires changed { made.items ≡ map (made_of (merged forest.old.base) k) (filter (is_changed (merged forest.old.base) k) (chains_at (merged forest.old.base) k)) }
     ensures mends { IfOk result (λ mends. mends ≡ (step_record (merged forest.old.base) k).mends) }
     ensures base { OnOk result (forest.new.base ≡ forest.old.base) }
     ensures made { OnOk result (forest.new.made ≡ k) }
     ensures open { OnOk result (forest.new.closed ≡ false) }
     ensures edges { OnOk result (forest.new.edges ≡ forest.old.edges) }
     ensures removed { OnOk result (HasRemoved forest.new k) }
-    ensures running { OnOk result (AreRunning forest.new k (removals_to (merged forest.old.base) k) live.new.edges live.new.numbers.items) }
-    ensures sought { OnOk result (IsSought live.new.edges live.new.sought) }
-    ensures holders { OnOk result (live.new.holders ≡ live.old.holders) }
+    ensures running { OnOk result (AreRunning forest.new k (removals_to (merged forest.old.base) k) live.new.edges) }
+    ensures sought { OnOk result (IsSought (labelled_edges live.new.edges) live.new.sought) }
 {
-    let bordering = border.edges.as_slice();
-    let (edges, sought) = (&live.edges, &mut live.sought);
+    let made_label = live.edges.label(step.made);
+    let border = live.edges.beside(alloc, made_label)?;
     let removals = swept(
-        alloc, edges, sought, bordering, step.made, loser_area, ratio, k,
+        alloc,
+        &live.edges,
+        &mut live.sought,
+        border.as_slice(),
+        made_label,
+        loser_area,
+        ratio,
+        k,
     )?;
     let gone = PointSet::of(alloc, removals.as_slice())?;
-    let mends = mends_of(alloc, tree, forest, live, step, bordering, &gone, k - 1)?;
+    let losing = losing(alloc, &gone, border)?;
+    let made = with_losing(alloc, &live.edges, step, made, losing.as_slice())?;
+    let mends = mends_of(alloc, &live.edges, step, made, &gone)?;
     forest.remove(&removals);
-    live.remove(alloc, border, &removals)?;
+    live.remove(alloc, losing.as_slice(), &gone)?;
     Ok(mends)
 }
 
+/// The mends of the last step, number k, where the ratio is 0, and nothing is removed.
+fn plain_mends(
+    alloc: Global,
+    forest: &Forest,
+    live: &LiveEdges,
+    step: &MergeStep,
+    made: Vec<Made>,
+    k: u32,
+) -> Result<List<Mend>, Memory>
+    requires some { 0 < k }
+    requires made { forest.now.made ≡ k }
+    requires step { step.now ≡ step_number (merged forest.now.base) k }
+    requires ratio { forest.now.base.rules.ratio ≡ 0 }
+    requires running { AreRunning forest.now k (removals_to (merged forest.now.base) (k - 1)) live.now.edges }
+    requires changed { made.items ≡ map (made_of (merged forest.now.base) k) (filter (is_changed (merged forest.now.base) k) (chains_at (merged forest.now.base) k)) }
+    ensures { IfOk result (λ mends. mends ≡ (step_record (merged forest.now.base) k).mends) }
+{
+    let gone = PointSet::of(alloc, &[])?;
+    mends_of(alloc, &live.edges, step, made, &gone)
+}
+
+/// The mends of the last step, number k, and what it removes. Where the ratio is 0 nothing is removed, and none of the edges that
+/// the step did not change is looked at.
+fn mend_and_remove(
+    alloc: Global,
+    forest: &mut Forest,
+    live: &mut LiveEdges,
+    step: &MergeStep,
+    made: Vec<Made>,
+    loser_area: i128,
+    ratio: u32,
+    k: u32,
+) -> Result<List<Mend>, Memory>
+    requires open { forest.old.closed ≡ false }
+    requires some { 0 < k }
+    requires made { forest.old.made ≡ k }
+    requires step { step.now ≡ step_number (merged forest.old.base) k }
+    requires area { loser_area ≡ face_area (merged forest.old.base) (k - 1) (step_number (merged forest.old.base) k).loser }
+    requires ratio { ratio ≡ forest.old.base.rules.ratio }
+    requires removed { HasRemoved forest.old (k - 1) }
+    requires running { AreRunning forest.old k (removals_to (merged forest.old.base) (k - 1)) live.old.edges }
+    requires sought { IsSought (labelled_edges live.old.edges) live.old.sought }
+    requires changed { made.items ≡ map (made_of (merged forest.old.base) k) (filter (is_changed (merged forest.old.base) k) (chains_at (merged forest.old.base) k)) }
+    ensures mends { IfOk result (λ mends. mends ≡ (step_record (merged forest.old.base) k).mends) }
+    ensures base { OnOk result (forest.new.base ≡ forest.old.base) }
+    ensures made { OnOk result (forest.new.made ≡ k) }
+    ensures open { OnOk result (forest.new.closed ≡ false) }
+    ensures removed { OnOk result (HasRemoved forest.new k) }
+    ensures running { OnOk result (AreRunning forest.new k (removals_to (merged forest.old.base) k) live.new.edges) }
+    ensures sought { OnOk result (IsSought (labelled_edges live.new.edges) live.new.sought) }
+{
+    if ratio > 0 {
+        remove_vertices(alloc, forest, live, step, made, loser_area, ratio, k)
+    } else {
+        plain_mends(alloc, forest, live, step, made, k)
+    }
+}
+
 /// Makes step number k of the history in the forest, takes out what it removes, and gives its record. The edges are those
-/// before the step, and then those after it. Twice the area of the step's loser is given. The record takes the time of a search
-/// among the points of the map for each point of the arcs of the edges that border the new face.
+/// before the step, and then those after it. Twice the area of the step's loser is given. Where nothing is removed the time is that
+/// of the loser's edges, and of the points of the edges that the step changes.
 pub fn make_step(
     alloc: Global,
     tree: &FaceTree,
@@ -90,29 +203,21 @@ pub fn make_step(
     requires step { step.now ≡ step_number (merged forest.old.base) k }
     requires area { loser_area ≡ face_area (merged forest.old.base) (k - 1) step.now.loser }
     requires removed { HasRemoved forest.old (k - 1) }
-    requires running { AreRunning forest.old (k - 1) (removals_to (merged forest.old.base) (k - 1)) live.old.edges live.old.numbers.items }
-    requires sought { IsSought live.old.edges live.old.sought }
-    requires holders { AreHolders (merged forest.old.base) (k - 1) live.old.holders.items }
+    requires running { AreRunning forest.old (k - 1) (removals_to (merged forest.old.base) (k - 1)) live.old.edges }
+    requires sought { IsSought (labelled_edges live.old.edges) live.old.sought }
     ensures record { IfOk result (λ r. r ≡ step_record (merged forest.old.base) k) }
     ensures base { OnOk result (forest.new.base ≡ forest.old.base) }
     ensures made { OnOk result (forest.new.made ≡ k) }
     ensures open { OnOk result (forest.new.closed ≡ false) }
     ensures removed { OnOk result (HasRemoved forest.new k) }
-    ensures running { OnOk result (AreRunning forest.new k (removals_to (merged forest.old.base) k) live.new.edges live.new.numbers.items) }
-    ensures sought { OnOk result (IsSought live.new.edges live.new.sought) }
-    ensures holders { OnOk result (AreHolders (merged forest.old.base) k live.new.holders.items) }
+    ensures running { OnOk result (AreRunning forest.new k (removals_to (merged forest.old.base) k) live.new.edges) }
+    ensures sought { OnOk result (IsSought (labelled_edges live.new.edges) live.new.sought) }
 {
-    let keys = forest.keys_beside(alloc, step)?;
-    let touched = live.edges.touched(alloc, step, keys)?;
-    let ended = ended_edges(alloc, step, touched.as_slice())?;
     let old = forest.count();
     forest.merge(alloc, step)?;
     let ratio = forest.base().rules().ratio;
-    let border = live.merge(alloc, tree, forest, step, touched, old, k)?;
-    let mends = remove_vertices(
-        alloc, tree, forest, live, step, &border, loser_area, ratio, k,
-    )?;
-    live.hold(alloc, forest, old, k)?;
+    let Changed { ended, made } = live.merge(alloc, forest, step, old, k)?;
+    let mends = mend_and_remove(alloc, forest, live, step, made, loser_area, ratio, k)?;
     Ok(StepRecord {
         step: k,
         loser: step.loser,

@@ -6,6 +6,7 @@ ghost use Rattle.tgap_model.specs.Removals.{has_side, sweep};
 ghost use Rattle.grid_index.specs.Live.{without_keys, AreLive};
 ghost use Rattle.tgap_build.specs.EdgeTable.{IsSought};
 ghost use Rattle.tgap_build.specs.Running.{IsReplacement};
+ghost use Rattle.tgap_build.specs.Table.{labelled_edges};
 
 use crate::edge_table::EdgeTable;
 use grid_index::Live;
@@ -33,11 +34,11 @@ pub fn sought_after(
     Ok(Some(live))
 }
 
-/// The look-up of the edges, which is made where there is none.
+/// The look-up of the edges with their labels, which is made where there is none.
 fn look_up(alloc: Global, sought: Option<Live>, edges: &EdgeTable) -> Result<Live, Memory>
-    requires sought { IsSought edges.now sought }
-    requires live { AreLive edges.now }
-    ensures { IfOk result (λ live. live ≡ edges.now) }
+    requires sought { IsSought (labelled_edges edges.now) sought }
+    requires live { AreLive (labelled_edges edges.now) }
+    ensures { IfOk result (λ live. live ≡ labelled_edges edges.now) }
 {
     match sought {
         Some(live) => Ok(live),
@@ -45,8 +46,8 @@ fn look_up(alloc: Global, sought: Option<Live>, edges: &EdgeTable) -> Result<Liv
     }
 }
 
-/// What a step removes of the edges, of which `made` is the new face, `border` those that border it, and `loser_area` twice the
-/// area of the loser, as `sweep` tells. Where no corner of them is small enough, nothing is looked up.
+/// What a step removes of the edges, which have labels: `made` is that of the new face, `border` are those that have it, and
+/// `loser_area` is twice the area of the loser. It is what `sweep` tells of them. Where no corner of them is small enough, nothing is looked up.
 pub fn swept(
     alloc: Global,
     edges: &EdgeTable,
@@ -57,11 +58,11 @@ pub fn swept(
     ratio: u32,
     step: u32,
 ) -> Result<List<Removal>, Memory>
-    requires sought { IsSought edges.now sought.old }
-    requires live { AreLive edges.now }
-    requires border { border.now ≡ filter (has_side made) edges.now }
-    ensures removals { IfOk result (λ removals. removals ≡ map (λ p. record { point = p; step = step }) (sweep ratio loser_area made edges.now)) }
-    ensures sought { OnOk result (IsSought edges.now sought.new) }
+    requires sought { IsSought (labelled_edges edges.now) sought.old }
+    requires live { AreLive (labelled_edges edges.now) }
+    requires border { border.now ≡ filter (has_side made) (labelled_edges edges.now) }
+    ensures removals { IfOk result (λ removals. removals ≡ map (λ p. record { point = p; step = step }) (sweep ratio loser_area made (labelled_edges edges.now))) }
+    ensures sought { OnOk result (IsSought (labelled_edges edges.now) sought.new) }
 {
     if !may_remove(border, loser_area, ratio) {
         return Ok(List::new(alloc));

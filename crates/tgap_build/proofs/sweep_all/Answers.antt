@@ -12,13 +12,12 @@ use Rattle.tgap_model.proofs.BaseFacts.{base_facts}
 use Rattle.face_merge.specs.Areas.{lost_areas}
 use Rattle.face_merge.proofs.Steps.{length-history_of}
 use Rattle.tgap_build.specs.Built.{HasRemoved}
-use Rattle.tgap_build.specs.Holders.{AreHolders}
 use Rattle.tgap_build.specs.Running.{AreRunning}
 use Rattle.tgap_build.proofs.Lost.{no_step, lost_count, lost_is}
 use Rattle.tgap_build.proofs.sweep_all.Goals as goal
 
 pub loop-i-init : goal.loop-i-init
-loop-i-init c = record { base = refl; made = c.requires.made; unclosed = c.requires.open; removed = c.requires.removed; running = c.in_ok-live.ensures.running; sought = c.in_ok-live.ensures.sought; holders = c.in_ok-live.ensures.holders; records = c.in_ok-records.ensures }
+loop-i-init c = record { base = refl; made = c.requires.made; unclosed = c.requires.open; removed = c.requires.removed; running = c.in_ok-live.ensures.running; sought = c.in_ok-live.ensures.sought; records = c.in_ok-records.ensures }
 
 pub bounds-areas-i : goal.bounds-areas-i
 bounds-areas-i c =
@@ -42,12 +41,7 @@ make_step-requires-clause-removed c =
 pub make_step-requires-clause-running : goal.make_step-requires-clause-running
 make_step-requires-clause-running c =
     let back : c.loop-i.i ≡ c.loop-i.i + 1 - 1 = omega arith in
-    subst (λ (n : ℕ). AreRunning c.loop-i.forest n (removals_to (merged c.loop-i.forest.base) n) c.loop-i.live.edges c.loop-i.live.numbers.items) back c.loop-i.invariant.running
-
-pub make_step-requires-clause-holders : goal.make_step-requires-clause-holders
-make_step-requires-clause-holders c =
-    let back : c.loop-i.i ≡ c.loop-i.i + 1 - 1 = omega arith in
-    subst (λ (n : ℕ). AreHolders (merged c.loop-i.forest.base) n c.loop-i.live.holders.items) back c.loop-i.invariant.holders
+    subst (λ (n : ℕ). AreRunning c.loop-i.forest n (removals_to (merged c.loop-i.forest.base) n) c.loop-i.live.edges) back c.loop-i.invariant.running
 
 pub loop-i-preserved : goal.loop-i-preserved
 loop-i-preserved c = record {
@@ -55,10 +49,9 @@ loop-i-preserved c = record {
   made = c.in_ok-make_step.ensures.made;
   unclosed = c.in_ok-make_step.ensures.open;
   removed = c.in_ok-make_step.ensures.removed;
-  running = subst (λ (m : BaseMap). AreRunning c.make_step.new.forest (c.loop-i.i + 1) (removals_to (merged m) (c.loop-i.i + 1)) c.make_step.new.live.edges c.make_step.new.live.numbers.items)
+  running = subst (λ (m : BaseMap). AreRunning c.make_step.new.forest (c.loop-i.i + 1) (removals_to (merged m) (c.loop-i.i + 1)) c.make_step.new.live.edges)
       (sym c.in_ok-make_step.ensures.base) c.in_ok-make_step.ensures.running;
   sought = c.in_ok-make_step.ensures.sought;
-  holders = subst (λ (m : BaseMap). AreHolders (merged m) (c.loop-i.i + 1) c.make_step.new.live.holders.items) (sym c.in_ok-make_step.ensures.base) c.in_ok-make_step.ensures.holders;
   records = c.in_ok-push.ensures
       ∙ ap₂ (λ (rs : List StepRecord) (r : StepRecord). rs ++ r ∷ []) c.loop-i.invariant.records
       (c.in_ok-make_step.ensures.record ∙ ap (λ (m : BaseMap). step_record (merged m) (c.loop-i.i + 1)) c.loop-i.invariant.base)

@@ -5,8 +5,8 @@ use Rattle.tgap_model.specs.Removals.{removals_to}
 use Rattle.tgap_model.specs.Records.{step_record}
 use Rattle.tgap_build.specs.Built.{HasRemoved}
 use Rattle.tgap_build.specs.EdgeTable.{IsSought}
-use Rattle.tgap_build.specs.Holders.{AreHolders}
 use Rattle.tgap_build.specs.Running.{AreRunning}
+use Rattle.tgap_build.specs.Table.{labelled_edges}
 use Rattle.tgap_build.proofs.sweep_all.Given as goal
 
 -- so many steps were made, and have removed their vertices; the edges are those after them
@@ -16,8 +16,7 @@ invariant-loop-i l = record {
   made : l.forest.made ≡ l.i;
   unclosed : l.forest.closed ≡ false;
   removed : HasRemoved l.forest l.i;
-  running : AreRunning l.forest l.i (removals_to (merged l.forest.base) l.i) l.live.edges l.live.numbers.items;
-  sought : IsSought l.live.edges l.live.sought;
-  holders : AreHolders (merged l.forest.base) l.i l.live.holders.items;
+  running : AreRunning l.forest l.i (removals_to (merged l.forest.base) l.i) l.live.edges;
+  sought : IsSought (labelled_edges l.live.edges) l.live.sought;
   records : l.records ≡ map (step_record (merged l.fn.forest.base)) (range_with_len 1 l.i);
 }

@@ -10,4 +10,4 @@ of-requires c =
     let f = c.args.forest in
     let edges = ap (λ (f : EdgeForest). length f.edges) c.forest.view_is in
     let count = ap length c.in_ok-list.ensures ∙ length-map-range_with_len (edge_box f) 0 (length f.edges) in
-    record { few = omega (arith, count, edges, c.forest.invariant.few) }
+    record { few = omega (arith, count, edges, c.forest.invariant.kept.few) }

@@ -1,145 +1,347 @@
--- What the step does not touch and what borders its new face are the edges after it.
-use Rattle.std.proofs.Common.{ℕ, ◌-◌, ◌<◌, ◌≤◌, ◌++◌, List, map, filter, length, All, refl, sym, ap, ◌∙◌, subst, arith}
-use Rattle.std.proofs.lemmas.List.Elements.{All-filter}
+-- The table after the merge of the faces, with the new edges joined, is that of the step; and what changed is told.
+use Rattle.std.proofs.Common.{rules, ◌∙◌, ℕ, ◌-◌, ◌<◌, ◌==◌, not, List, ◌++◌, map, filter, length, All, IsPermutation, sym, ap, ap₂, subst}
+use Rattle.std.specs.Prelude.{flat_map}
+use Rattle.std.specs.List.{list_any}
+use Rattle.std.specs.List.Sorted.{IsNonDecreasing}
+use Rattle.std.proofs.lemmas.List.Sorted.{IsNonDecreasingBy-from_sort, IsNonDecreasingBy-from_sort_by_key}
+use Rattle.tgap_model.specs.declared.merge.MergeStep.{MergeStep}
 use Rattle.tgap_model.specs.declared.slice.Edge.{Edge}
-use Rattle.tgap_model.specs.History.{history_of}
 use Rattle.tgap_model.specs.Merged.{merged}
-use Rattle.tgap_model.specs.Chains.{chains_at}
-use Rattle.tgap_model.specs.Removals.{edges_of, has_side, removals_to}
+use Rattle.tgap_model.specs.Removals.{removals_to}
 use Rattle.grid_index.specs.Live.{keys}
-use Rattle.edge_forest.specs.Edges.{edge_at, chain_of}
-use Rattle.tgap_build.specs.Running.{AreRunning, is_present, is_touched, number_of, relabelled, noted}
-use Rattle.tgap_build.proofs.EachLive.{before_live}
-use Rattle.tgap_build.proofs.KeyedEdges.{may_replace, replaced}
-use Rattle.tgap_build.proofs.Run.{born_within, born_room, running_next}
-use Rattle.tgap_build.proofs.StepEdges.{border_is, edges_ascend, step_moved}
+use Rattle.edge_forest.specs.declared.face_labels.FaceLabels.{FaceLabels}
+use Rattle.edge_forest.specs.FaceLabels.{HasLabel}
+use Rattle.tgap_build.specs.declared.edge_table.EdgeTable.{EdgeTable}
+use Rattle.tgap_build.specs.declared.live_edges.Made.{Made}
+use Rattle.tgap_build.specs.EdgeTable.{IsSought}
+use Rattle.tgap_build.specs.Table.{labelled_edges}
+use Rattle.tgap_build.specs.Running.{AreRunning}
+use Rattle.tgap_build.specs.Changes.{born_chains, part_keys, whole_of, made_of, come_of, IsExchange}
+use Rattle.tgap_build.proofs.Born.{within}
+use Rattle.tgap_build.proofs.ChangedChains.{losing_order}
+use Rattle.tgap_build.proofs.StepMerge.{losing_are, first_joined, edges_now, few_now, losing_room, made_are, made_room, exchange}
+use Rattle.tgap_build.proofs.StepTable.{merge_loser, merge_winner, merge_apart, merge_made, merge_fresh, running_next}
 use Rattle.tgap_build.proofs.live_edges.LiveEdges.merge.Goals as goal
 
-pub still_there-requires : goal.still_there-requires
-still_there-requires c =
-    let f = c.args.forest.now in
-    let table = c.args.self.now.numbers.items in
-    subst (λ (ns : List ℕ). All (λ (e : Edge). (e.key < length ns) × (number_of ns e < length f.edges)) c.args.touched) (sym c.deref.ensures.value)
-    (subst (All (λ (e : Edge). (e.key < length table) × (number_of table e < length f.edges))) (sym c.requires.touched)
-    (All-filter (is_touched c.args.step.now) (λ (e : Edge). (e.key < length table) × (number_of table e < length f.edges)) c.args.self.now.edges
-    (subst (λ (n : ℕ). All (λ (e : Edge). (e.key < n) × (number_of table e < length f.edges)) c.args.self.now.edges) (sym c.requires.behind.room) c.requires.behind.within)))
-
-pub push_edges-requires-clause-within : goal.push_edges-requires-clause-within
-push_edges-requires-clause-within c =
+pub merge-requires-clause-loser : goal.merge-requires-clause-loser
+merge-requires-clause-loser c =
     let f = c.args.forest.now in
     let k = c.args.k in
-    let up_to : k ≤ f.made = omega (arith, c.requires.made) in
-    let removals = removals_to (merged f.base) (k - 1) in
-    subst (All (λ i. i < length f.edges)) (sym (c.as_slice-2.ensures ∙ c.in_ok-born.ensures))
-    (born_within f c.requires.forest k up_to removals _ refl c.args.old c.requires.old c.args.self.now.edges c.args.self.now.numbers.items c.requires.behind)
-
-pub replace-requires : goal.replace-requires
-replace-requires c =
-    let f = c.args.forest.now in
-    let w = c.requires.forest in
-    let k = c.args.k in
+    let old = c.args.old in
+    let some = c.requires.some in
+    let grown = c.requires.grown in
+    let t0 = c.args.self.now.edges in
+    let r = c.requires.running in
     let s = c.args.step.now in
-    let edges = c.args.self.now.edges in
-    let table = c.args.self.now.numbers.items in
-    let removals = removals_to (merged f.base) (k - 1) in
-    let after = edges_of (merged f.base) k removals (chains_at (merged f.base) k) in
-    let within : k ≤ length (history_of f.base) = omega (arith, w.steps, c.requires.made) in
-    let live = before_live f.base w.base w.partition k c.requires.some within in
-    let ascend = edges_ascend f w k c.requires.some c.requires.made s c.requires.step c.args.old c.requires.old removals edges table c.requires.behind in
-    let moved = step_moved f w k c.requires.some c.requires.made s c.requires.step c.args.old c.requires.old removals edges table c.requires.behind in
-    let gone = c.in_ok-gone.ensures ∙ ap keys (c.as_slice.ensures ∙ c.requires.touched) in
-    let still = c.in_ok-come.ensures
-    ∙ ap (λ (ns : List ℕ). map (relabelled s) (filter (is_present f ns k) c.args.touched)) c.deref.ensures.value
-    ∙ ap (λ (es : List Edge). map (relabelled s) (filter (is_present f table k) es)) c.requires.touched in
-    let came = c.in_ok-push_edges.ensures removals (c.requires.removed.later k (omega arith))
-    ∙ ap (λ (es : List Edge). es ++ edges_of (merged f.base) k removals (map (chain_of f.edges) c.as_slice-2.result.now)) still
-    ∙ ap (λ (is : List ℕ). map (relabelled s) (filter (is_present f table k) (filter (is_touched s) edges)) ++ edges_of (merged f.base) k removals (map (chain_of f.edges) is))
-    (c.as_slice-2.ensures ∙ c.in_ok-born.ensures) in
-    let border = border_is f w k c.requires.some c.requires.made s c.requires.step c.args.old c.requires.old removals edges table c.requires.behind
-    c.push_edges.new.edges c.among-border.result.edges came c.among-border.ensures.same c.among-border.ensures.ascending in
-    record {
-      change = may_replace edges ascend (is_touched s) (filter (has_side s.made) after) after moved live c.in_ok-gone.gone c.in_ok-come-2.come gone
-          (c.in_ok-come-2.ensures ∙ c.as_slice-3.ensures ∙ border);
-      ascending = ascend;
-      sought = c.requires.sought;
-    }
+    let is = c.requires.step in
+    merge_loser f grown.forest k some (within f k old some grown) (removals_to (merged f.base) (k - 1)) t0 r s is
 
-pub note_numbers-requires-clause-within : goal.note_numbers-requires-clause-within
-note_numbers-requires-clause-within c =
+pub merge-requires-clause-winner : goal.merge-requires-clause-winner
+merge-requires-clause-winner c =
     let f = c.args.forest.now in
     let k = c.args.k in
-    let up_to : k ≤ f.made = omega (arith, c.requires.made) in
-    let removals = removals_to (merged f.base) (k - 1) in
-    subst (All (λ i. i < length f.edges)) (sym (c.as_slice-4.ensures ∙ c.in_ok-born.ensures))
-    (born_within f c.requires.forest k up_to removals _ refl c.args.old c.requires.old c.args.self.now.edges c.args.self.now.numbers.items c.requires.behind)
+    let old = c.args.old in
+    let some = c.requires.some in
+    let grown = c.requires.grown in
+    let t0 = c.args.self.now.edges in
+    let r = c.requires.running in
+    let s = c.args.step.now in
+    let is = c.requires.step in
+    merge_winner f grown.forest k some (within f k old some grown) (removals_to (merged f.base) (k - 1)) t0 r s is
 
-pub note_numbers-requires-clause-room : goal.note_numbers-requires-clause-room
-note_numbers-requires-clause-room c =
+pub merge-requires-clause-apart : goal.merge-requires-clause-apart
+merge-requires-clause-apart c =
     let f = c.args.forest.now in
     let k = c.args.k in
-    let up_to : k ≤ f.made = omega (arith, c.requires.made) in
-    let removals = removals_to (merged f.base) (k - 1) in
-    let table = c.args.self.now.numbers.items in
-    subst (All (λ i. (edge_at f.edges i).key < length table)) (sym (c.as_slice-4.ensures ∙ c.in_ok-born.ensures))
-    (born_room f c.requires.forest k up_to removals _ refl c.args.old c.requires.old c.args.self.now.edges table c.requires.behind)
+    let old = c.args.old in
+    let some = c.requires.some in
+    let grown = c.requires.grown in
+    let t0 = c.args.self.now.edges in
+    let r = c.requires.running in
+    let s = c.args.step.now in
+    let is = c.requires.step in
+    merge_apart f grown.forest k some (within f k old some grown) (removals_to (merged f.base) (k - 1)) t0 r s is
+
+pub merge-requires-clause-made : goal.merge-requires-clause-made
+merge-requires-clause-made c =
+    let f = c.args.forest.now in
+    let k = c.args.k in
+    let old = c.args.old in
+    let some = c.requires.some in
+    let grown = c.requires.grown in
+    let t0 = c.args.self.now.edges in
+    let r = c.requires.running in
+    let s = c.args.step.now in
+    let is = c.requires.step in
+    merge_made f grown.forest k some (within f k old some grown) (removals_to (merged f.base) (k - 1)) t0 r s is
+
+pub merge-requires-clause-fresh : goal.merge-requires-clause-fresh
+merge-requires-clause-fresh c =
+    let f = c.args.forest.now in
+    let k = c.args.k in
+    let old = c.args.old in
+    let some = c.requires.some in
+    let grown = c.requires.grown in
+    let t0 = c.args.self.now.edges in
+    let r = c.requires.running in
+    let s = c.args.step.now in
+    let is = c.requires.step in
+    merge_fresh f grown.forest k some (within f k old some grown) (removals_to (merged f.base) (k - 1)) t0 r s is
+
+pub join_new-requires-clause-table : goal.join_new-requires-clause-table
+join_new-requires-clause-table c =
+    let f = c.args.forest.now in
+    let k = c.args.k in
+    let old = c.args.old in
+    let some = c.requires.some in
+    let grown = c.requires.grown in
+    let t0 = c.args.self.now.edges in
+    let r = c.requires.running in
+    let s = c.args.step.now in
+    let is = c.requires.step in
+    let t1 = c.merge.new.self in
+    let m = c.in_ok-ended.ensures in
+    let losing = c.in_ok-ended.field-0.losing.items in
+    let losing_told = m.losing in
+    let ended = c.in_ok-ended.field-0.ended in
+    let ended_told = m.ended in
+    (labelled_edges t1, first_joined f k old some grown t0 t1 r s is m.table m.edges m.labelled losing losing_told ended ended_told)
+
+pub push_whole-requires-clause-room : goal.push_whole-requires-clause-room
+push_whole-requires-clause-room c =
+    let f = c.args.forest.now in
+    let k = c.args.k in
+    let old = c.args.old in
+    let some = c.requires.some in
+    let grown = c.requires.grown in
+    let t0 = c.args.self.now.edges in
+    let r = c.requires.running in
+    let s = c.args.step.now in
+    let is = c.requires.step in
+    let t1 = c.merge.new.self in
+    let m = c.in_ok-ended.ensures in
+    let losing = c.in_ok-ended.field-0.losing.items in
+    let losing_told = m.losing in
+    let ended = c.in_ok-ended.field-0.ended in
+    let ended_told = m.ended in
+    let t = c.join_new.new.self.edges in
+    let state = c.in_ok-made.ensures.table (labelled_edges t1) (first_joined f k old some grown t0 t1 r s is m.table m.edges m.labelled losing losing_told ended ended_told) in
+    let places = c.in_ok-made.ensures.room.places ∙ m.room.places ∙ r.places in
+    subst (All (λ i. i < length t.places.items)) (sym c.deref-3.ensures.value) (losing_room f k old some grown t0 t1 r s is m.table m.edges m.labelled losing losing_told ended ended_told t state places)
+
+pub push_whole-requires-clause-few : goal.push_whole-requires-clause-few
+push_whole-requires-clause-few c =
+    let f = c.args.forest.now in
+    let k = c.args.k in
+    let old = c.args.old in
+    let some = c.requires.some in
+    let grown = c.requires.grown in
+    let t0 = c.args.self.now.edges in
+    let r = c.requires.running in
+    let s = c.args.step.now in
+    let is = c.requires.step in
+    let t1 = c.merge.new.self in
+    let m = c.in_ok-ended.ensures in
+    let losing = c.in_ok-ended.field-0.losing.items in
+    let losing_told = m.losing in
+    let ended = c.in_ok-ended.field-0.ended in
+    let ended_told = m.ended in
+    let t = c.join_new.new.self.edges in
+    let state = c.in_ok-made.ensures.table (labelled_edges t1) (first_joined f k old some grown t0 t1 r s is m.table m.edges m.labelled losing losing_told ended ended_told) in
+    let places = c.in_ok-made.ensures.room.places ∙ m.room.places ∙ r.places in
+    few_now f k old some grown t0 t1 r s is m.table m.edges m.labelled losing losing_told ended ended_told t state
+
+pub push_whole-requires-clause-losing : goal.push_whole-requires-clause-losing
+push_whole-requires-clause-losing c =
+    let f = c.args.forest.now in
+    let k = c.args.k in
+    let old = c.args.old in
+    let some = c.requires.some in
+    let grown = c.requires.grown in
+    let t0 = c.args.self.now.edges in
+    let r = c.requires.running in
+    let s = c.args.step.now in
+    let is = c.requires.step in
+    let t1 = c.merge.new.self in
+    let m = c.in_ok-ended.ensures in
+    let losing = c.in_ok-ended.field-0.losing.items in
+    let losing_told = m.losing in
+    let ended = c.in_ok-ended.field-0.ended in
+    let ended_told = m.ended in
+    subst IsNonDecreasing (sym (c.deref-2.ensures.value ∙ losing_are f k old some grown t0 t1 r s is m.table m.edges m.labelled losing losing_told ended ended_told)) (losing_order f k old some grown)
+
+pub push_whole-requires-clause-others : goal.push_whole-requires-clause-others
+push_whole-requires-clause-others c =
+    subst IsNonDecreasing (sym c.deref-4.ensures.value) (IsNonDecreasingBy-from_sort (λ (n : ℕ). n) c.sort_unstable.new.self.items c.sort_unstable.ensures.sorted)
+
+pub seek-requires-clause-room : goal.seek-requires-clause-room
+seek-requires-clause-room c =
+    let f = c.args.forest.now in
+    let k = c.args.k in
+    let old = c.args.old in
+    let some = c.requires.some in
+    let grown = c.requires.grown in
+    let t0 = c.args.self.now.edges in
+    let r = c.requires.running in
+    let s = c.args.step.now in
+    let is = c.requires.step in
+    let t1 = c.merge.new.self in
+    let m = c.in_ok-ended.ensures in
+    let losing = c.in_ok-ended.field-0.losing.items in
+    let losing_told = m.losing in
+    let ended = c.in_ok-ended.field-0.ended in
+    let ended_told = m.ended in
+    let t = c.join_new.new.self.edges in
+    let state = c.in_ok-made.ensures.table (labelled_edges t1) (first_joined f k old some grown t0 t1 r s is m.table m.edges m.labelled losing losing_told ended ended_told) in
+    let places = c.in_ok-made.ensures.room.places ∙ m.room.places ∙ r.places in
+    let joined = c.sort_unstable.new.self.items in
+    let told = c.in_ok-made.ensures.joined ∙ ap (λ (ks : List ℕ). ks ++ flat_map (part_keys (merged f.base) k) (born_chains f k old (length f.edges))) c.new-joined.ensures.items in
+    let joined_told = subst (λ (ks : List ℕ). IsPermutation ks joined) told c.sort_unstable.ensures.permutation in
+    let raw = c.push_whole.new.made.items in
+    let sorted = c.sort_unstable_by_key.new.self.items in
+    let others = λ (losing_side keys but : List ℕ). map (whole_of t.places.items s losing_side) (filter (λ i. not (list_any (λ j. j == i) but)) keys) in
+    let made_told = c.in_ok-push_whole.ensures
+    ∙ ap (λ (os : List Made). os ++ others c.deref-2.result.now c.deref-3.result.now c.deref-4.result.now) c.in_ok-made.ensures.made
+    ∙ ap₂ (λ (a b : List ℕ). map (made_of (merged f.base) k) (born_chains f k old (length f.edges)) ++ others a b c.deref-4.result.now) c.deref-2.ensures.value c.deref-3.ensures.value
+    ∙ ap (λ (ks : List ℕ). map (made_of (merged f.base) k) (born_chains f k old (length f.edges)) ++ others losing losing ks) c.deref-4.ensures.value in
+    let order = IsNonDecreasingBy-from_sort_by_key (λ (o : Made). o.key) sorted c.sort_unstable_by_key.ensures.sorted (λ a r q k. search rules) in
+    subst (All (λ (o : Made). o.key < length t.places.items)) (sym c.deref-7.ensures.value) (made_room f k old some grown t0 t1 r s is m.table m.edges m.labelled losing losing_told ended ended_told t state places joined joined_told raw sorted made_told c.sort_unstable_by_key.ensures.permutation order)
+
+pub seek-requires-clause-sought : goal.seek-requires-clause-sought
+seek-requires-clause-sought c =
+    let f = c.args.forest.now in
+    let k = c.args.k in
+    let old = c.args.old in
+    let some = c.requires.some in
+    let grown = c.requires.grown in
+    let t0 = c.args.self.now.edges in
+    let r = c.requires.running in
+    let s = c.args.step.now in
+    let is = c.requires.step in
+    let t1 = c.merge.new.self in
+    let m = c.in_ok-ended.ensures in
+    let losing = c.in_ok-ended.field-0.losing.items in
+    let losing_told = m.losing in
+    let ended = c.in_ok-ended.field-0.ended in
+    let ended_told = m.ended in
+    let t = c.join_new.new.self.edges in
+    let state = c.in_ok-made.ensures.table (labelled_edges t1) (first_joined f k old some grown t0 t1 r s is m.table m.edges m.labelled losing losing_told ended ended_told) in
+    let places = c.in_ok-made.ensures.room.places ∙ m.room.places ∙ r.places in
+    let joined = c.sort_unstable.new.self.items in
+    let told = c.in_ok-made.ensures.joined ∙ ap (λ (ks : List ℕ). ks ++ flat_map (part_keys (merged f.base) k) (born_chains f k old (length f.edges))) c.new-joined.ensures.items in
+    let joined_told = subst (λ (ks : List ℕ). IsPermutation ks joined) told c.sort_unstable.ensures.permutation in
+    let raw = c.push_whole.new.made.items in
+    let sorted = c.sort_unstable_by_key.new.self.items in
+    let others = λ (losing_side keys but : List ℕ). map (whole_of t.places.items s losing_side) (filter (λ i. not (list_any (λ j. j == i) but)) keys) in
+    let made_told = c.in_ok-push_whole.ensures
+    ∙ ap (λ (os : List Made). os ++ others c.deref-2.result.now c.deref-3.result.now c.deref-4.result.now) c.in_ok-made.ensures.made
+    ∙ ap₂ (λ (a b : List ℕ). map (made_of (merged f.base) k) (born_chains f k old (length f.edges)) ++ others a b c.deref-4.result.now) c.deref-2.ensures.value c.deref-3.ensures.value
+    ∙ ap (λ (ks : List ℕ). map (made_of (merged f.base) k) (born_chains f k old (length f.edges)) ++ others losing losing ks) c.deref-4.ensures.value in
+    let order = IsNonDecreasingBy-from_sort_by_key (λ (o : Made). o.key) sorted c.sort_unstable_by_key.ensures.sorted (λ a r q k. search rules) in
+    let all = subst (λ (ks : List ℕ). IsExchange (labelled_edges t0) (ks ++ c.deref-6.result.now ++ keys c.as_slice.result.now) (come_of t.places.items c.deref-7.result.now) (labelled_edges t)) (sym c.deref-5.ensures.value)
+    (subst (λ (ks : List ℕ). IsExchange (labelled_edges t0) (joined ++ ks ++ keys c.as_slice.result.now) (come_of t.places.items c.deref-7.result.now) (labelled_edges t)) (sym c.deref-6.ensures.value)
+    (subst (λ (es : List Edge). IsExchange (labelled_edges t0) (joined ++ losing ++ keys es) (come_of t.places.items c.deref-7.result.now) (labelled_edges t)) (sym c.as_slice.ensures)
+    (subst (λ (os : List Made). IsExchange (labelled_edges t0) (joined ++ losing ++ keys ended) (come_of t.places.items os) (labelled_edges t)) (sym c.deref-7.ensures.value)
+    (exchange f k old some grown t0 t1 r s is m.table m.edges m.labelled losing losing_told ended ended_told t state places joined joined_told raw sorted made_told c.sort_unstable_by_key.ensures.permutation order)))) in
+    let looked = subst (IsSought (labelled_edges t0)) (sym c.in_ok-made.ensures.sought) c.requires.sought in
+    (labelled_edges t0, looked, all)
+
+pub returns-clause-sought : goal.returns-clause-sought
+returns-clause-sought c =
+    let f = c.args.forest.now in
+    let k = c.args.k in
+    let old = c.args.old in
+    let some = c.requires.some in
+    let grown = c.requires.grown in
+    let t0 = c.args.self.now.edges in
+    let r = c.requires.running in
+    let s = c.args.step.now in
+    let is = c.requires.step in
+    let t1 = c.merge.new.self in
+    let m = c.in_ok-ended.ensures in
+    let losing = c.in_ok-ended.field-0.losing.items in
+    let losing_told = m.losing in
+    let ended = c.in_ok-ended.field-0.ended in
+    let ended_told = m.ended in
+    let t = c.join_new.new.self.edges in
+    let state = c.in_ok-made.ensures.table (labelled_edges t1) (first_joined f k old some grown t0 t1 r s is m.table m.edges m.labelled losing losing_told ended ended_told) in
+    let places = c.in_ok-made.ensures.room.places ∙ m.room.places ∙ r.places in
+    let joined = c.sort_unstable.new.self.items in
+    let told = c.in_ok-made.ensures.joined ∙ ap (λ (ks : List ℕ). ks ++ flat_map (part_keys (merged f.base) k) (born_chains f k old (length f.edges))) c.new-joined.ensures.items in
+    let joined_told = subst (λ (ks : List ℕ). IsPermutation ks joined) told c.sort_unstable.ensures.permutation in
+    let raw = c.push_whole.new.made.items in
+    let sorted = c.sort_unstable_by_key.new.self.items in
+    let others = λ (losing_side keys but : List ℕ). map (whole_of t.places.items s losing_side) (filter (λ i. not (list_any (λ j. j == i) but)) keys) in
+    let made_told = c.in_ok-push_whole.ensures
+    ∙ ap (λ (os : List Made). os ++ others c.deref-2.result.now c.deref-3.result.now c.deref-4.result.now) c.in_ok-made.ensures.made
+    ∙ ap₂ (λ (a b : List ℕ). map (made_of (merged f.base) k) (born_chains f k old (length f.edges)) ++ others a b c.deref-4.result.now) c.deref-2.ensures.value c.deref-3.ensures.value
+    ∙ ap (λ (ks : List ℕ). map (made_of (merged f.base) k) (born_chains f k old (length f.edges)) ++ others losing losing ks) c.deref-4.ensures.value in
+    let order = IsNonDecreasingBy-from_sort_by_key (λ (o : Made). o.key) sorted c.sort_unstable_by_key.ensures.sorted (λ a r q k. search rules) in
+    let all = subst (λ (ks : List ℕ). IsExchange (labelled_edges t0) (ks ++ c.deref-6.result.now ++ keys c.as_slice.result.now) (come_of t.places.items c.deref-7.result.now) (labelled_edges t)) (sym c.deref-5.ensures.value)
+    (subst (λ (ks : List ℕ). IsExchange (labelled_edges t0) (joined ++ ks ++ keys c.as_slice.result.now) (come_of t.places.items c.deref-7.result.now) (labelled_edges t)) (sym c.deref-6.ensures.value)
+    (subst (λ (es : List Edge). IsExchange (labelled_edges t0) (joined ++ losing ++ keys es) (come_of t.places.items c.deref-7.result.now) (labelled_edges t)) (sym c.as_slice.ensures)
+    (subst (λ (os : List Made). IsExchange (labelled_edges t0) (joined ++ losing ++ keys ended) (come_of t.places.items os) (labelled_edges t)) (sym c.deref-7.ensures.value)
+    (exchange f k old some grown t0 t1 r s is m.table m.edges m.labelled losing losing_told ended ended_told t state places joined joined_told raw sorted made_told c.sort_unstable_by_key.ensures.permutation order)))) in
+    let looked = subst (IsSought (labelled_edges t0)) (sym c.in_ok-made.ensures.sought) c.requires.sought in
+    subst (λ (u : EdgeTable). IsSought (labelled_edges u) c.seek.new.self.sought) (sym c.in_ok-seek.ensures.edges) (c.in_ok-seek.ensures.sought (labelled_edges t0) looked all)
+
+pub returns-clause-made : goal.returns-clause-made
+returns-clause-made c =
+    let f = c.args.forest.now in
+    let k = c.args.k in
+    let old = c.args.old in
+    let some = c.requires.some in
+    let grown = c.requires.grown in
+    let t0 = c.args.self.now.edges in
+    let r = c.requires.running in
+    let s = c.args.step.now in
+    let is = c.requires.step in
+    let t1 = c.merge.new.self in
+    let m = c.in_ok-ended.ensures in
+    let losing = c.in_ok-ended.field-0.losing.items in
+    let losing_told = m.losing in
+    let ended = c.in_ok-ended.field-0.ended in
+    let ended_told = m.ended in
+    let t = c.join_new.new.self.edges in
+    let state = c.in_ok-made.ensures.table (labelled_edges t1) (first_joined f k old some grown t0 t1 r s is m.table m.edges m.labelled losing losing_told ended ended_told) in
+    let places = c.in_ok-made.ensures.room.places ∙ m.room.places ∙ r.places in
+    let joined = c.sort_unstable.new.self.items in
+    let told = c.in_ok-made.ensures.joined ∙ ap (λ (ks : List ℕ). ks ++ flat_map (part_keys (merged f.base) k) (born_chains f k old (length f.edges))) c.new-joined.ensures.items in
+    let joined_told = subst (λ (ks : List ℕ). IsPermutation ks joined) told c.sort_unstable.ensures.permutation in
+    let raw = c.push_whole.new.made.items in
+    let sorted = c.sort_unstable_by_key.new.self.items in
+    let others = λ (losing_side keys but : List ℕ). map (whole_of t.places.items s losing_side) (filter (λ i. not (list_any (λ j. j == i) but)) keys) in
+    let made_told = c.in_ok-push_whole.ensures
+    ∙ ap (λ (os : List Made). os ++ others c.deref-2.result.now c.deref-3.result.now c.deref-4.result.now) c.in_ok-made.ensures.made
+    ∙ ap₂ (λ (a b : List ℕ). map (made_of (merged f.base) k) (born_chains f k old (length f.edges)) ++ others a b c.deref-4.result.now) c.deref-2.ensures.value c.deref-3.ensures.value
+    ∙ ap (λ (ks : List ℕ). map (made_of (merged f.base) k) (born_chains f k old (length f.edges)) ++ others losing losing ks) c.deref-4.ensures.value in
+    let order = IsNonDecreasingBy-from_sort_by_key (λ (o : Made). o.key) sorted c.sort_unstable_by_key.ensures.sorted (λ a r q k. search rules) in
+    made_are f k old some grown t0 t1 r s is m.table m.edges m.labelled losing losing_told ended ended_told t state places joined joined_told raw sorted made_told c.sort_unstable_by_key.ensures.permutation order
 
 pub returns-clause-running : goal.returns-clause-running
 returns-clause-running c =
     let f = c.args.forest.now in
-    let w = c.requires.forest in
     let k = c.args.k in
+    let old = c.args.old in
+    let some = c.requires.some in
+    let grown = c.requires.grown in
+    let t0 = c.args.self.now.edges in
+    let r = c.requires.running in
     let s = c.args.step.now in
-    let edges = c.args.self.now.edges in
-    let table = c.args.self.now.numbers.items in
-    let removals = removals_to (merged f.base) (k - 1) in
-    let after = edges_of (merged f.base) k removals (chains_at (merged f.base) k) in
-    let within : k ≤ length (history_of f.base) = omega (arith, w.steps, c.requires.made) in
-    let up_to : k ≤ f.made = omega (arith, c.requires.made) in
-    let live = before_live f.base w.base w.partition k c.requires.some within in
-    let ascend = edges_ascend f w k c.requires.some c.requires.made s c.requires.step c.args.old c.requires.old removals edges table c.requires.behind in
-    let moved = step_moved f w k c.requires.some c.requires.made s c.requires.step c.args.old c.requires.old removals edges table c.requires.behind in
-    let gone = c.in_ok-gone.ensures ∙ ap keys (c.as_slice.ensures ∙ c.requires.touched) in
-    let still = c.in_ok-come.ensures
-    ∙ ap (λ (ns : List ℕ). map (relabelled s) (filter (is_present f ns k) c.args.touched)) c.deref.ensures.value
-    ∙ ap (λ (es : List Edge). map (relabelled s) (filter (is_present f table k) es)) c.requires.touched in
-    let came = c.in_ok-push_edges.ensures removals (c.requires.removed.later k (omega arith))
-    ∙ ap (λ (es : List Edge). es ++ edges_of (merged f.base) k removals (map (chain_of f.edges) c.as_slice-2.result.now)) still
-    ∙ ap (λ (is : List ℕ). map (relabelled s) (filter (is_present f table k) (filter (is_touched s) edges)) ++ edges_of (merged f.base) k removals (map (chain_of f.edges) is))
-    (c.as_slice-2.ensures ∙ c.in_ok-born.ensures) in
-    let border = border_is f w k c.requires.some c.requires.made s c.requires.step c.args.old c.requires.old removals edges table c.requires.behind
-    c.push_edges.new.edges c.among-border.result.edges came c.among-border.ensures.same c.among-border.ensures.ascending in
-    let now = replaced edges ascend (is_touched s) (filter (has_side s.made) after) after moved live c.in_ok-gone.gone c.in_ok-come-2.come gone
-    (c.in_ok-come-2.ensures ∙ c.as_slice-3.ensures ∙ border) c.replace.new.edges c.in_ok-replace.ensures.ascending c.in_ok-replace.ensures.moved in
-    subst (AreRunning f k removals c.replace.new.edges) (sym (c.note_numbers.ensures ∙ ap (λ (is : List ℕ). noted f.edges is table) (c.as_slice-4.ensures ∙ c.in_ok-born.ensures)))
-    (running_next f w k up_to removals c.replace.new.edges now c.args.old c.requires.old edges table c.requires.behind)
-
-pub returns-clause-border : goal.returns-clause-border
-returns-clause-border c =
-    let f = c.args.forest.now in
-    let w = c.requires.forest in
-    let k = c.args.k in
-    let s = c.args.step.now in
-    let edges = c.args.self.now.edges in
-    let table = c.args.self.now.numbers.items in
-    let removals = removals_to (merged f.base) (k - 1) in
-    let after = edges_of (merged f.base) k removals (chains_at (merged f.base) k) in
-    let within : k ≤ length (history_of f.base) = omega (arith, w.steps, c.requires.made) in
-    let live = before_live f.base w.base w.partition k c.requires.some within in
-    let ascend = edges_ascend f w k c.requires.some c.requires.made s c.requires.step c.args.old c.requires.old removals edges table c.requires.behind in
-    let moved = step_moved f w k c.requires.some c.requires.made s c.requires.step c.args.old c.requires.old removals edges table c.requires.behind in
-    let gone = c.in_ok-gone.ensures ∙ ap keys (c.as_slice.ensures ∙ c.requires.touched) in
-    let still = c.in_ok-come.ensures
-    ∙ ap (λ (ns : List ℕ). map (relabelled s) (filter (is_present f ns k) c.args.touched)) c.deref.ensures.value
-    ∙ ap (λ (es : List Edge). map (relabelled s) (filter (is_present f table k) es)) c.requires.touched in
-    let came = c.in_ok-push_edges.ensures removals (c.requires.removed.later k (omega arith))
-    ∙ ap (λ (es : List Edge). es ++ edges_of (merged f.base) k removals (map (chain_of f.edges) c.as_slice-2.result.now)) still
-    ∙ ap (λ (is : List ℕ). map (relabelled s) (filter (is_present f table k) (filter (is_touched s) edges)) ++ edges_of (merged f.base) k removals (map (chain_of f.edges) is))
-    (c.as_slice-2.ensures ∙ c.in_ok-born.ensures) in
-    let border = border_is f w k c.requires.some c.requires.made s c.requires.step c.args.old c.requires.old removals edges table c.requires.behind
-    c.push_edges.new.edges c.among-border.result.edges came c.among-border.ensures.same c.among-border.ensures.ascending in
-    let now = replaced edges ascend (is_touched s) (filter (has_side s.made) after) after moved live c.in_ok-gone.gone c.in_ok-come-2.come gone
-    (c.in_ok-come-2.ensures ∙ c.as_slice-3.ensures ∙ border) c.replace.new.edges c.in_ok-replace.ensures.ascending c.in_ok-replace.ensures.moved in
-    border ∙ ap (filter (has_side s.made)) (sym now) ∙ ap (λ (n : ℕ). filter (has_side n) c.replace.new.edges) (sym c.among-border.ensures.face)
-
-pub returns-clause-sought : goal.returns-clause-sought
-returns-clause-sought c = c.in_ok-replace.ensures.sought
+    let is = c.requires.step in
+    let t1 = c.merge.new.self in
+    let m = c.in_ok-ended.ensures in
+    let losing = c.in_ok-ended.field-0.losing.items in
+    let losing_told = m.losing in
+    let ended = c.in_ok-ended.field-0.ended in
+    let ended_told = m.ended in
+    let t = c.join_new.new.self.edges in
+    let state = c.in_ok-made.ensures.table (labelled_edges t1) (first_joined f k old some grown t0 t1 r s is m.table m.edges m.labelled losing losing_told ended ended_told) in
+    let places = c.in_ok-made.ensures.room.places ∙ m.room.places ∙ r.places in
+    let labels = c.in_ok-made.ensures.labels in
+    let has = λ (face : ℕ) (h : HasLabel t1.labels face). subst (λ (l : FaceLabels). HasLabel l face) (sym labels) h in
+    subst (AreRunning f k (removals_to (merged f.base) (k - 1))) (sym c.in_ok-seek.ensures.edges)
+    (running_next f grown.forest k some (within f k old some grown) (removals_to (merged f.base) (k - 1)) (removals_to (merged f.base) (k - 1)) t0 t r state.table
+    (edges_now f k old some grown t0 t1 r s is m.table m.edges m.labelled losing losing_told ended ended_told t state) (c.in_ok-made.ensures.room.places ∙ m.room.places) (c.in_ok-made.ensures.room.lists ∙ m.room.lists)
+    (subst (λ (x : MergeStep). HasLabel t.labels x.made) is (has s.made m.made))
+    (λ face p q n known. has face (m.others face (λ e. p (e ∙ ap (λ (x : MergeStep). x.loser) is)) (λ e. q (e ∙ ap (λ (x : MergeStep). x.winner) is)) (λ e. n (e ∙ ap (λ (x : MergeStep). x.made) is)) known)))

@@ -1,49 +1,66 @@
--- Of the edges that lose a point, what stays and what comes are all edges, less the removals.
-use Rattle.std.proofs.Common.{◌≡◌, List, [], map, filter, sym, ap, ◌∙◌}
-use Rattle.tgap_model.specs.declared.geometry.Point.{Point}
-use Rattle.tgap_model.specs.declared.slice.Removal.{Removal}
-use Rattle.tgap_model.specs.Removals.{has_side, is_removed}
-use Rattle.removal_laws.specs.StandLaws.{edges_less}
-use Rattle.removal_laws.proofs.Less.{less_none}
-use Rattle.grid_index.specs.Live.{keys}
-use Rattle.tgap_build.specs.Running.{has_any, less, loses}
-use Rattle.tgap_build.proofs.Filters.{filter_both}
-use Rattle.tgap_build.proofs.KeyedEdges.{may_replace, replaced}
-use Rattle.tgap_build.proofs.Losing.{ascend_less, losing_moved}
+-- The edges that lose a point are exchanged, in the look-up as in the table.
+use Rattle.std.proofs.Common.{◌∙◌, ◌<◌, ◌++◌, ℕ, List, map, filter, length, All, IsPermutation, sym, ap, subst}
+use Rattle.tgap_model.specs.declared.slice.Edge.{Edge}
+use Rattle.map_laws.proofs.Lists.{all_members, map_among, kept_among}
+use Rattle.grid_index.specs.Live.{keys, without_keys}
+use Rattle.tgap_build.specs.EdgeTable.{IsSought}
+use Rattle.tgap_build.specs.Running.{less}
+use Rattle.tgap_build.specs.Table.{labelled_edges}
+use Rattle.tgap_build.specs.Changes.{less_where, with_all}
+use Rattle.tgap_build.proofs.EdgeTables.{ascending}
+use Rattle.tgap_build.proofs.KeyedEdges.{may_replace, left_is}
+use Rattle.tgap_build.proofs.LessEdges.{all_less, ascend_where, where_moved}
+use Rattle.tgap_build.proofs.Tables.{key_placed}
 use Rattle.tgap_build.proofs.live_edges.LiveEdges.remove.Goals as goal
 
-pub returns-then-is_empty-clause-edges : goal.returns-then-is_empty-clause-edges
-returns-then-is_empty-clause-edges c =
-    let none : c.args.removals.now ≡ [] = c.is_empty.ensures.0 c.if-is_empty.true in
-    sym (less_none c.args.self.now.edges) ∙ ap (λ (rs : List Removal). edges_less rs c.args.self.now.edges) (sym none)
+pub sought_after-requires : goal.sought_after-requires
+sought_after-requires c =
+    let t = c.args.self.now.edges in
+    let edges = labelled_edges t in
+    let set = c.args.gone.now in
+    let p = c.requires.losing.0 in
+    let is = c.requires.losing.1 in
+    let ascend = ascending t.places.items c.requires.table.keyed in (
+      edges,
+      subst (IsSought edges) (sym c.take.ensures.value) c.requires.sought,
+      may_replace edges ascend p (map (less set) (filter p edges)) (map (less_where set p) edges) (where_moved set p edges) (c.requires.live p is)
+          c.in_ok-keys.keys c.as_slice.result.now (c.in_ok-keys.ensures ∙ ap keys is) (c.as_slice.ensures ∙ c.in_ok-come.ensures ∙ ap (map (less set)) is),
+    )
 
-pub replace-requires : goal.replace-requires
-replace-requires c =
-    let edges = c.args.self.now.edges in
-    let face = c.args.border.now.face in
-    let set = c.in_ok-gone.gone in
-    let all = edges_less c.args.removals.now edges in
-    let ascend = ascend_less c.args.removals.now edges c.requires.live.ascending in
-    let losing = ap (filter (has_any set)) (c.as_slice-2.ensures ∙ c.requires.border) ∙ filter_both (has_any set) (has_side face) edges in
-    let found = λ (p : Point). c.in_ok-gone.ensures p ∙ ap (λ (rs : List Removal). is_removed rs p) c.as_slice.ensures in
-    let moved = losing_moved set c.args.removals.now found face edges c.requires.others in
-    record {
-      change = may_replace edges ascend (loses set face) (map (less set) (filter (loses set face) edges)) all moved c.requires.live c.in_ok-change.change.gone
-          c.in_ok-change.change.come (c.in_ok-change.ensures.gone ∙ ap keys losing) (c.in_ok-change.ensures.come ∙ ap (map (less set)) losing);
-      ascending = c.requires.ascending;
-      sought = c.requires.sought;
-    }
+pub set_all-requires-clause-room : goal.set_all-requires-clause-room
+set_all-requires-clause-room c =
+    let t = c.args.self.now.edges in
+    let edges = labelled_edges t in
+    let set = c.args.gone.now in
+    let p = c.requires.losing.0 in
+    subst (All (λ (e : Edge). e.key < length t.places.items)) (sym (c.in_ok-come.ensures ∙ ap (map (less set)) c.requires.losing.1))
+    (all_members (λ (e : Edge). e.key < length t.places.items) (map (less set) (filter p edges)) (λ e m.
+    let d = map_among (less set) (filter p edges) e m in
+    subst (λ (x : Edge). x.key < length t.places.items) d.2 (key_placed t.places.items c.requires.table.keyed d.0 (kept_among p edges d.0 d.1))))
 
 pub returns-clause-edges : goal.returns-clause-edges
-returns-clause-edges c =
-    let edges = c.args.self.now.edges in
-    let face = c.args.border.now.face in
-    let set = c.in_ok-gone.gone in
-    let all = edges_less c.args.removals.now edges in
-    let ascend = ascend_less c.args.removals.now edges c.requires.live.ascending in
-    let losing = ap (filter (has_any set)) (c.as_slice-2.ensures ∙ c.requires.border) ∙ filter_both (has_any set) (has_side face) edges in
-    let found = λ (p : Point). c.in_ok-gone.ensures p ∙ ap (λ (rs : List Removal). is_removed rs p) c.as_slice.ensures in
-    let moved = losing_moved set c.args.removals.now found face edges c.requires.others in
-    replaced edges ascend (loses set face) (map (less set) (filter (loses set face) edges)) all moved c.requires.live c.in_ok-change.change.gone c.in_ok-change.change.come
-    (c.in_ok-change.ensures.gone ∙ ap keys losing) (c.in_ok-change.ensures.come ∙ ap (map (less set)) losing)
-    c.replace.new.edges c.in_ok-replace.ensures.ascending c.in_ok-replace.ensures.moved
+returns-clause-edges c = λ p is.
+    let t = c.args.self.now.edges in
+    let edges = labelled_edges t in
+    let set = c.args.gone.now in
+    c.set_all.ensures.edges ∙ ap (λ (es : List Edge). with_all es edges) (c.in_ok-come.ensures ∙ ap (map (less set)) is)
+    ∙ all_less set edges (ascending t.places.items c.requires.table.keyed) p
+
+pub returns-clause-sought : goal.returns-clause-sought
+returns-clause-sought c =
+    let t = c.args.self.now.edges in
+    let edges = labelled_edges t in
+    let set = c.args.gone.now in
+    let p = c.requires.losing.0 in
+    let is = c.requires.losing.1 in
+    let ascend = ascending t.places.items c.requires.table.keyed in
+    let all = map (less_where set p) edges in
+    let come = map (less set) (filter p edges) in
+    let now = c.set_all.ensures.edges ∙ ap (λ (es : List Edge). with_all es edges) (c.in_ok-come.ensures ∙ ap (map (less set)) is) ∙ all_less set edges ascend p in
+    let keyed = c.in_ok-keys.ensures ∙ ap keys is in
+    let come_is = c.as_slice.ensures ∙ c.in_ok-come.ensures ∙ ap (map (less set)) is in
+    let moved = subst (λ (ks : List ℕ). IsPermutation (without_keys ks edges ++ c.as_slice.result.now) all) (sym keyed)
+    (subst (λ (es : List Edge). IsPermutation (without_keys (keys (filter p edges)) edges ++ es) all) (sym come_is)
+    (subst (λ (es : List Edge). IsPermutation (es ++ come) all) (sym (left_is edges ascend p)) (where_moved set p edges))) in
+    subst (λ (es : List Edge). IsSought es c.in_ok-self.field-0) (sym now)
+    (c.in_ok-self.ensures edges all (subst (IsSought edges) (sym c.take.ensures.value) c.requires.sought) (ascend_where set p edges ascend) moved)
