@@ -1,5 +1,6 @@
 -- What is read is the slice, and it has what the laws of slices say.
 use Rattle.std.proofs.Common.{◌≡◌, ◌<◌, ◌≤◌, ℕ, ◌+◌, ◌^◌, true, List, length, map, sym, ap, ap₂, ◌∙◌, subst, arith}
+use Rattle.std.proofs.lemmas.List.{length-map}
 use Rattle.tgap_model.specs.declared.slice.Edge.{Edge}
 use Rattle.tgap_model.specs.declared.slice.FaceRow.{FaceRow}
 use Rattle.tgap_model.specs.declared.slice.Removal.{Removal}
@@ -9,10 +10,8 @@ use Rattle.tgap_model.specs.Partition.{IsPartition, base_segments, edge_segments
 use Rattle.tgap_model.specs.History.{history_of}
 use Rattle.tgap_model.specs.Merged.{merged, live_faces}
 use Rattle.tgap_model.specs.Chains.{chains_at}
-use Rattle.tgap_model.specs.Removals.{edges_of, removals_to}
+use Rattle.tgap_model.specs.Removals.{edge_of, edges_of, removals_to}
 use Rattle.tgap_model.specs.Slice.{IsSlice, face_row, slice}
-use Rattle.tgap_model.proofs.BaseFacts.{base_facts}
-use Rattle.face_merge.proofs.Steps.{length-history_of}
 use Rattle.face_tree.specs.Tree.{FaceHistory, face_history}
 use Rattle.slice_laws.proofs.EvenSides.{slices_are_slices}
 use Rattle.slice_laws.proofs.Adjacency.{faces_are_adjacent}
@@ -23,16 +22,9 @@ use Rattle.edge_forest.specs.Forest.{EdgeForest, last_step}
 use Rattle.tgap_build.specs.Built.{AreGone, HasRemoved}
 use Rattle.slice_read.specs.Reading.{live_rows, HasAdjacentFaces, HasUnions}
 
--- the last face has a number that is followed by another
-pub few_faces : (m : BaseMap) → is_base m ≡ true → (faces k : ℕ) → faces ≡ length m.classes → k ≤ length (history_of m) → faces + k + 1 < 2 ^ 32
-few_faces m base faces k e inside =
-    let facts = base_facts m base in
-    omega (arith, facts.few_faces, facts.few_arcs, length-history_of m, inside, e)
-
 -- the rows are those of the tree
-rows_are : (m : BaseMap) (t : FaceHistory) → t ≡ face_history (merged m) → (k last : ℕ) → last ≡ length m.classes + k
-    → live_rows t k last ≡ map (face_row (merged m)) (live_faces (merged m) k)
-rows_are m t history k last e = ap₂ (λ (u : FaceHistory) (n : ℕ). live_rows u k n) history e
+rows_are : (m : BaseMap) (t : FaceHistory) → t ≡ face_history (merged m) → (k : ℕ) → live_rows t k (t.faces + k) ≡ map (face_row (merged m)) (live_faces (merged m) k)
+rows_are m t history k = ap (λ (u : FaceHistory). live_rows u k (u.faces + k)) history
 
 -- the edges that are read of a forest with all that is removed are those of the slice
 pub edges_are : (f : EdgeForest) (m : BaseMap) (k : ℕ) (ids : List ℕ) (edges : List Edge) → f.base ≡ m → k ≤ length (history_of m)
@@ -47,12 +39,27 @@ edges_are f m k ids edges same within removed read chains =
     ∙ ap (λ (b : BaseMap). edges_of (merged b) k (removals_to (merged b) k) (chains_at (merged b) k)) same
 
 -- a slice of these rows and edges is the slice
-pub is_slice : (m : BaseMap) → (t : FaceHistory) → t ≡ face_history (merged m) → (k last : ℕ) → last ≡ length m.classes + k
-    → (faces : List FaceRow) (edges : List Edge) → faces ≡ live_rows t k last → edges ≡ edges_of (merged m) k (removals_to (merged m) k) (chains_at (merged m) k)
+pub is_slice : (m : BaseMap) → (t : FaceHistory) → t ≡ face_history (merged m) → (k : ℕ)
+    → (faces : List FaceRow) (edges : List Edge) → faces ≡ live_rows t k (t.faces + k) → edges ≡ edges_of (merged m) k (removals_to (merged m) k) (chains_at (merged m) k)
     → record { step = k; faces = faces; edges = edges } ≡ slice m k
 unfolding slice
-is_slice m t history k last e faces edges rows chains =
-    ap₂ (λ (rs : List FaceRow) (es : List Edge). record { step = k; faces = rs; edges = es }) (rows ∙ rows_are m t history k last e) chains
+is_slice m t history k faces edges rows chains =
+    ap₂ (λ (rs : List FaceRow) (es : List Edge). record { step = k; faces = rs; edges = es }) (rows ∙ rows_are m t history k) chains
+
+-- it has an edge for each chain
+count_edges : (m : BaseMap) (k : ℕ) → length (slice m k).edges ≡ length (chains_at (merged m) k)
+unfolding slice
+count_edges m k = length-map (chains_at (merged m) k) (edge_of (merged m) k (removals_to (merged m) k))
+
+-- so the looks that the forest takes for its chains are counted by its edges
+pub looks_most : (f : EdgeForest) (m : BaseMap) (k before after d : ℕ) → f.base ≡ m → (last_step f < 2 ^ d → after ≤ before + length (chains_at (merged f.base) k) + d + 1)
+    → length (history_of m) < 2 ^ d → after ≤ before + length (slice m k).edges + d + 1
+looks_most f m k before after d same most h =
+    let few : last_step f < 2 ^ d = omega (arith, h, ap (λ (b : BaseMap). length (history_of b)) same) in
+    omega (arith, most few, count_edges m k, ap (λ (b : BaseMap). length (chains_at (merged b) k)) same)
+
+pub looks_least : (f : EdgeForest) (m : BaseMap) (k before after : ℕ) → f.base ≡ m → before + length (chains_at (merged f.base) k) ≤ after → before + length (slice m k).edges ≤ after
+looks_least f m k before after same least = omega (arith, least, count_edges m k, ap (λ (b : BaseMap). length (chains_at (merged b) k)) same)
 
 module _ (m : BaseMap) (base : is_base m ≡ true) (planar : IsPartition (base_segments m)) (k : ℕ) (within : k ≤ length (history_of m)) (s : Slice)
     (is : s ≡ slice m k) where

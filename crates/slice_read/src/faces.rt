@@ -1,29 +1,34 @@
 //! The faces of a slice.
 
-ghost use Rattle.std.specs.Prelude.{◌≡◌, ◌≤◌, ◌<◌, ◌+◌, ◌^◌, length, IfOk};
+ghost use Rattle.std.specs.Prelude.{◌≡◌, ◌≤◌, ◌+◌, length, map, All, IfOk};
+ghost use Rattle.face_tree.specs.Tree.{IsFace};
 ghost use Rattle.slice_read.specs.Reading.{live_rows};
+ghost use Rattle.slice_read.specs.Windows.{row_of};
 
 use face_tree::FaceTree;
 use std::alloc::Global;
 use tgap_model::{FaceRow, List, Memory};
 
-/// The faces that are live after k steps, by number, each with its class. The last face that there is after k steps is
-/// given: the number of faces of the base map and k.
-pub fn faces_at(alloc: Global, tree: &FaceTree, last: u32, k: u32) -> Result<List<FaceRow>, Memory>
-    requires step { k ≤ length tree.now.steps }
-    requires last { last ≡ tree.now.faces + k }
-    requires small { last + 1 < 2 ^ 32 }
-    ensures { IfOk result (λ rows. rows ≡ live_rows tree.now k last) }
+/// A row for each of these faces, with its class.
+pub fn rows_of(alloc: Global, tree: &FaceTree, faces: &[u32]) -> Result<List<FaceRow>, Memory>
+    requires { All (IsFace tree.now) faces.now }
+    ensures { IfOk result (λ rows. rows ≡ map (row_of tree.now) faces.now) }
 {
     let mut rows = List::new(alloc);
-    for face in 1..last + 1 {
-        let (low, high) = tree.range(face);
-        if low <= k && k < high {
-            rows.push(FaceRow {
-                face,
-                class: tree.class(face),
-            })?;
-        }
+    for face in faces {
+        rows.push(FaceRow {
+            face: *face,
+            class: tree.class(*face),
+        })?;
     }
     Ok(rows)
+}
+
+/// The faces that are live after k steps, by number, each with its class.
+pub fn faces_at(alloc: Global, tree: &FaceTree, k: u32) -> Result<List<FaceRow>, Memory>
+    requires { k ≤ length tree.now.steps }
+    ensures { IfOk result (λ rows. rows ≡ live_rows tree.now k (tree.now.faces + k)) }
+{
+    let faces = tree.live_at(alloc, k)?;
+    rows_of(alloc, tree, &faces)
 }

@@ -2,7 +2,7 @@
 //! have the faces and the edges of every slice, and on `tgap_model`, whose `Slice` says what a slice is.
 #![tactic(auto)]
 
-ghost use Rattle.std.specs.Prelude.{◌≡◌, ◌<◌, ◌↔◌, ℕ, length, IfOk, Err};
+ghost use Rattle.std.specs.Prelude.{◌≡◌, ◌<◌, ◌≤◌, ◌+◌, ◌^◌, ◌↔◌, ℕ, length, IfOk, OnOk, Err};
 ghost use Rattle.tgap_model.specs.Partition.{IsPartition, edge_segments};
 ghost use Rattle.tgap_model.specs.History.{history_of};
 ghost use Rattle.tgap_model.specs.Merged.{merged};
@@ -12,20 +12,30 @@ ghost use Rattle.step_laws.specs.StepLaws.{ArePlanar};
 ghost use Rattle.slice_read.specs.declared.fail.ReadFail.TheVariants.{StepTooHigh};
 ghost use Rattle.slice_read.specs.Reading.{HasAdjacentFaces, HasUnions};
 
+mod ends;
 mod faces;
 mod fail;
 mod window;
 
+pub use ends::ends_at;
 use faces::faces_at;
 pub use fail::ReadFail;
+pub use ring_walk::EdgeEnds;
 use std::alloc::Global;
+use std::sync::ledger::Ledger;
 use tgap_build::{Built, edges_of};
-use tgap_model::Slice;
+use tgap_model::{Slice, Steps};
 pub use window::window_at;
 
 /// The slice of a built map after k steps of its merge history: the faces that are live then, by number, and the edges
-/// between them, by key. There is none after more steps than the history has.
-pub fn slice_at(alloc: Global, built: &Built, k: u32) -> Result<Slice, ReadFail>
+/// between them, by key. There is none after more steps than the history has. What is counted are looks at the range of an
+/// edge or at a node of the index of ranges.
+pub fn slice_at<L: Ledger>(
+    alloc: Global,
+    built: &Built,
+    k: u32,
+    steps: &mut Steps<L>,
+) -> Result<Slice, ReadFail>
     // It is the slice by the definition.
     ensures exact { IfOk result (λ s. s ≡ slice built.now k) }
     // Its faces are the live ones, and its edges are the chains after k steps, less the vertices that were removed by then, with
@@ -41,18 +51,23 @@ pub fn slice_at(alloc: Global, built: &Built, k: u32) -> Result<Slice, ReadFail>
     ensures unions { IfOk result (HasUnions built.now k) }
     // It is refused exactly where k is above the number of the last step, which the refusal tells.
     ensures high { (steps : ℕ) → (result ≡ Err (StepTooHigh steps)) ↔ ((length (history_of built.now) < k) × (steps ≡ length (history_of built.now))) }
+    // It takes a look for each edge of the slice, and at most d + 1 more, where 2 to the power d is above the number of the last
+    // step.
+    ensures looks_most { (d : ℕ) → length (history_of built.now) < 2 ^ d → steps.new ≤ steps.old + length (slice built.now k).edges + d + 1 }
+    ensures looks_least { OnOk result (steps.old + length (slice built.now k).edges ≤ steps.new) }
 {
-    let steps = built.steps();
-    if k > steps {
-        return Err(ReadFail::StepTooHigh { steps });
+    let made = built.steps();
+    if k > made {
+        return Err(ReadFail::StepTooHigh { steps: made });
     }
+    // The look at the base, which costs nothing, tells that it is a planar partition.
+    let _ = built.base();
     let tree = built.tree();
     let forest = built.forest();
-    let last = built.base().classes().len() as u32 + k;
-    let ids = forest.alive(alloc, k)?;
+    let ids = forest.alive(alloc, k, steps)?;
     Ok(Slice {
         step: k,
-        faces: faces_at(alloc, tree, last, k)?,
+        faces: faces_at(alloc, tree, k)?,
         edges: edges_of(alloc, tree, forest, ids.as_slice(), k)?,
     })
 }

@@ -7,8 +7,9 @@ ghost use Rattle.tgap_model.specs.Slice.{meets_window, slice, window_of};
 ghost use Rattle.face_tree.specs.Tree.{IsFace};
 ghost use Rattle.edge_forest.specs.Edges.{edge_at, is_alive};
 ghost use Rattle.slice_read.specs.declared.fail.ReadFail.TheVariants.{StepTooHigh};
-ghost use Rattle.slice_read.specs.Windows.{AreBeside, all_sides, row_of, sides_of};
+ghost use Rattle.slice_read.specs.Windows.{AreBeside, all_sides, sides_of};
 
+use crate::faces::rows_of;
 use crate::fail::ReadFail;
 use edge_forest::Forest;
 use face_tree::FaceTree;
@@ -109,21 +110,6 @@ fn all_sides(alloc: Global, edges: &[Edge]) -> Result<Vec<u32>, Memory>
         sides.push(edge.right)?;
     }
     Ok(sides)
-}
-
-/// A row for each of these faces.
-fn rows_of(alloc: Global, tree: &FaceTree, faces: &[u32]) -> Result<List<FaceRow>, Memory>
-    requires { All (IsFace tree.now) faces.now }
-    ensures { IfOk result (λ rows. rows ≡ map (row_of tree.now) faces.now) }
-{
-    let mut rows = List::new(alloc);
-    for face in faces {
-        rows.push(FaceRow {
-            face: *face,
-            class: tree.class(*face),
-        })?;
-    }
-    Ok(rows)
 }
 
 /// The faces at the sides of these edges, without the outside, by number, each with its class.

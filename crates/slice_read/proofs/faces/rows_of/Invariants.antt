@@ -1,6 +1,6 @@
 use Rattle.std.proofs.Common.{◌≡◌, map, take}
 use Rattle.slice_read.specs.Windows.{row_of}
-use Rattle.slice_read.proofs.window.rows_of.Given as goal
+use Rattle.slice_read.proofs.faces.rows_of.Given as goal
 
 -- of the faces so far
 abbrev pub invariant-loop-face : goal.invariant-loop-face
