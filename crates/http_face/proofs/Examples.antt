@@ -79,6 +79,17 @@ windows :
 unfolding is_utf8 chars encode digits number_of
 windows = (refl, refl, refl, refl, refl, refl)
 
+topologies : (route_of (codes "GET") (codes "/topo/0") ≡ route.Topo 0)
+    × (route_of (codes "GET") (codes "/topo/4294967295?a") ≡ route.Topo 4294967295)
+    × (route_of (codes "GET") (codes "/topo/4294967296") ≡ route.BadNumber)
+    × (route_of (codes "GET") (codes "/topo/00") ≡ route.BadNumber)
+    × (route_of (codes "POST") (codes "/topo/x") ≡ route.WrongMethod Get)
+    × (route_of (codes "GET") (codes "/topo") ≡ route.NoRoute)
+    × (route_of (codes "GET") (codes "/topo/") ≡ route.NoRoute)
+    × (route_of (codes "GET") (codes "/topo/0/1") ≡ route.NoRoute)
+unfolding is_utf8 chars encode digits number_of
+topologies = (refl, refl, refl, refl, refl, refl, refl, refl)
+
 posts : (route_of (codes "POST") (codes "/pin") ≡ route.Pin)
     × (route_of (codes "POST") (codes "/pin/9") ≡ route.PinSeen 9)
     × (route_of (codes "POST") (codes "/edit") ≡ route.Edit)

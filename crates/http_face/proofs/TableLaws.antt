@@ -35,11 +35,16 @@ window_rows : after (codes "/window/") the_rows
 unfolding the_rows matchit_on_literals
 window_rows = refl
 
+topo_rows : after (codes "/topo/") the_rows ≡ (256 ∷ [], entry (codes "/topo/{step}") resource.Topo) ∷ []
+unfolding the_rows matchit_on_literals
+topo_rows = refl
+
 values : ((entry (codes "/pin/{seen}") resource.PinSeen).value ≡ resource.PinSeen) × ((entry (codes "/slice/{step}") resource.Slice).value ≡ resource.Slice)
     × ((entry (codes "/packet/{from}/{to}") resource.Packet).value ≡ resource.Packet)
     × ((entry (codes "/window/{step}/{x0}/{y0}/{x1}/{y1}") resource.Window).value ≡ resource.Window)
+    × ((entry (codes "/topo/{step}") resource.Topo).value ≡ resource.Topo)
 unfolding matchit_on_literals
-values = (refl, refl, refl, refl)
+values = (refl, refl, refl, refl, refl)
 
 -- ---- the rows of whole paths
 
@@ -75,6 +80,7 @@ row_found resource.PinSeen (p ∷ []) parts some = with_parameters (codes "/pin/
 row_found resource.Slice (p ∷ []) parts some = with_parameters (codes "/slice/") p [] _ slice_rows parts some ∙ ap Some values.1
 row_found resource.Packet (p ∷ q ∷ []) parts some = with_parameters (codes "/packet/") p (q ∷ []) _ packet_rows parts some ∙ ap Some values.2
 row_found resource.Window (s ∷ a ∷ b ∷ c ∷ d ∷ []) parts some = with_parameters (codes "/window/") s (a ∷ b ∷ c ∷ d ∷ []) _ window_rows parts some ∙ ap Some values.3
+row_found resource.Topo (p ∷ []) parts some = with_parameters (codes "/topo/") p [] _ topo_rows parts some ∙ ap Some values.4
 row_found r parameters parts some = absurd (omega (arith, count_is (parameter_count r) parameters some))
 
 -- ---- the row that the table gives

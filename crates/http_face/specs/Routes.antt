@@ -23,6 +23,7 @@ word_of resource.PinSeen = codes "pin"
 word_of resource.Slice = codes "slice"
 word_of resource.Packet = codes "packet"
 word_of resource.Window = codes "window"
+word_of resource.Topo = codes "topo"
 word_of resource.Edit = codes "edit"
 
 -- how many parameters follow, each after a slash
@@ -33,6 +34,7 @@ parameter_count resource.PinSeen = 1
 parameter_count resource.Slice = 1
 parameter_count resource.Packet = 2
 parameter_count resource.Window = 5
+parameter_count resource.Topo = 1
 parameter_count resource.Edit = 0
 
 -- the method that it takes
@@ -43,11 +45,12 @@ method_of resource.PinSeen = Post
 method_of resource.Slice = Get
 method_of resource.Packet = Get
 method_of resource.Window = Get
+method_of resource.Topo = Get
 method_of resource.Edit = Post
 
 -- the rows of the table
 abbrev pub resources : List Resource
-resources = resource.Info ∷ resource.Pin ∷ resource.PinSeen ∷ resource.Slice ∷ resource.Packet ∷ resource.Window ∷ resource.Edit ∷ []
+resources = resource.Info ∷ resource.Pin ∷ resource.PinSeen ∷ resource.Slice ∷ resource.Packet ∷ resource.Window ∷ resource.Topo ∷ resource.Edit ∷ []
 
 -- how a method is written
 abbrev pub method_word : Allow → List ℕ
@@ -112,6 +115,9 @@ read_parameters resource.Window parameters = do
   x1 ← coordinate_at y0.1
   y1 ← coordinate_at x1.1
   ordered_window step.0 (record { x0 = x0.0; y0 = y0.0; x1 = x1.0; y1 = y1.0 })
+read_parameters resource.Topo parameters = do
+  step ← count_at parameters
+  Some (route.Topo step.0)
 read_parameters resource.Edit parameters = Some route.Edit
 
 -- what a path of this row asks for: another method goes before a number that is out of form

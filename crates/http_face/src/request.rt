@@ -39,6 +39,8 @@ pub enum Route {
     Packet(u32, u32),
     /// What a window shows of the slice at a step.
     Window(u32, Window),
+    /// The slice at a step as a topology.
+    Topo(u32),
     /// A batch of edits.
     Edit,
     /// A parameter is no number in its range, or the ends of the window are out of order.
@@ -58,6 +60,7 @@ pub(crate) enum Resource {
     Slice,
     Packet,
     Window,
+    Topo,
     Edit,
 }
 
@@ -72,6 +75,7 @@ impl Resource {
             Resource::Slice => "slice",
             Resource::Packet => "packet",
             Resource::Window => "window",
+            Resource::Topo => "topo",
             Resource::Edit => "edit",
         }
     }
@@ -82,7 +86,7 @@ impl Resource {
     {
         match self {
             Resource::Info | Resource::Pin | Resource::Edit => 0,
-            Resource::PinSeen | Resource::Slice => 1,
+            Resource::PinSeen | Resource::Slice | Resource::Topo => 1,
             Resource::Packet => 2,
             Resource::Window => 5,
         }
@@ -93,7 +97,11 @@ impl Resource {
         ensures { result ≡ method_of self }
     {
         match self {
-            Resource::Info | Resource::Slice | Resource::Packet | Resource::Window => Allow::Get,
+            Resource::Info
+            | Resource::Slice
+            | Resource::Packet
+            | Resource::Window
+            | Resource::Topo => Allow::Get,
             Resource::Pin | Resource::PinSeen | Resource::Edit => Allow::Post,
         }
     }

@@ -110,6 +110,7 @@ fn read_parameters(resource: Resource, mut parameters: Pieces) -> Option<Route>
             Some(Route::Packet(from, count_at(&mut parameters)?))
         }
         Resource::Window => read_window(parameters),
+        Resource::Topo => Some(Route::Topo(count_at(&mut parameters)?)),
         Resource::Edit => Some(Route::Edit),
     }
 }

@@ -51,6 +51,7 @@ fn filled(alloc: Global) -> Result<Router<Resource>, Memory>
         "/window/{step}/{x0}/{y0}/{x1}/{y1}",
         Resource::Window,
     )?;
+    put_in(&mut router, "/topo/{step}", Resource::Topo)?;
     put_in(&mut router, "/edit", Resource::Edit)?;
     Ok(router)
 }

@@ -19,3 +19,29 @@ fn paths(rt: HostRuntime) -> Result<(), Fail> {
     assert_eq!(rt; route(&routes, b"POST", b"/pin/9?"), Route::PinSeen(9));
     Ok(())
 }
+
+/// The route of a topology, and what is none.
+#[test]
+fn topologies(rt: HostRuntime) -> Result<(), Fail> {
+    let Ok(routes) = routes(rt.alloc()) else {
+        assert!(rt; false);
+        return Ok(());
+    };
+    assert_eq!(rt; route(&routes, b"GET", b"/topo/0"), Route::Topo(0));
+    assert_eq!(rt;
+        route(&routes, b"GET", b"/topo/4294967295"),
+        Route::Topo(4294967295)
+    );
+    assert_eq!(rt;
+        route(&routes, b"GET", b"/topo/4294967296"),
+        Route::BadNumber
+    );
+    assert_eq!(rt; route(&routes, b"GET", b"/topo/-1"), Route::BadNumber);
+    assert_eq!(rt;
+        route(&routes, b"POST", b"/topo/-1"),
+        Route::WrongMethod(Allow::Get)
+    );
+    assert_eq!(rt; route(&routes, b"GET", b"/topo/0/1"), Route::NoRoute);
+    assert_eq!(rt; route(&routes, b"GET", b"/topology/0"), Route::NoRoute);
+    Ok(())
+}

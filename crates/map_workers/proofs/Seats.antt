@@ -21,6 +21,7 @@ use Rattle.session.specs.Versions.{Seen, seen_of, Extends, Continues}
 use Rattle.session.specs.Progress.{items_of, published_count, tells_behind}
 use Rattle.session.specs.Conversation.{Conversation, EndsBy, IsConnection}
 use Rattle.session.proofs.Progressing.{continues_more}
+use Rattle.session.proofs.Stores.{extended}
 use Rattle.session.proofs.Talks.{outcomes_longer, replies_longer, known_is_there}
 use Rattle.workers.specs.Each.{EachBecame}
 use Rattle.workers.specs.Served.{Talk, Visit, handed_back, talk_of, ServesDoor}
@@ -237,10 +238,6 @@ connections_right link (Some all) told' before now history none s e =
           s.right.each);
     })
 
-maps_extended : (front list : List Version) → IsPrefix front list → Extends (map (λ v. v.built) front) (map (λ v. v.built) list)
-maps_extended front list p =
-    (map (λ v. v.built) p.0, ap (map (λ (v : Version). v.built)) p.1 ∙ map-append (λ (v : Version). v.built) front p.0)
-
 -- Of a new door and a seat that had seen all: where the seat's list begins the list that a press has now, the connections of the door are
 -- right over that one, and it begins with the list from before.
 pub door_right : {L N P : Type 0} {held : Held.Ghosts Version} {named : Named.Ghosts N} (link : OfLink.Ghosts L) (told told' : Option (Connections L))
@@ -249,7 +246,7 @@ pub door_right : {L N P : Type 0} {held : Held.Ghosts Version} {named : Named.Gh
     → Extends (press_maps press) (press_maps press')
     × ServedRight link (press_limit press) (press_maps press') (newest_of (press_maps press)) told'
 door_right link told told' before now press press' none sees s front =
-    let later = maps_extended (seat_versions now) (press_versions press') front in (
+    let later = extended (seat_versions now) (press_versions press') front in (
       subst (λ versions. Extends (map (λ (v : Version). v.built) versions) (press_maps press')) sees.0
           (extends_both (seen_of before).history (seen_of now).history (press_maps press') s.right.continues.history later),
       subst (λ l. ServedRight link l (press_maps press') (newest_of (press_maps press)) told') sees.1

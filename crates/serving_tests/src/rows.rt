@@ -6,6 +6,10 @@ use std::alloc::Global;
 use std::test::Fail;
 use tgap_model::{List, Memory};
 
+/// The two squares as a topology.
+const TOPOLOGY: &str =
+    "{\"arcs\":[[[10,10],[-10,0],[0,-10],[10,0]],[[10,0],[10,0],[0,10],[-10,0]],[[10,0],[0,10]]],\"objects\":{\"map\":{\"geometries\":[{\"arcs\":[[0,2]],\"properties\":{\"class\":0,\"face\":1},\"type\":\"Polygon\"},{\"arcs\":[[1,-3]],\"properties\":{\"class\":0,\"face\":2},\"type\":\"Polygon\"}],\"type\":\"GeometryCollection\"}},\"transform\":{\"scale\":[1,1],\"translate\":[0,0]},\"type\":\"Topology\"}";
+
 /// So many bytes of a head whose header line has no end.
 fn endless(alloc: Global, length: usize) -> Result<Vec<u8>, Memory> {
     let mut head = Vec::from_slice(alloc, b"GET /info HTTP/1.1\r\nA: ")?;
@@ -28,12 +32,16 @@ fn request(alloc: Global, line: &str) -> Result<String, Memory> {
     Ok(format!(in alloc; "{line} HTTP/1.1\r\nHost: t\r\n\r\n")?)
 }
 
-/// Five requests, and the reply to each.
-fn five(alloc: Global) -> Result<[(String, String); 5], Memory> {
+/// Six requests, and the reply to each.
+fn six(alloc: Global) -> Result<[(String, String); 6], Memory> {
     Ok([
         (
             request(alloc, "GET /info")?,
             reply(alloc, "200 OK", 0, INFO_TEXT)?,
+        ),
+        (
+            request(alloc, "GET /topo/0")?,
+            reply(alloc, "200 OK", 0, TOPOLOGY)?,
         ),
         (
             request(alloc, "GET /slice/2")?,
@@ -55,10 +63,10 @@ fn five(alloc: Global) -> Result<[(String, String); 5], Memory> {
 }
 
 /// All requests in a row, and all replies.
-fn rows_of(alloc: Global, five: &[(String, String); 5]) -> Result<(String, String), Memory> {
+fn rows_of(alloc: Global, six: &[(String, String); 6]) -> Result<(String, String), Memory> {
     let mut sent = String::new(alloc);
     let mut wanted = String::new(alloc);
-    for (request, reply) in five {
+    for (request, reply) in six {
         sent.push_str(request)?;
         wanted.push_str(reply)?;
     }
@@ -68,7 +76,7 @@ fn rows_of(alloc: Global, five: &[(String, String); 5]) -> Result<(String, Strin
 #[test]
 fn each_byte_apart(rt: HostRuntime) -> Result<(), Fail> {
     let alloc = rt.alloc();
-    let (sent, wanted) = rows_of(alloc, &five(alloc)?)?;
+    let (sent, wanted) = rows_of(alloc, &six(alloc)?)?;
     let wrong =
         "HTTP/1.1 405 Method Not Allowed\r\nContent-Type: text/plain\r\nTgap-Version: 0\r\nAllow: GET\r\nContent-Length: 13\r\n\r\nwrong method\n";
     let bad = last_reply(alloc, "400 Bad Request", "bad request\n")?;
@@ -123,12 +131,12 @@ fn heads_that_are_too_long(rt: HostRuntime) -> Result<(), Fail> {
 /// The replies to the requests that are whole within so many bytes.
 fn replies_within(
     alloc: Global,
-    five: &[(String, String); 5],
+    six: &[(String, String); 6],
     size: usize,
 ) -> Result<String, Memory> {
     let mut wanted = String::new(alloc);
     let mut end = 0usize;
-    for (request, reply) in five {
+    for (request, reply) in six {
         end = end.saturating_add(request.len());
         if end <= size {
             wanted.push_str(reply)?;
@@ -140,8 +148,8 @@ fn replies_within(
 #[test]
 fn each_take_that_fails(rt: HostRuntime) -> Result<(), Fail> {
     let alloc = rt.alloc();
-    let five = five(alloc)?;
-    let (sent, wanted) = rows_of(alloc, &five)?;
+    let six = six(alloc)?;
+    let (sent, wanted) = rows_of(alloc, &six)?;
     let step = INFO.len();
     // The last take finds the end of the input, and no other one follows.
     let takes = sent.len().div_ceil(step).saturating_add(1);
@@ -149,7 +157,7 @@ fn each_take_that_fails(rt: HostRuntime) -> Result<(), Fail> {
         let mut failing = none(alloc);
         failing.takes.push(n as u64)?;
         let found = exchange(&rt, alloc, sent.as_bytes(), step, failing)?;
-        let told = replies_within(alloc, &five, n.saturating_mul(step))?;
+        let told = replies_within(alloc, &six, n.saturating_mul(step))?;
         let (wanted, how) = if n < takes {
             (told.as_bytes(), EndKind::ReadFault)
         } else {
@@ -163,13 +171,13 @@ fn each_take_that_fails(rt: HostRuntime) -> Result<(), Fail> {
 #[test]
 fn each_put_that_fails(rt: HostRuntime) -> Result<(), Fail> {
     let alloc = rt.alloc();
-    let (sent, wanted) = rows_of(alloc, &five(alloc)?)?;
+    let (sent, wanted) = rows_of(alloc, &six(alloc)?)?;
     // Each reply is one put.
-    for n in 0..6u64 {
+    for n in 0..7u64 {
         let mut failing = none(alloc);
         failing.puts.push(n)?;
         let (put, how) = exchange(&rt, alloc, sent.as_bytes(), 1000, failing)?;
-        if n < 5 {
+        if n < 6 {
             assert_eq!(rt; how, EndKind::WriteFault);
             assert!(rt; wanted.as_bytes().starts_with(put.as_slice()));
             assert!(rt; put.len() < wanted.len());

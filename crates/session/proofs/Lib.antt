@@ -11,3 +11,4 @@ pub mod Served
 pub mod Last
 pub mod Connections
 pub mod Stores
+pub mod Topologies

@@ -12,7 +12,8 @@ use Rattle.tgap_model.specs.Merged.{merged}
 use Rattle.tgap_model.specs.Records.{packet_of}
 use Rattle.wire_text.specs.SliceTexts.{packet_text}
 use Rattle.line_forms.specs.Texts.{step_too_high_text}
-use Rattle.session.specs.Answers.{plain, said, not_coarser_words, at_step, packet_answer}
+use Rattle.session.specs.declared.answer.Answer.{Answer}
+use Rattle.session.specs.Answers.{plain, said, not_coarser_words, in_history, at_step, packet_answer}
 
 nat_lt_no : (n k : ℕ) → k ≤ n → nat_lt n k ≡ false
 nat_lt_no n k h = grind (arith, nat_tests)
@@ -20,16 +21,25 @@ nat_lt_no n k h = grind (arith, nat_tests)
 nat_lt_yes : (n k : ℕ) → n < k → nat_lt n k ≡ true
 nat_lt_yes n k h = grind (arith, nat_tests)
 
+-- the answer at a step that the history has
+pub in_history_there : (m : BaseMap) (k : ℕ) (answer : Answer) → k ≤ length (history_of m) → in_history m k answer ≡ answer
+in_history_there m k answer h =
+    ap (λ b. if b then plain 400 (step_too_high_text (length (history_of m))) else answer) (nat_lt_no (length (history_of m)) k h)
+
+-- and at one that it has not
+pub in_history_above : (m : BaseMap) (k : ℕ) (answer : Answer) → length (history_of m) < k
+    → in_history m k answer ≡ plain 400 (step_too_high_text (length (history_of m)))
+in_history_above m k answer h =
+    ap (λ b. if b then plain 400 (step_too_high_text (length (history_of m))) else answer) (nat_lt_yes (length (history_of m)) k h)
+
 -- the text of a step that the history has
 pub at_step_there : (m : BaseMap) (k : ℕ) (text : List ℕ) → k ≤ length (history_of m) → at_step m k text ≡ plain 200 text
-at_step_there m k text h =
-    ap (λ b. if b then plain 400 (step_too_high_text (length (history_of m))) else plain 200 text) (nat_lt_no (length (history_of m)) k h)
+at_step_there m k text h = in_history_there m k (plain 200 text) h
 
 -- the text of one that it has not
 pub at_step_above : (m : BaseMap) (k : ℕ) (text : List ℕ) → length (history_of m) < k
     → at_step m k text ≡ plain 400 (step_too_high_text (length (history_of m)))
-at_step_above m k text h =
-    ap (λ b. if b then plain 400 (step_too_high_text (length (history_of m))) else plain 200 text) (nat_lt_yes (length (history_of m)) k h)
+at_step_above m k text h = in_history_above m k (plain 200 text) h
 
 -- a reader that refuses exactly the steps above the last one, and gave something
 pub gave : {A : Type 0} (r : Result A ReadFail) (x : A) (n k : ℕ) → r ≡ Ok x

@@ -13,7 +13,7 @@ use Rattle.version_store.proofs.Prefixes.{get_last}
 use Rattle.session.specs.Versions.{Continues, Extends, seen_of}
 
 -- the maps of a longer list of versions
-extended : (before now : List Version) → IsPrefix before now → Extends (map (λ (v : Version). v.built) before) (map (λ (v : Version). v.built) now)
+pub extended : (before now : List Version) → IsPrefix before now → Extends (map (λ (v : Version). v.built) before) (map (λ (v : Version). v.built) now)
 extended before now (more, is) =
     (map (λ (v : Version). v.built) more, ap (map (λ (v : Version). v.built)) is ∙ map-append (λ (v : Version). v.built) before more)
 

@@ -1,5 +1,5 @@
 -- What is answered from a version of a map.
-use Rattle.std.specs.Prelude.{◌≡◌, ◌↔◌, IsTrue, IsSome, ℕ, ◌==◌, ◌&&◌, int_le, List, [], ◌∷◌, length, nat_lt, codes, decimal, Option, Some, None, option_map, Ok, Err, if◌then◌else◌}
+use Rattle.std.specs.Prelude.{◌≡◌, ◌↔◌, IsTrue, IsSome, ℕ, ◌==◌, ◌&&◌, int_le, List, [], ◌∷◌, length, nat_lt, codes, decimal, Option, Some, None, option_map, Result, Ok, Err, if◌then◌else◌}
 use Rattle.tgap_model.specs.declared.geometry.Window.{Window}
 use Rattle.tgap_model.specs.Base.{BaseMap, count_points}
 use Rattle.tgap_model.specs.Partition.{map_fault}
@@ -9,6 +9,9 @@ use Rattle.tgap_model.specs.Slice.{slice, window_of}
 use Rattle.tgap_model.specs.Records.{packet_of}
 use Rattle.line_forms.specs.Texts.{line, step_too_high_text, fault_text}
 use Rattle.wire_text.specs.SliceTexts.{slice_text, window_text, packet_text}
+use Rattle.slice_read.specs.Ends.{slice_ends}
+use Rattle.topo_write.specs.declared.flat.FlatRing.{FlatRing}
+use Rattle.topo_write.specs.Topology.{export}
 use Rattle.edit_laws.specs.Edits.{edited}
 use Rattle.http_face.specs.declared.request.Route.{Route}
 use Rattle.http_face.specs.declared.request.Route.TheVariants as route
@@ -43,14 +46,21 @@ numbered phrase number = phrase ∷ decimal number ∷ []
 abbrev pub not_coarser_words : ℕ → ℕ → List (List ℕ)
 not_coarser_words from to = codes "not coarser" ∷ decimal from ∷ decimal to ∷ []
 
+abbrev pub flat_words : FlatRing → List (List ℕ)
+flat_words flat = codes "flat" ∷ decimal flat.face ∷ decimal flat.key ∷ []
+
 abbrev pub edit_fault_words : ℕ × ℕ → List (List ℕ)
 edit_fault_words fault = codes "edit line" ∷ decimal fault.0 ∷ codes "cause" ∷ decimal fault.1 ∷ []
 
 -- ---- what is read from a version
 
--- a text of the slice at a step, or that the history has no such step
+-- an answer at a step, or that the history has no such step
+abbrev pub in_history : BaseMap → ℕ → Answer → Answer
+in_history m step answer = if nat_lt (length (history_of m)) step then plain 400 (step_too_high_text (length (history_of m))) else answer
+
+-- a text of the slice at a step
 abbrev pub at_step : BaseMap → ℕ → List ℕ → Answer
-at_step m step text = if nat_lt (length (history_of m)) step then plain 400 (step_too_high_text (length (history_of m))) else plain 200 text
+at_step m step text = in_history m step (plain 200 text)
 
 -- the packet between two steps, where it leads to no coarser slice
 abbrev pub packet_answer : BaseMap → ℕ → ℕ → Answer
@@ -64,12 +74,22 @@ window_answer m step area =
     if int_le area.x0 area.x1 && int_le area.y0 area.y1 then at_step m step (window_text area (window_of area (slice m step)))
     else said 400 (codes "bad number" ∷ [])
 
+-- a topology, or the face that is no polygon with the key of its ring
+abbrev pub exported : Result (List ℕ) FlatRing → Answer
+exported (Ok text) = plain 200 text
+exported (Err flat) = said 422 (flat_words flat)
+
+-- the slice at a step as a topology
+abbrev pub topology_answer : BaseMap → ℕ → Answer
+topology_answer m step = in_history m step (exported (export (slice m step) (slice_ends m step) m.transform))
+
 -- the answer to what only reads the version of this number; the others have none
 abbrev pub route_answer : ℕ → BaseMap → Route → Option Answer
 route_answer number m route.Info = Some (said 200 (info_words number m))
 route_answer number m (route.Slice step) = Some (at_step m step (slice_text (slice m step)))
 route_answer number m (route.Packet from to) = Some (packet_answer m from to)
 route_answer number m (route.Window step area) = Some (window_answer m step area)
+route_answer number m (route.Topo step) = Some (topology_answer m step)
 route_answer number m route.BadNumber = Some (said 400 (codes "bad number" ∷ []))
 route_answer number m (route.WrongMethod allow) =
     Some (record { status = 405; allow = Some allow; body = line (codes "wrong method" ∷ []) })

@@ -11,6 +11,7 @@ mod room;
 mod row;
 mod serve;
 mod store;
+mod topology;
 mod turn;
 mod versions;
 

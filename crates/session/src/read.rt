@@ -1,9 +1,11 @@
 //! What is read from a version.
 
-ghost use Rattle.std.specs.Prelude.{◌≡◌, ◌≤◌, ◌≤ℤ◌, ◌++◌, ◌∷◌, [], Some, IfOk, OnOk, decimal, codes, length};
+ghost use Rattle.std.specs.Prelude.{◌≡◌, ◌<◌, ◌≤◌, ◌≤ℤ◌, ◌↔◌, ◌++◌, ◌∷◌, ℕ, [], Some, Err, IfOk, OnOk, decimal, codes, length};
 ghost use Rattle.tgap_model.specs.Base.{count_points};
 ghost use Rattle.line_forms.specs.Texts.{line};
+ghost use Rattle.tgap_model.specs.History.{history_of};
 ghost use Rattle.tgap_model.specs.Slice.{slice, window_of};
+ghost use Rattle.slice_read.specs.declared.fail.ReadFail.TheVariants.{StepTooHigh};
 ghost use Rattle.tgap_model.specs.Merged.{merged};
 ghost use Rattle.tgap_model.specs.Records.{packet_of};
 ghost use Rattle.wire_text.specs.SliceTexts.{slice_text, window_text, packet_text};
@@ -13,13 +15,16 @@ ghost use Rattle.session.specs.Answers.{IsAnswer, info_words, not_coarser_words,
 ghost use Rattle.session.specs.Turns.{Reads};
 
 use crate::answer::{Answer, line, plain};
+use crate::topology::topology_answer;
 use http_face::{Allow, Route};
 use plain_io::{put_count, put_field, put_size};
 use refine_packets::{PacketFail, packet};
 use slice_read::{ReadFail, slice_at, window_at};
 use std::alloc::Global;
+use std::marker::Brand;
+use std::sync::ledger::{Blank, Ledger};
 use tgap_build::Built;
-use tgap_model::{Base, BaseArc, MAX_POINTS, Memory, Text, Window};
+use tgap_model::{Base, BaseArc, MAX_POINTS, Memory, Slice, Steps, Text, Window};
 use wire_text::{packet_text, slice_text, step_too_high_text, window_text};
 
 /// How many points all arcs have.
@@ -72,12 +77,29 @@ fn not_coarser_line(alloc: Global, from: u32, to: u32) -> Result<Text, Memory>
     Ok(text)
 }
 
+/// The slice after so many steps. Nobody counts the looks that it takes.
+pub(crate) fn slice_after<L: Ledger>(
+    alloc: Global,
+    built: &Built,
+    step: u32,
+    blank: Blank,
+) -> Result<Slice, ReadFail>
+    requires name { blank.name ≡ L.name }
+    requires parts { blank.parts ≡ L.parts }
+    requires some { 0 < blank.parts }
+    ensures exact { IfOk result (λ s. s ≡ slice built.now step) }
+    ensures high { (steps : ℕ) → (result ≡ Err (StepTooHigh steps)) ↔ ((length (history_of built.now) < step) × (steps ≡ length (history_of built.now))) }
+{
+    let mut looks = Steps::<L>::new(blank);
+    slice_at(alloc, built, step, &mut looks)
+}
+
 /// The answer for a slice.
 fn slice_answer(alloc: Global, built: &Built, step: u32) -> Result<Answer, Memory>
     ensures exact { IfOk result (λ a. a ≡ at_step built.now step (slice_text (slice built.now step))) }
     ensures sendable { IfOk result IsAnswer }
 {
-    match slice_at(alloc, built, step) {
+    match slice_after::<Brand>(alloc, built, step, Blank::new(1)) {
         Ok(slice) => Ok(plain(200, slice_text(alloc, &slice)?)),
         Err(ReadFail::StepTooHigh { steps }) => {
             Ok(plain(400, step_too_high_text(alloc, steps)?))
@@ -150,6 +172,7 @@ pub(crate) fn route_answer(
         Route::Slice(step) => slice_answer(alloc, built, step),
         Route::Packet(from, to) => packet_answer(alloc, built, from, to),
         Route::Window(step, area) => window_answer(alloc, built, step, area),
+        Route::Topo(step) => topology_answer(alloc, built, step),
         Route::BadNumber => Ok(plain(400, line(alloc, b"bad number")?)),
         Route::WrongMethod(allow) => Ok(Answer {
             status: 405,

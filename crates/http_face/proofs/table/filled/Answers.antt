@@ -7,6 +7,7 @@ pub returns : goal.returns
 unfolding matchit_on_literals the_rows
 returns c =
     rw (
+      c.in_ok-put_in-8.ensures,
       c.in_ok-put_in-7.ensures,
       c.in_ok-put_in-6.ensures,
       c.in_ok-put_in-5.ensures,
@@ -44,3 +45,7 @@ put_in-requires-6 c = rw (c.in_ok-put_in-5.ensures, c.in_ok-put_in-4.ensures, c.
 pub put_in-requires-7 : goal.put_in-requires-7
 unfolding matchit_on_literals
 put_in-requires-7 c = rw (c.in_ok-put_in-6.ensures, c.in_ok-put_in-5.ensures, c.in_ok-put_in-4.ensures, c.in_ok-put_in-3.ensures, c.in_ok-put_in-2.ensures, c.in_ok-put_in.ensures, c.new-router.ensures) refl
+
+pub put_in-requires-8 : goal.put_in-requires-8
+unfolding matchit_on_literals
+put_in-requires-8 c = rw (c.in_ok-put_in-7.ensures, c.in_ok-put_in-6.ensures, c.in_ok-put_in-5.ensures, c.in_ok-put_in-4.ensures, c.in_ok-put_in-3.ensures, c.in_ok-put_in-2.ensures, c.in_ok-put_in.ensures, c.new-router.ensures) refl
