@@ -6,3 +6,6 @@ pub mod SliceForm
 pub mod PacketForm
 pub mod Replays
 pub mod Packets
+pub mod PutCounts
+pub mod ReplayRoom
+pub mod GridLine

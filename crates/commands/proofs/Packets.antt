@@ -91,7 +91,7 @@ too_high_is m from to last low above is =
     )
 
 -- the packet begins at the step of the slice
-same_step : (m : BaseMap) (from to : ℕ) (p : Packet) → p ≡ packet_of (merged m) from to → (slice m from).step ≡ p.from
+pub same_step : (m : BaseMap) (from to : ℕ) (p : Packet) → p ≡ packet_of (merged m) from to → (slice m from).step ≡ p.from
 unfolding slice packet_of
 same_step m from to p is = ap (λ (q : Packet). q.from) (sym is)
 

@@ -83,7 +83,7 @@ one_breaks s (r ∷ records) t u e = by (broken_rule s r) refl e (one_breaks (un
         }
 
 -- records that fit one after the other are all undone
-all_undone : (s : Slice) (records : List StepRecord) → each_fits s records ≡ true → undone s records ≡ (fold undo s records, None)
+pub all_undone : (s : Slice) (records : List StepRecord) → each_fits s records ≡ true → undone s records ≡ (fold undo s records, None)
 all_undone s [] e = refl
 all_undone s (r ∷ records) e =
     let parts = and_parts (is_none (broken_rule s r)) (each_fits (undo s r) records) e in

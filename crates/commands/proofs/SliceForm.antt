@@ -29,12 +29,12 @@ use Rattle.map_laws.proofs.ChainsExist.{chains_exist}
 use Rattle.map_laws.proofs.Lists.{all_members, members_all, all_from, kept_among, map_among, among_map, among_range}
 use Rattle.map_laws.proofs.MergeSteps.{label_bounded}
 use Rattle.face_merge.proofs.Start.{history_numbered}
+use Rattle.face_merge.proofs.Steps.{length-history_of}
 use Rattle.record_laws.proofs.MapFacts.{based}
 use Rattle.grid_index.specs.Live.{IsLiveEdge}
 use Rattle.step_laws.proofs.EachSlice.{each_good}
 use Rattle.tgap_build.proofs.Alive.{key_within}
 use Rattle.tgap_build.proofs.EachLive.{after_live}
-use Rattle.slice_read.proofs.Slices.{few_faces}
 use Rattle.client_replay.proofs.Form.{slice_from}
 
 -- ---- lists
@@ -92,7 +92,9 @@ module _ (m : BaseMap) (base : is_base m ≡ true) (planar : IsPartition (base_s
   h = merged m
 
   pub room : length m.classes + k + 1 < 2 ^ 32
-  room = few_faces m base (length m.classes) k refl within
+  room =
+      let facts = base_facts m base in
+      omega (arith, facts.few_faces, facts.few_arcs, length-history_of m, within)
 
   -- the faces at the sides of an arc, base faces, have labels that are numbers
   pub left_small : (i : ℕ) → label_at (merged m) k (arc_number m.arcs i).left < 2 ^ 32

@@ -8,6 +8,7 @@ pub mod Check
 pub mod Slice
 pub mod Replay
 pub mod Packet
+pub mod Grid
 pub mod Commands
 pub mod Answers
 pub mod Border

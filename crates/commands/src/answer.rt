@@ -7,7 +7,7 @@ ghost use Rattle.commands.specs.Answers.{Answers, Failed, KeepCounts, files_for,
 
 use crate::command::{Command, parse_command};
 use crate::outcome::Outcome;
-use crate::{borders, check, packet, replay, slice};
+use crate::{borders, check, grid, packet, replay, slice};
 use plain_io::Files;
 use std::alloc::Global;
 use std::thread::Threads;
@@ -50,5 +50,6 @@ fn answer<R: Threads + Sync, F: Files>(
         Some(Command::Slice { map, step }) => slice::answer(rt, alloc, map, step, files),
         Some(Command::Packet { map, from, to }) => packet::answer(rt, alloc, map, from, to, files),
         Some(Command::Replay { slice, packet }) => replay::answer(alloc, slice, packet, files),
+        Some(Command::Grid { size }) => grid::answer(rt, alloc, size),
     }
 }

@@ -5,7 +5,8 @@ ghost use Rattle.commands.specs.Command.{source_named};
 ghost use Rattle.commands.specs.Commands.{command};
 ghost use Rattle.commands.specs.Asked.{asked, source_of};
 
-use crate::{borders, check, packet, replay, slice};
+use crate::grid_size::GridSize;
+use crate::{borders, check, grid, packet, replay, slice};
 
 /// Where a map is read from.
 #[derive(Clone, Copy, Drop)]
@@ -48,6 +49,8 @@ pub enum Command<'a> {
     Packet { map: Source<'a>, from: u32, to: u32 },
     /// The slice that the packet in the one file leads to from the slice in the other.
     Replay { slice: &'a str, packet: &'a str },
+    /// What the generated map of this size comes to.
+    Grid { size: GridSize },
 }
 
 /// The command that the words are, or None where they are none.
@@ -69,6 +72,8 @@ pub fn parse_command(words: &[String]) -> Option<Command<'_>>
         packet::parse(words)
     } else if name == "replay" {
         replay::parse(words)
+    } else if name == "grid" {
+        grid::parse(words)
     } else {
         None
     }

@@ -7,6 +7,8 @@ mod border_rows;
 mod borders;
 mod check;
 mod command;
+mod grid;
+mod grid_size;
 mod load;
 mod outcome;
 mod packet;

@@ -1,6 +1,6 @@
 //! The command that tells the slice of a map after a step of its history.
 
-ghost use Rattle.std.specs.Prelude.{◌≡◌, string_bytes, map};
+ghost use Rattle.std.specs.Prelude.{◌≡◌, ◌<◌, string_bytes, map};
 ghost use Rattle.commands.specs.declared.outcome.Outcome.TheVariants as outcome;
 ghost use Rattle.commands.specs.Command as spec;
 ghost use Rattle.commands.specs.MapFile.{files_of_map};
@@ -15,9 +15,11 @@ use base_check::check;
 use plain_io::{Files, read_number};
 use slice_read::slice_at;
 use std::alloc::Global;
+use std::marker::Brand;
+use std::sync::ledger::{Blank, Ledger};
 use std::thread::Threads;
 use tgap_build::build;
-use tgap_model::{Base, Checked, Text};
+use tgap_model::{Base, Checked, Steps, Text};
 use wire_text::slice_text;
 
 /// The command of these words after its name.
@@ -62,19 +64,25 @@ fn slice_of_base<R: Threads + Sync>(
     ensures { IsEither (SaysSlice step base) (slice_outcome step base) (outcome_from result) }
 {
     let checked = check(rt, alloc, base)?;
-    slice_of(rt, alloc, checked, step)
+    slice_of::<R, Brand>(rt, alloc, checked, step, Blank::new(1))
 }
 
-/// The slice text of a planar partition after this step; or the step is above the last one.
-fn slice_of<R: Threads + Sync>(
+/// The slice text of a planar partition after this step; or the step is above the last one. Nobody counts the looks that it
+/// takes.
+fn slice_of<R: Threads + Sync, L: Ledger>(
     rt: &R,
     alloc: Global,
     checked: Checked,
     step: u32,
+    blank: Blank,
 ) -> Result<Text, Outcome>
+    requires name { blank.name ≡ L.name }
+    requires parts { blank.parts ≡ L.parts }
+    requires some { 0 < blank.parts }
     ensures { IsEither (SaysSliceOf step checked) (slice_of_outcome step checked) (outcome_from result) }
 {
     let built = build(rt, alloc, checked)?;
-    let slice = slice_at(alloc, &built, step)?;
+    let mut steps = Steps::<L>::new(blank);
+    let slice = slice_at(alloc, &built, step, &mut steps)?;
     Ok(slice_text(alloc, &slice)?)
 }

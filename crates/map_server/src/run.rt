@@ -27,7 +27,7 @@ use std::thread::Threads;
 ///
 /// | Status | Comes where | Text |
 /// |---|---|---|
-/// | 0 | the command was done | the borders text or the slice text of the step, the packet text of the two steps, the text of the slice that a replay reaches, or `ok` with the numbers of faces, arcs and points; or the map was served until the doors closed: `serving` and the port |
+/// | 0 | the command was done | the borders text or the slice text of the step, the packet text of the two steps, the text of the slice that a replay reaches, `ok` with the numbers of faces, arcs and points, or the line of a generated map; or the map was served until the doors closed: `serving` and the port |
 /// | 2 | the words are no command | the usage line |
 /// | 3 | a file that the command reads could not be loaded; the count of faults of its kind rose | `load fault` and the kind |
 /// | 4 | a file is too long, or the map file is the listing of no base map, or the two files are no topology and rules that make one, or the map is no planar partition, which `borders` does not ask | the first fault |
@@ -61,7 +61,8 @@ where
     // where base faces of theirs are. For a packet: what is put is the text of the packet by the definition, each of whose records
     // fits the slice that those before it leave, and which leads from the slice at the one step to the slice at the other. For a
     // replay: the files are the texts of a slice and of a packet whose records fit, and what is put is the text of the slice that
-    // is reached.
+    // is reached. For a generated map, which is a planar partition: what is put counts the map, the steps of its history and the
+    // vertices that they remove, its last slice, and the slice to which the packet of all steps leads from there.
     ensures done { serve_words (map string_bytes words.now) ≡ None → result ≡ 0
         → PutsAnswer (map string_bytes words.now) (F.told files.old) (K.told out.old) (K.told out.new) outcome.Done }
     ensures usage { result ≡ 2 → (command (map string_bytes words.now) ≡ None) × (serve_words (map string_bytes words.now) ≡ None) }
