@@ -147,12 +147,134 @@ def hub(reach):
     return count + 1, 3 * count, 6 * count, arcs()
 
 
+def square(x, y, side):
+    """The closed row of points round a square, counter-clockwise, by its corner with the least coordinates."""
+    return [(x, y), (x + side, y), (x + side, y + side), (x, y + side), (x, y)]
+
+
+def islands(side):
+    """Square islands in rows, and the last face, in which they all lie: each of them has that neighbour alone."""
+    count = side * side
+
+    def arcs():
+        for place in range(count):
+            yield place + 1, count + 1, square(2 * (place % side) + 1, 2 * (place // side) + 1, 1)
+        yield count + 1, 0, square(0, 0, 2 * side + 1)
+
+    return count + 1, count + 1, 5 * (count + 1), arcs()
+
+
+def nested_rings(count):
+    """Square rings, each inside the next one, and a square in the innermost one."""
+
+    def arcs():
+        for place in range(count):
+            yield place + 1, place + 2 if place < count - 1 else 0, square(-place - 1, -place - 1, 2 * place + 2)
+
+    return count, count, 5 * count, arcs()
+
+
+def along(cells, bent, both):
+    """The arcs of cells in a row above a long face, the last one, which is as wide as all of them; with `both` there is a row
+    below it too. Each cell is wide, so that it goes to the long face; where it is bent, its side there has a bend that a larger
+    face does not need."""
+    rows = [(0, 20)] + ([(cells, -30)] if both else [])
+    end, face = 16 * cells, len(rows) * cells + 1
+
+    def arc(left, right, points, turned):
+        return (right, left, points) if turned else (left, right, points)
+
+    for first, far in rows:
+        below = far < 0
+        near = -10 if below else 10
+        for place in range(cells):
+            x = 16 * place
+            bend = [(x + 8, near + (-1 if below else 1))] if bent else []
+            yield arc(first + place + 1, face, [(x, near), *bend, (x + 16, near)], below)
+            yield arc(0, first + place + 1, [(x, far), (x + 16, far)], below)
+            if place > 0:
+                yield arc(first + place, first + place + 1, [(x, near), (x, far)], below)
+        yield arc(0, first + 1, [(0, near), (0, far)], below)
+        yield arc(first + cells, 0, [(end, near), (end, far)], below)
+    if both:
+        yield 0, face, [(0, -10), (0, 10)]
+        yield face, 0, [(end, -10), (end, 10)]
+    else:
+        yield face, 0, [(0, 10), (0, 0), (end, 0), (end, 10)]
+
+
+def counted(faces, arcs):
+    """A shape by its faces and its arcs."""
+    arcs = list(arcs)
+    return faces, len(arcs), sum(len(points) for _, _, points in arcs), arcs
+
+
+def row(cells):
+    """A row of cells along one face."""
+    return counted(cells + 1, along(cells, False, False))
+
+
+def bent_row(cells):
+    """The same row, of which each cell has a bend at the face."""
+    return counted(cells + 1, along(cells, True, False))
+
+
+def river(cells):
+    """A long face, and on either side of it a row of parcels."""
+    return counted(2 * cells + 1, along(cells, False, True))
+
+
 # Of the shapes with two classes that never go to each other: the class of a face, counted from 0, and how many faces are
 # left at the last step. Of the others all faces are of one class, and one face is left.
 BARRED = {
     stripes: (lambda side, face: face // side % 2, lambda side: side),
     hub: (lambda reach, face: face // (8 * reach), lambda reach: 2),
 }
+
+
+def sheaf(strips):
+    """Slanting strips side by side, each one closed arc, without a common node. The box of each holds a part of most others."""
+    reach = 4 * strips
+    arcs = [(i + 1, 0, [(4 * i, 0), (4 * i + 2, 0), (4 * i + 2 + reach, reach), (4 * i + reach, reach), (4 * i, 0)]) for i in range(strips)]
+    return strips, strips, 5 * strips, arcs
+
+
+def random_numbers():
+    """Numbers below 2^20, always the same ones."""
+    state = 1
+    while True:
+        state = (6364136223846793005 * state + 1442695040888963407) % 2 ** 64
+        yield state >> 44
+
+
+def crossings(count):
+    """Segments in all directions that cross one another everywhere."""
+    numbers = random_numbers()
+    arcs = [(1, 0, [(next(numbers), next(numbers)), (2 ** 20 + next(numbers), next(numbers))]) for _ in range(count)]
+    return 1, count, 2 * count, arcs
+
+
+def lattice(lines):
+    """Level lines and upright ones, each of which crosses all of the other kind without a node."""
+    level = [(1, 0, [(-1, y), (lines, y)]) for y in range(lines)]
+    upright = [(1, 0, [(x, -1), (x, lines)]) for x in range(lines)]
+    return 1, 2 * lines, 4 * lines, level + upright
+
+
+def crossed_cell(side):
+    """Square cells, and in the last one two arcs that cross."""
+    faces, count, arcs = grid(side)
+    arcs = [(left, right, [(4 * x, 4 * y) for x, y in points]) for left, right, points in arcs]
+    most = max(max(point) for _, _, points in arcs for point in points)
+    for start, end in [((1, 1), (3, 3)), ((1, 3), (3, 1))]:
+        arcs.append((faces, 0, [(most - 4 + x, most - 4 + y) for x, y in (start, end)]))
+    return faces, count + 2, 2 * count + 4, arcs
+
+
+def pencil(count):
+    """Segments through one point that is no node of theirs."""
+    arcs = [(1, 0, [(-x, -count), (x, count)]) for x in range(1, count + 1)]
+    return 1, count, 2 * count, arcs
 
 
 def faces_left(shape, size):
@@ -181,23 +303,47 @@ SHAPES = {
     "long star": (long_star, 0, [64, 128, 256, 512, 1024, 2048, 4096]),
     "stripes": (stripes, 0, [22, 32, 45, 64, 90, 128, 180]),
     "barred hub": (hub, 0, [42, 85, 170, 341, 682, 1365, 2730]),
+    "islands": (islands, 0, [25, 35, 50, 71, 100, 141, 161, 181]),
+    "drawn islands": (islands, 16, [25, 35, 50, 71, 100, 141, 161, 181]),
+    "row": (row, 0, [341, 682, 1363, 2728, 5459, 10920, 21843]),
+    "bent row": (bent_row, 16, [341, 682, 1363, 2728, 5459, 10920, 18700]),
+    "river": (river, 0, [312, 625, 1250, 2500, 5000, 10000]),
+    "nested rings": (nested_rings, 0, [625, 1250, 2500, 5000, 10000, 20000, 26000]),
 }
 
 
+# Maps that are checked alone: whether they are sound, and their sizes.
+CHECKED = {
+    "sheaf": (sheaf, True, [341, 682, 1365, 2730, 5461, 10922]),
+    "crossings": (crossings, False, [1024, 2048, 4096, 8192, 16384, 32768, 65536]),
+    "lattice": (lattice, False, [1024, 2048, 4096, 8192, 16384, 32768]),
+    "crossed cell": (crossed_cell, False, [22, 32, 45, 64, 90, 128, 180]),
+    "pencil": (pencil, False, [1024, 2048, 4096, 8192, 16384, 32768, 65536]),
+}
+
+
+def width_of(ring, arcs):
+    """How far a ring reaches from left to right."""
+    across = [x for index in ring for x, _ in arcs[index if index >= 0 else ~index][2]]
+    return max(across) - min(across)
+
+
 def rings_of(faces, arcs):
-    """The ring of each face: the indexes of its arcs, one after the other, against the clock. No face of these shapes
-    has a hole."""
+    """The rings of each face, the outer one first: of each the indexes of its arcs, one after the other, with the face at their
+    left."""
     starts = [{} for _ in range(faces + 1)]
     for number, (left, right, points) in enumerate(arcs):
         starts[left][points[0]] = number, points[-1]
         starts[right][points[-1]] = ~number, points[0]
     for face in range(1, faces + 1):
-        first = point = next(iter(starts[face]))
-        ring = []
-        while not ring or point != first:
-            index, point = starts[face][point]
-            ring.append(index)
-        yield ring
+        rings = []
+        while starts[face]:
+            first = point = next(iter(starts[face]))
+            rings.append([])
+            while not rings[-1] or point != first:
+                index, point = starts[face].pop(point)
+                rings[-1].append(index)
+        yield sorted(rings, key=lambda ring: -width_of(ring, arcs))
 
 
 def steps_of(points):
@@ -210,7 +356,7 @@ def write_topology(path, shape, size, ratio=0):
     faces, _, _, arcs = shape(size)
     arcs = list(arcs)
     compat, kinds = classes_of(shape, size, faces)
-    geometries = [{"type": "Polygon", "arcs": [ring], "properties": {"kind": str(kind)}} for ring, kind in zip(rings_of(faces, arcs), kinds)]
+    geometries = [{"type": "Polygon", "arcs": rings, "properties": {"kind": str(kind)}} for rings, kind in zip(rings_of(faces, arcs), kinds)]
     with open(f"{path}.json", "w", encoding="ascii") as file:
         json.dump({"type": "Topology", "transform": {"scale": [1, 1], "translate": [0, 0]}, "objects": {"cells": {"type": "GeometryCollection", "geometries": geometries}},
                    "arcs": [steps_of(points) for _, _, points in arcs]}, file, separators=(",", ":"))

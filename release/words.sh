@@ -25,6 +25,10 @@ usage: ./tgap COMMAND WORD...
       ./tgap packet examples/two_squares.tgap 1 0 > packet
       ./tgap replay coarse packet
 
+  grid N
+      counts a generated map of N rows, its last slice, and the way back from it
+      ./tgap grid 40
+
   borders MAP STEP
       tells which borders of a listing are left after STEP mergers
       ./tgap borders examples/two_squares.tgap 1
@@ -72,6 +76,7 @@ words_of() {
         slice) echo "MAP STEP [OBJECT RULES]" ;;
         packet) echo "MAP FROM TO [OBJECT RULES]" ;;
         replay) echo "SLICE PACKET" ;;
+        grid) echo "N" ;;
         serve) echo "MAP PORT WORKERS VERSIONS [OBJECT RULES]" ;;
     esac
 }
@@ -86,6 +91,7 @@ wrong_words() {
         [ $# -gt 0 ] || break
         case $name in
             STEP | FROM | TO) least=0 most=4294967295 ;;
+            N) least=1 most=147 ;;
             PORT) least=1 most=65535 ;;
             WORKERS) least=1 most=16 ;;
             VERSIONS) least=1 most=64 ;;

@@ -105,6 +105,11 @@ export class Client {
     return this.#next(async () => readSlice(await this.#read(`slice/${step}`)));
   }
 
+  /** The slice as TopoJSON, for d3 and others that draw from rings: the object `map` has a polygon for each part of a face, with `face` and `class`. */
+  topology(step) {
+    return this.#next(async () => JSON.parse(await this.#read(`topo/${step}`)));
+  }
+
   packet(from, to) {
     return this.#next(async () => readPacket(await this.#read(`packet/${from}/${to}`)));
   }

@@ -119,6 +119,12 @@ SLICE = [
     ("slice nested 9", 4, "refused 17 stack 10 1 1 0\n"),
 ]
 
+# The generated maps. Of one row there is nothing to merge; that of forty rows was counted by an independent program.
+GRID = [
+    ("grid 1", 0, "grid 1 faces 1 arcs 4 points 12 steps 0 removed 0 edges 1 kept 9 replayed 1 9\n"),
+    ("grid 40", 0, "grid 40 faces 1600 arcs 3280 points 9840 steps 1599 removed 3546 edges 1 kept 6 replayed 3276 9836\n"),
+]
+
 # Lines in place of a line of the two squares, and the fault that is told then. Each command tells it.
 BAD_LINES = [
     (1, b"tgap 3", "18 bad-line 1"),
@@ -194,6 +200,7 @@ NO_COMMAND = [(words, 2, USAGE) for words in [
     "", "borders", "check", "borders two_squares", "borders two_squares 1 2", "borders 1 two_squares", "check two_squares 1",
     "check two_squares land rules more", "slice two_squares 0 land", "slice two_squares 0 land rules more", "slice two_squares land rules 0", "borders two_squares 0 land rules",
     "slice", "slice two_squares_ratio_0", "slice two_squares_ratio_0 0 0", "slice two_squares_ratio_0 00", "slice 0 two_squares_ratio_0",
+    "grid", "grid 0", "grid 148", "grid 01", "grid -1", "grid 1 1", "grid two_squares", "Grid 1", ["grid", ""], ["grid", "1 "], ["grid", "1", ""],
     "Borders two_squares 1", "Check two_squares", "Slice two_squares_ratio_0 0", "borders two_squares 01", "borders two_squares -1", "borders two_squares +1",
     "borders two_squares 1.0", "borders two_squares 4294967296", "borders two_squares 99999999999999999999", "two_squares", "help", "--help",
     [""], ["check", "two_squares", ""], ["borders", "two_squares", ""], ["borders", "two_squares", " 1"], ["borders", "two_squares", "1\n"],
@@ -201,4 +208,4 @@ NO_COMMAND = [(words, 2, USAGE) for words in [
     [b"check", b"two_squares\xc3"], ["check", *["two_squares"] * 1000],
 ]]
 
-CASES = [*BORDERS, *CHECK, *SLICE, *ANY_FILE, *NO_COMMAND]
+CASES = [*BORDERS, *CHECK, *SLICE, *GRID, *ANY_FILE, *NO_COMMAND]

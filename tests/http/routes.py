@@ -8,6 +8,12 @@ from model import window_of
 MAP = TOP / "examples/two_squares.tgap"
 INFO = b"version 0 steps 1 faces 2 arcs 3 points 10\n"
 WIDEST = "/window/0/-2147483648/-2147483648/2147483648/2147483648"
+TOPOLOGY = (b'{"arcs":[[[10,10],[-10,0],[0,-10],[10,0]],[[10,0],[10,0],[0,10],[-10,0]],[[10,0],[0,10]]],"objects":{"map":{"geometries":['
+            b'{"arcs":[[0,2]],"properties":{"class":0,"face":1},"type":"Polygon"},{"arcs":[[1,-3]],"properties":{"class":0,"face":2},"type":"Polygon"}],'
+            b'"type":"GeometryCollection"}},"transform":{"scale":[1,1],"translate":[0,0]},"type":"Topology"}')
+ONE_FACE = (b'{"arcs":[[[10,10],[-10,0],[0,-10],[20,0],[0,10],[-10,0]]],"objects":{"map":{"geometries":['
+            b'{"arcs":[[0]],"properties":{"class":0,"face":3},"type":"Polygon"}],"type":"GeometryCollection"}},'
+            b'"transform":{"scale":[1,1],"translate":[0,0]},"type":"Topology"}')
 WINDOW = b"window 0 12 2 30 4\nfaces 1\nface 2 0\nedges 1\nedge 1 2 0 4 10 0 20 0 20 10 10 10\nend\n"
 
 
@@ -16,6 +22,7 @@ def each_route(tests):
     with Server(tests.executable, MAP, 1, 1) as server:
         client = server.client()
         for path, text in [("/info", INFO), ("/slice/0", tests.text("slice", MAP, 0)), ("/slice/1?x=1", tests.text("slice", MAP, 1)),
+                           ("/topo/0", TOPOLOGY), ("/topo/1?x=1", ONE_FACE),
                            ("/packet/1/0", tests.text("packet", MAP, 1, 0)), ("/packet/0/0", b"packet 0 0\nend\n")]:
             tests.same(path, ask(client, "GET", path)[:3], (200, 0, text))
         tests.same("a window", ask(client, "GET", "/window/0/12/2/30/4")[:3], (200, 0, WINDOW))
@@ -27,6 +34,8 @@ def each_route(tests):
             ("GET", "/slice/01", 400, b"bad number\n"), ("GET", "/slice/4294967296", 400, b"bad number\n"),
             ("GET", "/window/0/2/0/1/0", 400, b"bad number\n"), ("GET", "/slice/2", 400, b"step too high 1\n"),
             ("GET", "/window/0/0/0/2147483649/0", 400, b"bad number\n"), ("GET", "/window/0/-2147483649/0/0/0", 400, b"bad number\n"),
+            ("GET", "/topo", 404, b"no route\n"), ("GET", "/topo/0/1", 404, b"no route\n"), ("POST", "/topo/x", 405, b"wrong method\n"),
+            ("GET", "/topo/x", 400, b"bad number\n"), ("GET", "/topo/2", 400, b"step too high 1\n"),
             ("GET", "/packet/0/1", 400, b"not coarser 0 1\n"), ("GET", "/packet/2/0", 400, b"step too high 1\n"),
         ]:
             tests.same(f"{method} {path}", ask(client, method, path)[:3], (status, 0, text))

@@ -1,9 +1,34 @@
 """Tests tools/export: slices of real maps, as GDAL and Shapely read them, and as the program reads them again."""
 import math
+import os
+import pathlib
+import sys
+import time
+
+import lib
 
 # The map that imports.py has made, with the ids of its areas.
 MAPS = [("africa", "areas", 51), ("america", "areas", 13), ("asia", "areas", 47), ("columbus", "areas", 49)]
 PARTS = 4
+# A square with a hole that touches its border at (0,5), so that one ring goes round both, and two holes in it that touch each other at (14,10).
+TOUCHING = """tgap 1
+transform 1 1 0 0
+ratio 0
+classes 1
+class 0 1 1
+faces 4
+face 1 0
+face 2 0
+face 3 0
+face 4 0
+arcs 4
+arc 1 0 6 0 5 0 0 20 0 20 20 0 20 0 5
+arc 2 1 5 0 5 3 3 6 5 3 7 0 5
+arc 3 1 4 14 10 12 10 12 8 14 10
+arc 4 1 4 14 10 16 10 16 12 14 10
+end
+"""
+HOLES = [[(0, 5), (3, 3), (3, 7), (6, 5)], [(12, 8), (12, 10), (14, 10)], [(14, 10), (16, 10), (16, 12)]]
 
 
 def test(tests, examples):
@@ -14,6 +39,8 @@ def test(tests, examples):
             tests.write("slice", tests.program("slice", words[0], step, *words[1:]).stdout)
             one_slice(tests, f"{name} at step {step}", words, ids)
     without_a_map(tests, examples)
+    touching_holes(tests)
+    servers(tests, examples)
     refusals(tests, examples)
 
 
@@ -71,6 +98,54 @@ def without_a_map(tests, examples):
     from osgeo import gdal
     picture = gdal.Open(str(tests.folder / "out.png"))
     tests.same("its size", (picture.RasterXSize, picture.RasterYSize, picture.RasterCount), (100, 50, 3))
+
+
+def touching_holes(tests):
+    """The rings of the program's topology, and those that are put together without a map, give the same areas."""
+    tests.write("touching.tgap", TOUCHING)
+    tests.write("touching", tests.program("slice", "touching.tgap", 0).stdout)
+    for name, words in (("with their map", ["touching.tgap"]), ("without it", [])):
+        tests.done(f"touching holes {name}", tests.tool("export", "touching", *words, "--to", "geojson", "out.geojson"), "4 faces")
+        _, found = features(tests.folder / "out.geojson")
+        tests.same(f"touching holes {name} are valid areas", [(it["face"], it["area"], shape.is_valid) for it, shape in found],
+                   [(1, 384, True), (2, 12, True), (3, 2, True), (4, 2, True)])
+        tests.same(f"each is a ring of its own {name}", sorted(sorted(set(ring.coords)) for ring in found[0][1].interiors), HOLES)
+
+
+def servers(tests, examples):
+    """The server of a tool has a port that is free, or none, and ends with the tool, even where that is killed."""
+    squares = examples / "two_squares.tgap"
+    tests.write("slice", tests.program("slice", squares, 1).stdout)
+    answers = {"a taken port": ("[ -e tried ] || { : >tried; echo port fault; exit 8; }", 0, ""), "no server": ("echo memory; exit 7", 1, "does not serve"),
+               "a server that ends": ("echo serving $3; exit 0", 1, "does not answer")}
+    for name, (serve, status, told) in answers.items():
+        tests.write("program", f'#!/bin/sh\nif [ "$1" = serve ]; then {serve}; fi\nexec "{tests.executable}" "$@"\n')
+        (tests.folder / "program").chmod(0o755)
+        made = tests.command([lib.TOP / "tools/export", "slice", squares, "--to", "geojson", "out.geojson", "--program", "./program"])
+        tests.tell(name, [f"status {made.returncode}: {made.stderr:.300}"] * (made.returncode != status or told not in made.stderr))
+    killed = f"""import os, sys, types
+sys.path.insert(0, {str(lib.TOP / "tools/lib")!r})
+from program import Program
+with Program({tests.executable!r}, types.SimpleNamespace(map={str(squares)!r}, object=None, rules=None)).serving() as server:
+    print(len(server.topology(0).faces), flush=True)
+    os.kill(os.getpid(), 9)"""
+    tests.same("a server answers", tests.command([sys.executable, "-B", "-c", killed]).stdout, "2\n")
+    tests.tell("no server is left", left_running(tests.folder))
+
+
+def left_running(folder):
+    """The processes that work in a folder, once they have had time to end."""
+    until = time.monotonic() + lib.SECONDS
+    while (left := [str(process) for process in pathlib.Path("/proc").glob("[0-9]*") if works_in(process, folder)]) and time.monotonic() < until:
+        time.sleep(0.1)
+    return left
+
+
+def works_in(process, folder):
+    try:
+        return os.path.realpath(process / "cwd") == os.path.realpath(folder)
+    except OSError:
+        return False
 
 
 def refusals(tests, examples):

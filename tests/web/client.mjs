@@ -32,15 +32,34 @@ function truth(slice, x, y) {
   return [...odd].join(" ") || "0";
 }
 
+/** Whether a ring goes round a point an odd number of times. */
+function goesRound(ring, x, y) {
+  return ring.reduce((odd, b, i) => {
+    const a = ring[(i + ring.length - 1) % ring.length];
+    return a[1] > y !== b[1] > y && a[0] + ((y - a[1]) * (b[0] - a[0])) / (b[1] - a[1]) > x ? !odd : odd;
+  }, false);
+}
+
 /** The class whose rings go round a point an odd number of times. */
 function painted(picture, x, y) {
-  const goesRound = (ring) =>
-    ring.reduce((odd, b, i) => {
-      const a = ring[(i + ring.length - 1) % ring.length];
-      return a[1] > y !== b[1] > y && a[0] + ((y - a[1]) * (b[0] - a[0])) / (b[1] - a[1]) > x ? !odd : odd;
-    }, false);
-  const classes = [...picture.fills].filter(([, rings]) => rings.filter(goesRound).length % 2 === 1).map(([ofClass]) => ofClass);
+  const classes = [...picture.fills].filter(([, rings]) => rings.filter((ring) => goesRound(ring, x, y)).length % 2 === 1).map(([ofClass]) => ofClass);
   return classes.join(" ") || "none";
+}
+
+/** The parts of the faces of a topology: the face, its class, and its rings as rows of points. */
+function partsOf(topology) {
+  const lines = topology.arcs.map((arc) => {
+    let [x, y] = [0, 0];
+    return arc.map(([dx, dy]) => [(x += dx), (y += dy)]);
+  });
+  const line = (index) => (index >= 0 ? lines[index] : [...lines[~index]].reverse());
+  return topology.objects.map.geometries.map(({ properties, arcs }) => ({ ...properties, rings: arcs.map((ring) => ring.flatMap((index) => line(index).slice(1))) }));
+}
+
+/** The faces of a topology, with their classes, whose rings go round a point an odd number of times. */
+function ringed(parts, x, y) {
+  const found = parts.filter(({ rings }) => rings.filter((ring) => goesRound(ring, x, y)).length % 2 === 1);
+  return found.map((part) => `${part.face} ${part.class}`).join(", ") || "0 none";
 }
 
 const classOf = (slice, face) => String(slice.faces.get(Number(face)) ?? "none");
@@ -63,6 +82,7 @@ async function findsFaces(name, client, random) {
   for (const step of [0, Math.floor(steps / 2), steps - 2]) {
     const slice = await client.refined(step);
     const picture = pictureOfSlice(slice, 0);
+    const parts = partsOf(await client.topology(step));
     const box = boxOf(slice.edges.values());
     for (let i = 0; i < 30; i++) {
       const [x, y] = [box.x0 + random() * (box.x1 - box.x0), box.y0 + random() * (box.y1 - box.y0)].map(Math.floor);
@@ -73,6 +93,7 @@ async function findsFaces(name, client, random) {
       const [u, v] = between(random, box);
       tally.equal(`${name}: a slice tells the face at (${u}, ${v})`, String(picture.faceAt(u, v)), truth(slice, u, v));
       tally.equal(`${name}: a slice is painted at (${u}, ${v})`, painted(picture, u, v), classOf(slice, truth(slice, u, v)));
+      tally.equal(`${name}: the rings of the topology go round (${u}, ${v})`, ringed(parts, u, v), `${truth(slice, u, v)} ${classOf(slice, truth(slice, u, v))}`);
     }
     // On a border either face will do.
     for (const { points, left, right } of [...slice.edges.values()].slice(0, 10)) {

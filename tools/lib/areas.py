@@ -1,11 +1,24 @@
 """The areas of a slice as polygons, by Shapely."""
-from shapely.geometry import LineString
+from shapely.geometry import LineString, Polygon
+from shapely.geometry.polygon import orient
+from shapely.validation import make_valid
 
-from coverage import cells_between, directed, lefts_of, rings_of
+from coverage import cells_between, directed, polygons_in
 
 
-def face_polygons(slice_):
-    """For each face its polygons, in grid units and oriented; gaps, which belong to no face, are left out."""
+def face_polygons(topology):
+    """For each face of a slice its polygons, in grid units and oriented, from the rings of the slice's topology."""
+    faces = {}
+    for part in topology.faces:
+        shell, *holes = map(topology.line, part.rings)
+        # A ring goes through a node twice where a hole touches it. Such a hole is a ring of its own here.
+        cells = polygons_in(make_valid(Polygon(shell, holes)))
+        faces.setdefault(part.feature.properties["face"], []).extend(map(orient, cells))
+    return faces
+
+
+def assembled_polygons(slice_):
+    """The same from the edges of a slice alone, where there is no map of which a program could give the rings. Gaps, which belong to no face, are left out."""
     lefts, rights = {}, {}
     for _, left, right, points in slice_.edges:
         for start, end in directed(points):

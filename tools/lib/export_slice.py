@@ -8,7 +8,7 @@ from shapely.geometry.polygon import orient
 from shapely.ops import transform
 
 import drawing
-from areas import base_faces, face_polygons
+from areas import assembled_polygons, base_faces, face_polygons
 from command import OUTPUT, Failure, add_map_words, add_program, counted, read_text, words_of, write_text, written
 from coverage import indexed, starts_of
 from program import Program, read_slice
@@ -18,7 +18,8 @@ from topology import coded, read_topology
 
 DESCRIPTION = """Writes a slice, as the commands slice and replay give it, as a file for other tools.
 With its map it has the coordinates, the coordinate system and the names of the classes that the source had, and for each
-face its number, its class, its area and the ids of the areas of which it is made. Without its map it is in grid units.
+face its number, its class, its area and the ids of the areas of which it is made; its rings are those of /topo/STEP of a
+server, which the tool starts for it. Without its map it is in grid units, and the tool puts the rings together itself.
 
   topojson   the same points, for d3 and mapshaper; the program reads it again
   geojson    in longitude and latitude where the coordinate system is known, for MapLibre and tippecanoe
@@ -73,22 +74,22 @@ class Exported:
         self.crs = crs_named(name, "the coordinate system") if name else None
         if chosen.without is not None and chosen.without not in (self.names or []):
             raise Failure(f"the rules have no class {chosen.without!r} to leave out")
-        self.areas = [area for area in self.areas_of(self.sources(chosen, text)) if chosen.without is None or area.kind != chosen.without]
+        sources, polygons = self.told_by_map(chosen, text) if chosen.map else ({face: [] for face in self.slice.faces}, assembled_polygons(self.slice))
+        self.areas = [area for area in self.areas_of(sources, polygons) if chosen.without is None or area.kind != chosen.without]
 
-    def sources(self, chosen, text):
-        """For each face the ids of what it is made of; none are known without a map."""
-        if not chosen.map:
-            return {face: [] for face in self.slice.faces}
-        program = Program(chosen.program, chosen)
-        if program.asked("slice", self.slice.step) != text:
-            raise Failure(f"{chosen.slice} is not the slice of {chosen.map} after {self.slice.step} steps")
-        first = program.slice(0).faces
-        made = base_faces(program.steps(self.slice.step), first)
-        return {face: ids_of(parts, self.topology) for face, parts in made.items()}
+    def told_by_map(self, chosen, text):
+        """For each face the ids of what it is made of, and its polygons."""
+        program, step = Program(chosen.program, chosen), self.slice.step
+        if program.asked("slice", step) != text:
+            raise Failure(f"{chosen.slice} is not the slice of {chosen.map} after {step} steps")
+        made = base_faces(program.steps(step), program.slice(0).faces)
+        with program.serving() as server:
+            polygons = face_polygons(server.topology(step))
+        return {face: ids_of(parts, self.topology) for face, parts in made.items()}, polygons
 
-    def areas_of(self, sources):
+    def areas_of(self, sources, polygons):
         scale = abs(self.topology.scale[0] * self.topology.scale[1]) if self.topology else 1
-        for face, cells in face_polygons(self.slice).items():
+        for face, cells in polygons.items():
             kind = self.slice.faces[face]
             if self.names and kind >= len(self.names):
                 raise Failure(f"face {face} has the class {kind}, which the rules do not have")

@@ -49,9 +49,12 @@ def halving(last, faces):
     return sorted(steps)
 
 
-def moved_share(slice_, unions, total):
+def shapes_of(topology):
+    return {face: unary_union(parts) for face, parts in face_polygons(topology).items()}
+
+
+def moved_share(polygons, unions, total):
     """Which part of the whole lies in a face that is not its own, the outside counted as one."""
-    polygons = {face: unary_union(parts) for face, parts in face_polygons(slice_).items()}
     away = sum(unions[face].difference(polygons[face]).area for face in polygons)
     gained = unary_union(list(polygons.values())).difference(unary_union(list(unions.values()))).area
     return (away + gained) / total
@@ -59,17 +62,17 @@ def moved_share(slice_, unions, total):
 
 def measured(program, steps_asked, label):
     last = program.last_step()
-    first, history = program.slice(0), program.steps(last)
-    base = {face: unary_union(parts) for face, parts in face_polygons(first).items()}
-    total = sum(shape.area for shape in base.values())
-    if not total:
-        raise Failure("the map has no face")
-    shares = {}
-    for step in with_progress(steps_asked or halving(last, len(first.faces)), label, 10):
-        slice_ = program.slice(step)
-        made = base_faces(history[:step], first.faces)
-        unions = {face: unary_union([base[part] for part in parts]) for face, parts in made.items()}
-        shares[step] = (len(slice_.faces), moved_share(slice_, unions, total), slice_.points())
+    history, shares = program.steps(last), {}
+    with program.serving() as server:
+        base = shapes_of(server.topology(0))
+        total = sum(shape.area for shape in base.values())
+        if not total:
+            raise Failure("the map has no face")
+        for step in with_progress(steps_asked or halving(last, len(base)), label, 10):
+            topology = server.topology(step)
+            polygons, made = shapes_of(topology), base_faces(history[:step], base)
+            unions = {face: unary_union([base[part] for part in parts]) for face, parts in made.items()}
+            shares[step] = (len(polygons), moved_share(polygons, unions, total), sum(map(len, topology.arcs)))
     return shares
 
 

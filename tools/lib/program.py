@@ -1,11 +1,21 @@
-"""Asks the program: slices and packets of a map, as texts that are read."""
+"""Asks the program: slices and packets of a map, as texts that are read, and the topologies of slices."""
+import contextlib
+import http.client
+import json
+import random
 import re
+import shutil
 import subprocess
 from dataclasses import dataclass
 
-from command import FILE, STEP, Failure
+from command import FILE, REFUSED, STEP, Failure
+from topology import topology_of
 
 BEYOND = 4_294_967_295
+# Ports that the system gives nobody by itself, and how many of them are tried.
+PORTS, TRIES = range(10_000, 32_768), 20
+# A server is not to outlive its tool, however that ends.
+BOUND = ["setpriv", "--pdeathsig", "KILL"] if shutil.which("setpriv") else []
 
 
 @dataclass
@@ -83,10 +93,12 @@ class Program:
         if words.object and not words.rules:
             raise Failure("a topology wants its OBJECT and its RULES, a listing neither", 2)
 
+    def words(self, command, *numbers):
+        return [self.executable, command, self.map[0], *map(str, numbers), *self.map[1:]]
+
     def run(self, command, *numbers):
-        words = [self.executable, command, self.map[0], *map(str, numbers), *self.map[1:]]
         try:
-            return subprocess.run(words, stdin=subprocess.DEVNULL, capture_output=True, text=True)
+            return subprocess.run(self.words(command, *numbers), stdin=subprocess.DEVNULL, capture_output=True, text=True)
         except OSError as error:
             raise Failure(f"the program {self.executable} cannot be run: {error.strerror}", FILE) from error
 
@@ -113,3 +125,42 @@ class Program:
     def steps(self, last):
         """The steps of the map up to this one, the first one first."""
         return read_steps(self.asked("packet", last, 0))[::-1]
+
+    @contextlib.contextmanager
+    def serving(self):
+        """A server of the map, for as long as the context lasts. It may have one version only, so nobody can edit the map meanwhile."""
+        for port in random.sample(PORTS, TRIES):
+            words = [*BOUND, *self.words("serve", port, 1, 1)]
+            with subprocess.Popen(words, stdin=subprocess.DEVNULL, stdout=subprocess.PIPE, stderr=subprocess.DEVNULL, text=True) as process:
+                try:
+                    said = process.stdout.readline()
+                    if said == f"serving {port}\n":
+                        yield Server(port)
+                        return
+                finally:
+                    process.terminate()
+            if said != "port fault\n":
+                break
+        raise Failure(f"the program does not serve {self.map[0]}: {said.strip() or 'no word'}", 1)
+
+
+class Server:
+    """A map that the program serves on this machine."""
+
+    def __init__(self, port):
+        self.port = port
+
+    def topology(self, step):
+        """The slice after a step as a topology: its arcs are the edges, and its faces the parts of the slice's faces."""
+        try:
+            # A connection of its own for each, since the server ends those on which nothing is asked for a while.
+            with contextlib.closing(http.client.HTTPConnection("127.0.0.1", self.port)) as client:
+                client.request("GET", f"/topo/{step}", headers={"Connection": "close"})
+                answer = client.getresponse()
+                text = answer.read().decode()
+        except (OSError, http.client.HTTPException) as error:
+            raise Failure(f"the program, asked for the topology of slice {step}, does not answer: {error}", 1) from error
+        if answer.status != 200:
+            raise Failure(f"the program, asked for the topology of slice {step}, answers {answer.status} {text.strip()}",
+                          {400: STEP, 422: REFUSED}.get(answer.status, 1))
+        return topology_of(json.loads(text), f"slice {step}", "map")

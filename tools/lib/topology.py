@@ -138,7 +138,10 @@ def crs_of(document):
 
 
 def read_topology(path, name):
-    document = load_document(path)
+    return topology_of(load_document(path), path, name)
+
+
+def topology_of(document, path, name):
     chosen = chosen_object(document, path, name)
     try:
         transform = document.get("transform") or {"scale": [1, 1], "translate": [0, 0]}
