@@ -1,5 +1,5 @@
 -- The search for the first place of the touched members of a stack at which the faces differ.
-use Rattle.std.proofs.Common.{◌≡◌, ◌≢◌, ⊎_elim, ℕ, ◌<◌, ◌==◌, Bool, true, false, cond, List, [], ◌∷◌, ◌++◌, length, map, get_or, ℤ, Option, Some, None, refl, sym, ap, ◌∙◌, arith}
+use Rattle.std.proofs.Common.{◌≡◌, ◌≢◌, ⊎_elim, ℕ, suc, ◌+◌, ◌-◌, ◌<◌, ◌≤◌, ◌==◌, Bool, true, false, cond, List, [], ◌∷◌, ◌++◌, length, map, get_or, ℤ, Option, Some, None, refl, sym, ap, ◌∙◌, arith}
 use Rattle.std.specs.Option.{option_map, is_some}
 use Rattle.std.proofs.lemmas.Bool.Decides.{Decides-eqb}
 use Rattle.std.proofs.lemmas.List.{length-map}
@@ -9,7 +9,7 @@ use Rattle.tgap_model.specs.Partition.{Sides, stack_fault_from}
 use Rattle.grid_geo.specs.Evidence.{face_above, face_below}
 use Rattle.planar_stack.specs.declared.gap.StackGap.{StackGap}
 use Rattle.planar_stack.specs.Sweep.{disagrees, fault_at, IsCovered, IsFirstOf}
-use Rattle.planar_stack.proofs.Seams.{covered_at, fault_from_place}
+use Rattle.planar_stack.proofs.Seams.{reached_below, standing_at, covered_at, fault_from_place}
 
 -- ---- at one place
 
@@ -61,3 +61,21 @@ fault_of_first {faces} v touched found place covered f =
     (λ k l. ⊎_elim (λ e. e) (f.agree k 0 l) (covered_at faces touched 0 found covered k 0 (omega (arith, l, f.within))))
     (λ l. f.differ (omega (arith, l, length-map found faces)))
     ∙ ap (λ (k : ℕ). cond (face_above (map faces found) place == face_below (map faces found) place) None (Some (StackDisagrees v k (face_above (map faces found) place) (face_below (map faces found) place)))) (omega arith)
+
+-- ---- all are looked at
+
+-- where neighbours of a run of the members agree, the faces agree at each place of the run behind its first one
+pub agree_after : (faces : ℕ → Sides) (found run : List ℕ) (place n : ℕ) → place + length run ≤ length found → n ≤ length run
+    → ((k d : ℕ) → k < length run → get_or run k d ≡ get_or found (place + k) d)
+    → ((k d : ℕ) → k + 1 < n → (faces (get_or run k d)).lower ≡ (faces (get_or run (k + 1) d)).upper)
+    → (k : ℕ) → place < k → k < place + n → face_above (map faces found) k ≡ face_below (map faces found) k
+agree_after faces found run place n within short is agree k more less =
+    let j = k - (place + 1) in
+    let here : suc (place + j) ≡ k = omega (arith, more) in
+    let next : place + (j + 1) ≡ k = omega (arith, more) in
+    sym (ap (face_above (map faces found)) here)
+    ∙ reached_below faces 0 found (place + j) 0 (omega (arith, more, less, within, short))
+    ∙ sym (ap (λ m. (faces m).lower) (is j 0 (omega (arith, more, less, short))))
+    ∙ agree j 0 (omega (arith, more, less))
+    ∙ ap (λ m. (faces m).upper) (is (j + 1) 0 (omega (arith, more, less, short)) ∙ ap (λ i. get_or found i 0) next)
+    ∙ sym (standing_at faces found k 0 (omega (arith, more, less, within, short)))

@@ -25,10 +25,10 @@ IsSomeSweep starts ends lines = (segments : List LabelledSegment) × IsSweep seg
 -- The sweep is at an abscissa: it has the stack of the line one half beyond, and of the segments there those above which the faces may
 -- disagree; the first ends are those up to the abscissa, and all other starts begin beyond it.
 pub record IsReached (v : ℤ) (starts : List LabelledSegment) (ends : List End) (s : Sweep) : Type 0 where
-  pub active : IsActive v starts s.begun s.stack.items
+  pub active : IsActive v starts s.begun s.stack
   pub past : HaveEnded v ends s.ended
   pub later : All (λ t. v <ℤ left_end t) (drop s.begun starts)
-  pub touched : AreTouched v starts s.stack.items s.touched.items
+  pub touched : AreTouched v starts s.stack s.touched.items
 
 -- the gap is the first one of the lines from one place on up to another
 abbrev pub IsGapIn : List LabelledSegment → List ℤ → ℕ → ℕ → Option StackGap → Type 0

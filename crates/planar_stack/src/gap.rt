@@ -7,6 +7,7 @@ ghost use Rattle.tgap_model.specs.Partition.{sides};
 ghost use Rattle.grid_geo.specs.Evidence.{face_above, face_below};
 ghost use Rattle.planar_stack.specs.Sweep.{disagrees, sides_at, fault_at};
 
+use chunked_row::Row;
 use tgap_model::{LabelledSegment, MapFault};
 
 /// Where the faces down a stack disagree: on the line one half beyond the abscissa `line`, below `place` segments, the
@@ -34,7 +35,7 @@ impl StackGap {
 }
 
 /// The faces at the upper and at the lower side of a segment.
-fn faces(s: &LabelledSegment) -> (u32, u32)
+pub fn faces(s: &LabelledSegment) -> (u32, u32)
     ensures upper { result.0 ≡ (sides s.now).upper }
     ensures lower { result.1 ≡ (sides s.now).lower }
 {
@@ -46,7 +47,7 @@ fn faces(s: &LabelledSegment) -> (u32, u32)
 }
 
 /// The face that is reached from above at a place of a stack.
-fn face_reached(starts: &[LabelledSegment], stack: &[u32], place: usize) -> u32
+fn face_reached(starts: &[LabelledSegment], stack: &Row, place: usize) -> u32
     requires known { All (λ n. n < length starts.now) stack.now }
     requires within { place ≤ length stack.now }
     ensures { result ≡ face_above (map (sides_at starts.now) stack.now) place }
@@ -54,27 +55,22 @@ fn face_reached(starts: &[LabelledSegment], stack: &[u32], place: usize) -> u32
     if place == 0 {
         return 0;
     }
-    faces(&starts[stack[place - 1] as usize]).1
+    faces(&starts[stack.at(place - 1) as usize]).1
 }
 
 /// The face that stands at a place of a stack.
-fn face_standing(starts: &[LabelledSegment], stack: &[u32], place: usize) -> u32
+fn face_standing(starts: &[LabelledSegment], stack: &Row, place: usize) -> u32
     requires known { All (λ n. n < length starts.now) stack.now }
     ensures { result ≡ face_below (map (sides_at starts.now) stack.now) place }
 {
     if place >= stack.len() {
         return 0;
     }
-    faces(&starts[stack[place] as usize]).0
+    faces(&starts[stack.at(place) as usize]).0
 }
 
 /// The gap at a place of a stack, where the two faces differ.
-pub fn gap_at(
-    starts: &[LabelledSegment],
-    stack: &[u32],
-    place: usize,
-    line: i64,
-) -> Option<StackGap>
+pub fn gap_at(starts: &[LabelledSegment], stack: &Row, place: usize, line: i64) -> Option<StackGap>
     requires known { All (λ n. n < length starts.now) stack.now }
     requires few { length stack.now < 2 ^ 32 }
     requires within { place ≤ length stack.now }

@@ -1,6 +1,7 @@
 //! Whether the faces of a base map agree down each vertical line: a line sweeps the map from left to right and keeps
 //! the segments that it crosses in the order of their heights. It stands on `tgap_model`, whose `Partition` defines the
-//! property, on `grid_geo`, which compares heights, and on `rayon`, which shares the lines among threads.
+//! property, on `grid_geo`, which compares heights, on `chunked_row`, which keeps what is crossed, and on `rayon`,
+//! which shares the lines among threads.
 #![tactic(auto)]
 
 ghost use Rattle.std.specs.Prelude.{◌≡◌, AllPairs, IfOk, Ok, Some, None};
@@ -12,6 +13,7 @@ ghost use Rattle.planar_stack.specs.Sweep.{FacesAgree, disagrees};
 mod events;
 mod gap;
 mod parts;
+mod scan;
 mod sweep;
 
 pub use gap::StackGap;
@@ -27,10 +29,11 @@ use tgap_model::{Base, Memory};
 /// It reads the lines one half beyond each abscissa of a vertex that has a next one, from left to right. The gap has
 /// the abscissa, in grid units, and the first place from the top at which a face and the next one differ. The segments
 /// have to be apart: where two of them meet, they have no order of heights. On each line it looks only at the places
-/// where a segment came or went, so the cost is that of sorting the segments, and for each of them a few searches, each
-/// the logarithm of the height of its stack, and two moves of the numbers below its place. It fails on want of memory
-/// alone. Where there are many segments, the lines are cut into a part for each processor, and the parts are swept side
-/// by side, each from the stack of its first line. The sweep is that of Shamos and Hoey, 1976.
+/// where a segment came or went, or at all where these are many, so the cost is that of sorting the segments, and for
+/// each of them a few searches, each the logarithm of the height of its stack, and two moves of some hundred numbers.
+/// It fails on want of memory alone. Where there are many segments, the lines are cut into a part for each processor,
+/// and the parts are swept side by side, each from the stack of its first line. The sweep is that of Shamos and Hoey,
+/// 1976.
 pub fn first_disagreement<R: Threads + Sync>(
     rt: &R,
     alloc: Global,

@@ -13,10 +13,15 @@ ghost use Rattle.planar_stack.specs.Parts.{IsReached};
 
 use crate::events::{End, left_end, right_end};
 use crate::gap::{StackGap, gap_at};
+use crate::scan::first_place;
+use chunked_row::Row;
 use grid_geo::cmp_on_line;
 use std::alloc::Global;
 use std::cmp::Ordering;
 use tgap_model::{Base, LabelledSegment, List, Memory, base_segments};
+
+/// To search a tall stack for the place of one member takes the time in which about so many members are looked at.
+const SEARCH: usize = 32;
 
 /// The segments of a base map, of which there are few, and whose ends keep to the limits.
 pub fn segments_of(alloc: Global, base: &Base) -> Result<List<LabelledSegment>, Memory>
@@ -27,35 +32,44 @@ pub fn segments_of(alloc: Global, base: &Base) -> Result<List<LabelledSegment>, 
     base_segments(alloc, base)
 }
 
+/// Whether a segment is higher than another one.
+fn is_higher(starts: &[LabelledSegment], number: u32, other: u32, line: i64) -> bool
+    requires near { All (λ s. HasNearEnds s.segment) starts.now }
+    requires known { number < length starts.now }
+    requires crossed { IsTrue (crossed_at line starts.now number) }
+    requires other_known { other < length starts.now }
+    requires other_crossed { IsTrue (crossed_at line starts.now other) }
+    ensures { result ≡ higher_at line starts.now number other }
+{
+    let s = starts[number as usize].segment;
+    let t = starts[other as usize].segment;
+    cmp_on_line(s, t, line) == Ordering::Greater
+}
+
 /// The place of a segment in a stack: above the first segment that it is higher than.
-fn place_of(starts: &[LabelledSegment], stack: &[u32], number: u32, line: i64) -> usize
+fn place_of(starts: &[LabelledSegment], stack: &Row, number: u32, line: i64) -> usize
     requires near { All (λ s. HasNearEnds s.segment) starts.now }
     requires ordered { IsOrdered line starts.now stack.now }
     requires known { number < length starts.now }
     requires crossed { IsTrue (crossed_at line starts.now number) }
     ensures { IsPlace line starts.now number stack.now result }
 {
-    let s = &starts[number as usize];
-    let mut low = 0;
-    let mut high = stack.len();
-    while low < high {
-        let middle = low + (high - low) / 2;
-        let other = &starts[stack[middle] as usize];
-        if cmp_on_line(s.segment, other.segment, line) == Ordering::Greater {
-            high = middle;
-        } else {
-            low = middle + 1;
-        }
-    }
-    low
+    stack.search(
+        |other: u32| -> bool
+            requires near { All (λ s. HasNearEnds s.segment) starts.now }
+            requires known { (number < length starts.now) × IsTrue (crossed_at line starts.now number) }
+            requires other { (other < length starts.now) × IsTrue (crossed_at line starts.now other) }
+            ensures { result ≡ not (higher_at line starts.entry.now number other) }
+        { !is_higher(starts, number, other, line) },
+    )
 }
 
 /// Touches the segment at a place of a stack, where there is one.
-fn touch(touched: &mut Vec<u32>, stack: &[u32], place: usize) -> Result<(), Memory>
+fn touch(touched: &mut Vec<u32>, stack: &Row, place: usize) -> Result<(), Memory>
     ensures { IfOk result (λ _. touched.new.items ≡ touched.old.items ++ take 1 (drop place stack.now)) }
 {
     if place < stack.len() {
-        touched.push(stack[place])?;
+        touched.push(stack.at(place))?;
     }
     Ok(())
 }
@@ -63,17 +77,17 @@ fn touch(touched: &mut Vec<u32>, stack: &[u32], place: usize) -> Result<(), Memo
 /// Takes a segment out of a stack. The one below it is touched.
 fn take_out(
     starts: &[LabelledSegment],
-    stack: &mut Vec<u32>,
+    stack: &mut Row,
     touched: &mut Vec<u32>,
     number: u32,
     line: i64,
 ) -> Result<(), Memory>
     requires near { All (λ s. HasNearEnds s.segment) starts.now }
-    requires ordered { IsOrdered line starts.now stack.old.items }
-    requires member { Contains stack.old.items number }
-    requires touched { AreTouched line starts.now stack.old.items touched.old.items }
-    ensures out { IfOk result (λ _. stack.new.items ≡ filter (λ n. not (n == number)) stack.old.items) }
-    ensures touched { IfOk result (λ _. AreTouched line starts.now stack.new.items touched.new.items) }
+    requires ordered { IsOrdered line starts.now stack.old }
+    requires member { Contains stack.old number }
+    requires touched { AreTouched line starts.now stack.old touched.old.items }
+    ensures out { IfOk result (λ _. stack.new ≡ filter (λ n. not (n == number)) stack.old) }
+    ensures touched { IfOk result (λ _. AreTouched line starts.now stack.new touched.new.items) }
 {
     let below = place_of(starts, stack, number, line);
     touch(touched, stack, below)?;
@@ -84,18 +98,18 @@ fn take_out(
 /// Puts a segment into a stack. It is touched, and the one below it.
 fn put_in(
     starts: &[LabelledSegment],
-    stack: &mut Vec<u32>,
+    stack: &mut Row,
     touched: &mut Vec<u32>,
     number: u32,
     line: i64,
 ) -> Result<(), Memory>
     requires near { All (λ s. HasNearEnds s.segment) starts.now }
-    requires ordered { IsOrdered line starts.now stack.old.items }
+    requires ordered { IsOrdered line starts.now stack.old }
     requires known { number < length starts.now }
     requires crossed { IsTrue (crossed_at line starts.now number) }
-    requires touched { AreTouched line starts.now stack.old.items touched.old.items }
-    ensures placed { IfOk result (λ _. stack.new.items ≡ insert_by (higher_at line starts.now) number stack.old.items) }
-    ensures touched { IfOk result (λ _. AreTouched line starts.now stack.new.items touched.new.items) }
+    requires touched { AreTouched line starts.now stack.old touched.old.items }
+    ensures placed { IfOk result (λ _. stack.new ≡ insert_by (higher_at line starts.now) number stack.old) }
+    ensures touched { IfOk result (λ _. AreTouched line starts.now stack.new touched.new.items) }
 {
     let place = place_of(starts, stack, number, line);
     touched.push(number)?;
@@ -110,19 +124,19 @@ fn remove_ended(
     starts: &[LabelledSegment],
     ends: &[End],
     ended: usize,
-    stack: &mut Vec<u32>,
+    stack: &mut Row,
     touched: &mut Vec<u32>,
     before: i64,
     line: i64,
 ) -> Result<usize, Memory>
     requires near { All (λ s. HasNearEnds s.segment) starts.now }
     requires ends { AreEnds starts.now ends.now }
-    requires ordered { IsOrdered before starts.now stack.old.items }
-    requires left { AreLeft line starts.now ends.now ended stack.old.items }
-    requires touched { AreTouched before starts.now stack.old.items touched.old.items }
-    ensures out { IfOk result (λ _. stack.new.items ≡ filter (stays_at line starts.now) stack.old.items) }
+    requires ordered { IsOrdered before starts.now stack.old }
+    requires left { AreLeft line starts.now ends.now ended stack.old }
+    requires touched { AreTouched before starts.now stack.old touched.old.items }
+    ensures out { IfOk result (λ _. stack.new ≡ filter (stays_at line starts.now) stack.old) }
     ensures ended { IfOk result (λ gone. HaveEnded line ends.now gone) }
-    ensures touched { IfOk result (λ _. AreTouched before starts.now stack.new.items touched.new.items) }
+    ensures touched { IfOk result (λ _. AreTouched before starts.now stack.new touched.new.items) }
 {
     let mut gone = ended;
     while gone < ends.len() && ends[gone].abscissa <= line {
@@ -135,18 +149,18 @@ fn remove_ended(
 /// Puts a segment that has begun into the stack, where the line one half beyond the abscissa crosses it.
 fn bring_in(
     starts: &[LabelledSegment],
-    stack: &mut Vec<u32>,
+    stack: &mut Row,
     touched: &mut Vec<u32>,
     number: u32,
     line: i64,
 ) -> Result<(), Memory>
     requires ready { AreReady starts.now }
-    requires active { IsActive line starts.now number stack.old.items }
+    requires active { IsActive line starts.now number stack.old }
     requires known { number < length starts.now }
     requires begins { left_of (segment_at starts.now number) ≤ℤ line }
-    requires touched { AreTouched line starts.now stack.old.items touched.old.items }
-    ensures active { IfOk result (λ _. IsActive line starts.now (number + 1) stack.new.items) }
-    ensures touched { IfOk result (λ _. AreTouched line starts.now stack.new.items touched.new.items) }
+    requires touched { AreTouched line starts.now stack.old touched.old.items }
+    ensures active { IfOk result (λ _. IsActive line starts.now (number + 1) stack.new) }
+    ensures touched { IfOk result (λ _. AreTouched line starts.now stack.new touched.new.items) }
 {
     if right_end(&starts[number as usize]) <= line {
         return Ok(());
@@ -159,17 +173,17 @@ fn bring_in(
 fn insert_begun(
     starts: &[LabelledSegment],
     next: usize,
-    stack: &mut Vec<u32>,
+    stack: &mut Row,
     touched: &mut Vec<u32>,
     line: i64,
 ) -> Result<usize, Memory>
     requires ready { AreReady starts.now }
     requires few { length starts.now < 2 ^ 32 }
-    requires active { IsActive line starts.now next stack.old.items }
-    requires touched { AreTouched line starts.now stack.old.items touched.old.items }
-    ensures active { IfOk result (λ begun. IsActive line starts.now begun stack.new.items) }
+    requires active { IsActive line starts.now next stack.old }
+    requires touched { AreTouched line starts.now stack.old touched.old.items }
+    ensures active { IfOk result (λ begun. IsActive line starts.now begun stack.new) }
     ensures later { IfOk result (λ begun. All (λ s. line <ℤ left_of s) (drop begun starts.now)) }
-    ensures touched { IfOk result (λ _. AreTouched line starts.now stack.new.items touched.new.items) }
+    ensures touched { IfOk result (λ _. AreTouched line starts.now stack.new touched.new.items) }
 {
     let mut begun = next;
     while begun < starts.len() && left_end(&starts[begun]) <= line {
@@ -182,7 +196,7 @@ fn insert_begun(
 /// The higher of a place, and the place of a segment where the faces disagree there.
 fn higher_gap(
     starts: &[LabelledSegment],
-    stack: &[u32],
+    stack: &Row,
     place: usize,
     number: u32,
     line: i64,
@@ -208,10 +222,43 @@ fn higher_gap(
     place
 }
 
+/// The first place of touched segments of a stack at which the faces differ, or that below its last member.
+fn touched_place(starts: &[LabelledSegment], stack: &Row, touched: &[u32], line: i64) -> usize
+    requires near { All (λ s. HasNearEnds s.segment) starts.now }
+    requires ordered { IsOrdered line starts.now stack.now }
+    requires few { length stack.now < 2 ^ 32 }
+    requires all { (n : ℕ) → n < length starts.now → IsTrue (crossed_at line starts.now n) → Contains stack.now n }
+    requires known { All (λ n. n < length starts.now) touched.now }
+    requires begun { All (λ n. left_of (segment_at starts.now n) ≤ℤ line) touched.now }
+    ensures { IsFirstOf touched.now (map (sides_at starts.now) stack.now) stack.now result }
+{
+    let mut place = stack.len();
+    for number in touched {
+        place = higher_gap(starts, stack, place, *number, line);
+    }
+    place
+}
+
+/// The first place of touched segments at which the faces differ, or another such place of the stack above it. Where
+/// there are many of them the whole stack is looked at.
+fn differing_place(starts: &[LabelledSegment], stack: &Row, touched: &[u32], line: i64) -> usize
+    requires near { All (λ s. HasNearEnds s.segment) starts.now }
+    requires ordered { IsOrdered line starts.now stack.now }
+    requires few { length stack.now < 2 ^ 32 }
+    requires all { (n : ℕ) → n < length starts.now → IsTrue (crossed_at line starts.now n) → Contains stack.now n }
+    requires touched { AreTouched line starts.now stack.now touched.now }
+    ensures { IsFirstOf touched.now (map (sides_at starts.now) stack.now) stack.now result }
+{
+    if touched.len() < stack.len() / SEARCH {
+        return touched_place(starts, stack, touched, line);
+    }
+    first_place(starts, stack, line)
+}
+
 /// The first gap of a stack, where only above touched segments the faces may disagree.
 pub fn touched_gap(
     starts: &[LabelledSegment],
-    stack: &[u32],
+    stack: &Row,
     touched: &[u32],
     line: i64,
 ) -> Option<StackGap>
@@ -222,10 +269,7 @@ pub fn touched_gap(
     requires touched { AreTouched line starts.now stack.now touched.now }
     ensures { option_map disagrees result ≡ stack_fault_from line 0 0 (map (sides_at starts.now) stack.now) }
 {
-    let mut place = stack.len();
-    for number in touched {
-        place = higher_gap(starts, stack, place, *number, line);
-    }
+    let place = differing_place(starts, stack, touched, line);
     gap_at(starts, stack, place, line)
 }
 
@@ -241,11 +285,11 @@ fn ended_by(ends: &[End], line: i64) -> usize
     ended
 }
 
-/// The stack of the line one half beyond an abscissa, the segments above which the faces may disagree there, and how many
-/// of the starts have begun and of the ends have passed.
+/// The stack of the line one half beyond an abscissa, the segments above which the faces may disagree there, and how
+/// many of the starts have begun and of the ends have passed.
 #[derive(Debug, Drop)]
 pub struct Sweep {
-    pub stack: Vec<u32>,
+    pub stack: Row,
     pub touched: Vec<u32>,
     pub begun: usize,
     pub ended: usize,
@@ -264,7 +308,7 @@ impl Sweep {
         requires ends { AreEnds starts.now ends.now }
         ensures { IfOk result (IsReached line starts.now ends.now) }
     {
-        let mut stack = Vec::new(alloc);
+        let mut stack = Row::new(alloc);
         let mut touched = Vec::new(alloc);
         let begun = insert_begun(starts, 0, &mut stack, &mut touched, line)?;
         Ok(Sweep {
@@ -287,7 +331,7 @@ impl Sweep {
         requires few { length starts.now < 2 ^ 32 }
         requires ends { AreEnds starts.now ends.now }
         requires reached { IsReached line starts.now ends.now self.old }
-        requires agree { IsTrue (agree_from 0 (map (sides_at starts.now) self.old.stack.items)) }
+        requires agree { IsTrue (agree_from 0 (map (sides_at starts.now) self.old.stack)) }
         requires up { line ≤ℤ after }
         requires none { All (λ s. after ≤ℤ left_of s) (drop self.old.begun starts.now) }
         ensures { IfOk result (λ _. IsReached after starts.now ends.now self.new) }

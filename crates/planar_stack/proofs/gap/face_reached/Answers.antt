@@ -9,5 +9,5 @@ returns c =
     let stack = c.args.stack.now in
     let short : c.args.place - 1 < length stack = omega (arith, c.requires.within, c.if-place-eq0.false) in
     let here : suc (c.args.place - 1) ≡ c.args.place = omega (arith, c.if-place-eq0.false) in
-    c.faces.ensures.lower ∙ sym (reached_below (sides_at c.args.starts.now) 0 stack (c.args.place - 1) 0 short)
+    c.faces.ensures.lower ∙ ap (λ n. (sides_at c.args.starts.now n).lower) c.at.ensures ∙ sym (reached_below (sides_at c.args.starts.now) 0 stack (c.args.place - 1) 0 short)
     ∙ ap (face_above (map (sides_at c.args.starts.now) stack)) here

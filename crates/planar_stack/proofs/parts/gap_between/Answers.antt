@@ -1,10 +1,10 @@
-use Rattle.std.proofs.Common.{◌≡◌, ◌<◌, ◌≤ℤ◌, ◌+◌, ℕ, ℤ, pos, List, None, true, map, to_z, of_z, length, drop, get_or, All, Contains, inl, inr, sym, ap, ◌∙◌, subst, subst₂, arith}
+use Rattle.std.proofs.Common.{◌≡◌, ◌<◌, ◌≤ℤ◌, ◌+◌, ℕ, ℤ, pos, List, None, map, to_z, of_z, length, drop, get_or, All, inl, inr, sym, ap, ◌∙◌, subst, subst₂, arith}
 use Rattle.std.specs.Int.{w64}
 use Rattle.std.proofs.lemmas.Int.{ints}
 use Rattle.std.proofs.lemmas.Bool.{cases_lt}
 use Rattle.lemmas.proofs.Ascending.{ascending}
 use Rattle.tgap_model.specs.Partition.{stack_fault, stack_fault_from}
-use Rattle.planar_stack.specs.Sweep.{left_end, sides_at, crossed_at, IsOrdered, AreTouched}
+use Rattle.planar_stack.specs.Sweep.{left_end, sides_at, AreTouched}
 use Rattle.planar_stack.specs.Parts.{IsReached}
 use Rattle.planar_stack.proofs.Slabs.{agree_from_no_fault}
 use Rattle.planar_stack.proofs.Active.{active_all}
@@ -56,7 +56,7 @@ touched_gap-gap-requires-clause-ordered c =
     let same : c.line_at-line.result ≡ v = omega (arith, ints) in
     let at_line : z ≡ v = sym c.line_at-line.ensures ∙ same in
     let reached = subst (λ (w : ℤ). IsReached w starts ends sweep) at_line c.loop-i.invariant.reached in
-    subst (λ (ns : List ℕ). IsOrdered v starts ns) (sym c.deref.ensures.value) reached.active.ordered
+    reached.active.ordered
 
 pub touched_gap-gap-requires-clause-few : goal.touched_gap-gap-requires-clause-few
 touched_gap-gap-requires-clause-few c =
@@ -71,7 +71,7 @@ touched_gap-gap-requires-clause-few c =
     let same : c.line_at-line.result ≡ v = omega (arith, ints) in
     let at_line : z ≡ v = sym c.line_at-line.ensures ∙ same in
     let reached = subst (λ (w : ℤ). IsReached w starts ends sweep) at_line c.loop-i.invariant.reached in
-    omega (arith, stack_is_few sw.0 lines starts sw.1.apart sw.1.lines_are sw.1.starts_are sweep.begun sweep.stack.items reached.active reached.later, sw.1.few, ap length c.deref.ensures.value)
+    omega (arith, stack_is_few sw.0 lines starts sw.1.apart sw.1.lines_are sw.1.starts_are sweep.begun sweep.stack reached.active reached.later, sw.1.few)
 
 pub touched_gap-gap-requires-clause-all : goal.touched_gap-gap-requires-clause-all
 touched_gap-gap-requires-clause-all c =
@@ -86,8 +86,7 @@ touched_gap-gap-requires-clause-all c =
     let same : c.line_at-line.result ≡ v = omega (arith, ints) in
     let at_line : z ≡ v = sym c.line_at-line.ensures ∙ same in
     let reached = subst (λ (w : ℤ). IsReached w starts ends sweep) at_line c.loop-i.invariant.reached in
-    subst (λ (ns : List ℕ). (n : ℕ) → n < length starts → crossed_at v starts n ≡ true → Contains ns n) (sym c.deref.ensures.value)
-    (active_all v starts sweep.begun sweep.stack.items reached.active reached.later)
+    active_all v starts sweep.begun sweep.stack reached.active reached.later
 
 pub touched_gap-gap-requires-clause-touched : goal.touched_gap-gap-requires-clause-touched
 touched_gap-gap-requires-clause-touched c =
@@ -102,7 +101,7 @@ touched_gap-gap-requires-clause-touched c =
     let same : c.line_at-line.result ≡ v = omega (arith, ints) in
     let at_line : z ≡ v = sym c.line_at-line.ensures ∙ same in
     let reached = subst (λ (w : ℤ). IsReached w starts ends sweep) at_line c.loop-i.invariant.reached in
-    subst₂ (λ (ns ts : List ℕ). AreTouched v starts ns ts) (sym c.deref.ensures.value) (sym c.deref-in-loop-i.ensures.value) reached.touched
+    subst (λ (ts : List ℕ). AreTouched v starts sweep.stack ts) (sym c.deref.ensures.value) reached.touched
 
 pub returns-then-is_some : goal.returns-then-is_some
 returns-then-is_some c =
@@ -118,8 +117,8 @@ returns-then-is_some c =
     let at_line : z ≡ v = sym c.line_at-line.ensures ∙ same in
     let reached = subst (λ (w : ℤ). IsReached w starts ends sweep) at_line c.loop-i.invariant.reached in
     let gap = c.touched_gap-gap.result in
-    let down = c.touched_gap-gap.ensures ∙ ap (λ (ns : List ℕ). stack_fault_from v 0 0 (map (sides_at starts) ns)) c.deref.ensures.value in
-    λ segments h. gap_at_line segments lines c.args.from c.args.to i gap (sym c.is_some.ensures ∙ c.if-is_some.true) (down ∙ sym (stack_fault_at segments lines starts h.apart h.lines_are h.starts_are sweep.begun sweep.stack.items reached.active reached.later) ∙ ap (stack_fault segments) (sym at_line)) c.loop-i.auto.i c.loop-i-test.true (c.loop-i.invariant.sound segments h)
+    let down = c.touched_gap-gap.ensures in
+    λ segments h. gap_at_line segments lines c.args.from c.args.to i gap (sym c.is_some.ensures ∙ c.if-is_some.true) (down ∙ sym (stack_fault_at segments lines starts h.apart h.lines_are h.starts_are sweep.begun sweep.stack reached.active reached.later) ∙ ap (stack_fault segments) (sym at_line)) c.loop-i.auto.i c.loop-i-test.true (c.loop-i.invariant.sound segments h)
 
 pub advance-requires-clause-ready : goal.advance-requires-clause-ready
 advance-requires-clause-ready c =
@@ -162,8 +161,8 @@ advance-requires-clause-agree c =
     let at_line : z ≡ v = sym c.line_at-line.ensures ∙ same in
     let reached = subst (λ (w : ℤ). IsReached w starts ends sweep) at_line c.loop-i.invariant.reached in
     let gap = c.touched_gap-gap.result in
-    let down = c.touched_gap-gap.ensures ∙ ap (λ (ns : List ℕ). stack_fault_from v 0 0 (map (sides_at starts) ns)) c.deref.ensures.value in
-    agree_from_no_fault v 0 0 (map (sides_at starts) sweep.stack.items) (no_gap gap (stack_fault_from v 0 0 (map (sides_at starts) sweep.stack.items)) (sym c.is_some.ensures ∙ c.if-is_some.false) down)
+    let down = c.touched_gap-gap.ensures in
+    agree_from_no_fault v 0 0 (map (sides_at starts) sweep.stack) (no_gap gap (stack_fault_from v 0 0 (map (sides_at starts) sweep.stack)) (sym c.is_some.ensures ∙ c.if-is_some.false) down)
 
 pub advance-requires-clause-up : goal.advance-requires-clause-up
 advance-requires-clause-up c =
@@ -225,7 +224,7 @@ loop-i-preserved c =
     let at_after : y ≡ u = sym c.line_at-after.ensures ∙ same_after in
     let short : i + 1 < length lines = let to_in = c.requires.within (omega arith) in omega (arith, to_in, c.loop-i-test.true) in
     let gap = c.touched_gap-gap.result in
-    let down = c.touched_gap-gap.ensures ∙ ap (λ (ns : List ℕ). stack_fault_from v 0 0 (map (sides_at starts) ns)) c.deref.ensures.value in
+    let down = c.touched_gap-gap.ensures in
     record {
       reached = subst (λ (w : ℤ). IsReached w starts ends c.advance.new.self) (sym at_after) c.in_ok-advance.ensures;
       sound = λ segments h k from lt. elim (cases_lt k i) [
@@ -234,6 +233,6 @@ loop-i-preserved c =
             let here : i ≡ k = omega (arith, lt, le) in
             subst (λ (n : ℕ). stack_fault segments (get_or lines n (pos 0)) ≡ None) here
             (no_gap gap (stack_fault segments z) (sym c.is_some.ensures ∙ c.if-is_some.false)
-            (down ∙ sym (stack_fault_at segments lines starts h.apart h.lines_are h.starts_are sweep.begun sweep.stack.items reached.active reached.later) ∙ ap (stack_fault segments) (sym at_line)))
+            (down ∙ sym (stack_fault_at segments lines starts h.apart h.lines_are h.starts_are sweep.begun sweep.stack reached.active reached.later) ∙ ap (stack_fault segments) (sym at_line)))
       ];
     }

@@ -13,7 +13,7 @@ pub returns-then-right_end-line-clause-active : goal.returns-then-right_end-line
 returns-then-right_end-line-clause-active c =
     let v = c.args.line in
     let past : c.right_end.result ≤ℤ v = omega (arith, ints) in
-    active_past v c.args.starts.now c.args.number c.args.stack.now.items c.requires.active c.requires.known c.requires.begins (subst (λ (z : ℤ). z ≤ℤ v) c.right_end.ensures past)
+    active_past v c.args.starts.now c.args.number c.args.stack.now c.requires.active c.requires.known c.requires.begins (subst (λ (z : ℤ). z ≤ℤ v) c.right_end.ensures past)
 
 pub put_in-requires-clause-crossed : goal.put_in-requires-clause-crossed
 put_in-requires-clause-crossed c =
@@ -30,8 +30,8 @@ returns-clause-active c =
     let u = to_z w64 (of_z w64 v) in
     let starts = c.args.starts.now in
     let number = c.args.number in
-    let old = c.args.stack.now.items in
-    let new = c.put_in.new.stack.items in
+    let old = c.args.stack.now in
+    let new = c.put_in.new.stack in
     let line : u ≡ v = omega (arith, ints) in
     let after : v <ℤ c.right_end.result = omega (arith, ints) in
     let next = active_in v starts number old c.requires.ready.apart c.requires.active c.requires.known c.requires.begins (subst (λ (z : ℤ). v <ℤ z) c.right_end.ensures after) in

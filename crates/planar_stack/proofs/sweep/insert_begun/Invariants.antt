@@ -5,8 +5,8 @@ use Rattle.planar_stack.proofs.sweep.insert_begun.Given as goal
 
 abbrev pub invariant-loop-begun : goal.invariant-loop-begun
 invariant-loop-begun l = record {
-  active : IsActive l.line l.starts l.begun l.stack.items;
-  touched : AreTouched l.line l.starts l.stack.items l.touched.items;
+  active : IsActive l.line l.starts l.begun l.stack;
+  touched : AreTouched l.line l.starts l.stack l.touched.items;
 }
 
 abbrev pub decreases-loop-begun : goal.decreases-loop-begun

@@ -1,4 +1,4 @@
-use Rattle.std.proofs.Common.{◌≡◌, ◌++◌, ◌∷◌, [], ℤ, ℕ, List, take, drop, to_z, of_z, sym, ap, ◌∙◌, subst₂, arith}
+use Rattle.std.proofs.Common.{◌≡◌, ◌++◌, ℤ, ℕ, List, take, drop, to_z, of_z, sym, ap, ◌∙◌, subst, subst₂, arith}
 use Rattle.std.specs.Int.{w64}
 use Rattle.std.proofs.lemmas.Int.{ints}
 use Rattle.planar_stack.specs.Sweep.{IsPlace, AreTouched}
@@ -9,22 +9,21 @@ pub returns-clause-placed : goal.returns-clause-placed
 returns-clause-placed c =
     let v = c.args.line in
     let starts = c.args.starts.now in
-    let stack = c.args.stack.now.items in
+    let stack = c.args.stack.now in
     let place = c.place_of-place.result in
     let e : to_z w64 (of_z w64 v) ≡ v = omega (arith, ints) in
-    let p = subst₂ (λ (z : ℤ) (ns : List ℕ). IsPlace z starts c.args.number ns place) e c.deref.ensures.value c.place_of-place.ensures in
-    c.in_ok-insert.ensures.items ∙ place-insert v starts c.args.number stack place p
+    let p = subst (λ (z : ℤ). IsPlace z starts c.args.number stack place) e c.place_of-place.ensures in
+    c.in_ok-insert.ensures ∙ place-insert v starts c.args.number stack place p
 
 pub returns-clause-touched : goal.returns-clause-touched
 returns-clause-touched c =
     let v = c.args.line in
     let starts = c.args.starts.now in
-    let stack = c.args.stack.now.items in
+    let stack = c.args.stack.now in
     let touched = c.args.touched.now.items in
     let place = c.place_of-place.result in
     let e : to_z w64 (of_z w64 v) ≡ v = omega (arith, ints) in
-    let p = subst₂ (λ (z : ℤ) (ns : List ℕ). IsPlace z starts c.args.number ns place) e c.deref.ensures.value c.place_of-place.ensures in
-    let more = c.in_ok-touch.ensures ∙ ap (λ (ts : List ℕ). ts ++ take 1 (drop place c.deref-2.result.now)) c.in_ok-push.ensures.items
-    ∙ ap (λ (ns : List ℕ). (touched ++ c.args.number ∷ []) ++ take 1 (drop place ns)) c.deref-2.ensures.value in
-    subst₂ (λ (ns ts : List ℕ). AreTouched v starts ns ts) (sym c.in_ok-insert.ensures.items) (sym more)
+    let p = subst (λ (z : ℤ). IsPlace z starts c.args.number stack place) e c.place_of-place.ensures in
+    let more = c.in_ok-touch.ensures ∙ ap (λ (ts : List ℕ). ts ++ take 1 (drop place stack)) c.in_ok-push.ensures.items in
+    subst₂ (λ (ns ts : List ℕ). AreTouched v starts ns ts) (sym c.in_ok-insert.ensures) (sym more)
     (touched_in v starts c.args.number stack touched place p c.requires.ordered c.requires.touched c.requires.known c.requires.crossed)

@@ -1,5 +1,5 @@
 -- The member stands just above its place.
-use Rattle.std.proofs.Common.{◌≡◌, ◌++◌, ℤ, ℕ, List, take, drop, to_z, of_z, sym, ap, ◌∙◌, subst₂, arith}
+use Rattle.std.proofs.Common.{◌≡◌, ℤ, ℕ, List, to_z, of_z, sym, ◌∙◌, subst, subst₂, arith}
 use Rattle.std.specs.Int.{w64}
 use Rattle.std.proofs.lemmas.Int.{ints}
 use Rattle.planar_stack.specs.Sweep.{IsPlace, AreTouched}
@@ -10,31 +10,30 @@ pub overflow_sub-below : goal.overflow_sub-below
 overflow_sub-below c =
     let v = c.args.line in
     let starts = c.args.starts.now in
-    let stack = c.args.stack.now.items in
+    let stack = c.args.stack.now in
     let place = c.place_of-below.result in
     let e : to_z w64 (of_z w64 v) ≡ v = omega (arith, ints) in
-    let p = subst₂ (λ (z : ℤ) (ns : List ℕ). IsPlace z starts c.args.number ns place) e c.deref.ensures.value c.place_of-below.ensures in
+    let p = subst (λ (z : ℤ). IsPlace z starts c.args.number stack place) e c.place_of-below.ensures in
     (member_above v starts c.args.number stack place p c.requires.ordered c.requires.member).0
 
 pub returns-clause-out : goal.returns-clause-out
 returns-clause-out c =
     let v = c.args.line in
     let starts = c.args.starts.now in
-    let stack = c.args.stack.now.items in
+    let stack = c.args.stack.now in
     let place = c.place_of-below.result in
     let e : to_z w64 (of_z w64 v) ≡ v = omega (arith, ints) in
-    let p = subst₂ (λ (z : ℤ) (ns : List ℕ). IsPlace z starts c.args.number ns place) e c.deref.ensures.value c.place_of-below.ensures in
-    c.remove.ensures.items ∙ place-remove v starts c.args.number stack place p c.requires.ordered c.requires.member
+    let p = subst (λ (z : ℤ). IsPlace z starts c.args.number stack place) e c.place_of-below.ensures in
+    c.remove.ensures ∙ place-remove v starts c.args.number stack place p c.requires.ordered c.requires.member
 
 pub returns-clause-touched : goal.returns-clause-touched
 returns-clause-touched c =
     let v = c.args.line in
     let starts = c.args.starts.now in
-    let stack = c.args.stack.now.items in
+    let stack = c.args.stack.now in
     let touched = c.args.touched.now.items in
     let place = c.place_of-below.result in
     let e : to_z w64 (of_z w64 v) ≡ v = omega (arith, ints) in
-    let p = subst₂ (λ (z : ℤ) (ns : List ℕ). IsPlace z starts c.args.number ns place) e c.deref.ensures.value c.place_of-below.ensures in
-    let more = c.in_ok-touch.ensures ∙ ap (λ (ns : List ℕ). touched ++ take 1 (drop place ns)) c.deref-2.ensures.value in
-    subst₂ (λ (ns ts : List ℕ). AreTouched v starts ns ts) (sym c.remove.ensures.items) (sym more)
+    let p = subst (λ (z : ℤ). IsPlace z starts c.args.number stack place) e c.place_of-below.ensures in
+    subst₂ (λ (ns ts : List ℕ). AreTouched v starts ns ts) (sym c.remove.ensures) (sym c.in_ok-touch.ensures)
     (touched_out v starts c.args.number stack touched place p c.requires.ordered c.requires.touched c.requires.member)

@@ -8,4 +8,4 @@ pub insert_begun-requires-clause-touched : goal.insert_begun-requires-clause-tou
 insert_begun-requires-clause-touched c =
     let v = to_z w64 (of_z w64 c.args.line) in
     let starts = c.args.starts.now in
-    subst₂ (λ (ns ms : List ℕ). AreTouched v starts ns ms) (sym c.new-stack.ensures.items) (sym c.new-touched.ensures.items) (touched_none v starts [] refl)
+    subst₂ (λ (ns ms : List ℕ). AreTouched v starts ns ms) (sym c.new-stack.ensures) (sym c.new-touched.ensures.items) (touched_none v starts [] refl)

@@ -1,0 +1,11 @@
+//! A row of numbers of 32 bits that may be many, with cheap changes in the middle: it lies in chunks, so that a change
+//! moves the numbers of one chunk alone. It stands on `tgap_model`, whose `Memory` is its one refusal.
+#![tactic(auto)]
+
+mod chunk;
+mod edits;
+mod row;
+mod search;
+mod spot;
+
+pub use row::Row;
