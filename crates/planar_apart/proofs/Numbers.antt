@@ -1,7 +1,7 @@
 -- A row with each segment once, in any order: the least meeting of its pairs is the first of the segments.
 use Rattle.std.proofs.Common.{if◌then◌else◌, ◌≡◌, ◌⊎◌, inl, inr, ℕ, ◌+◌, ◌<◌, ◌≤◌, Bool, true, List, length, get_or, map, Option, Some, None, IsPermutation, All, option_map, refl, sym, ap, ap₂, ◌∙◌, subst, subst₂, arith}
 use Rattle.std.specs.List.{list_all, range_with_len}
-use Rattle.std.proofs.lemmas.Bool.{cases_lt, lt-ltb, le-ltb}
+use Rattle.std.proofs.lemmas.Bool.{cases_lt, lt-ltb}
 use Rattle.std.proofs.lemmas.List.{get_or-map, length-map}
 use Rattle.std.proofs.lemmas.List.FromFn.{get_or-range_with_len, length-range_with_len}
 use Rattle.std.proofs.lemmas.List.Sorted.{Contains-permutation}
@@ -16,7 +16,7 @@ use Rattle.grid_index.proofs.Ordering.{order_below, order_length}
 use Rattle.planar_apart.specs.declared.meeting.Meeting.{Meeting}
 use Rattle.planar_apart.specs.declared.row.NumberedSegment.{NumberedSegment}
 use Rattle.planar_apart.specs.Meetings.{meets, IsNoLater}
-use Rattle.planar_apart.specs.Rows.{past_last, past_row, row_at, numbered, ordered_meeting, meeting_of, HasNone, IsLeastAbove, IsLeastByNumber}
+use Rattle.planar_apart.specs.Rows.{past_last, past_row, row_at, numbered, ordered_meeting, meeting_of, IsLeastAbove, IsLeastByNumber}
 use Rattle.planar_apart.proofs.Pairs.{none_pairs, Found, found_pair}
 use Rattle.planar_apart.proofs.Earlier.{none_if_no_later}
 
@@ -24,11 +24,8 @@ use Rattle.planar_apart.proofs.Earlier.{none_if_no_later}
 abbrev pub pair : List LabelledSegment → ℕ → ℕ → Option Meeting
 pair segments k l = ordered_meeting (numbered segments k) (numbered segments l)
 
-in_order : (segments : List LabelledSegment) (k l : ℕ) → k < l → meeting_of (numbered segments k) (numbered segments l) ≡ pair segments k l
+pub in_order : (segments : List LabelledSegment) (k l : ℕ) → k < l → meeting_of (numbered segments k) (numbered segments l) ≡ pair segments k l
 in_order segments k l lt = ap (λ (b : Bool). if b then pair segments k l else pair segments l k) (lt-ltb k l lt)
-
-turned : (segments : List LabelledSegment) (k l : ℕ) → k < l → meeting_of (numbered segments l) (numbered segments k) ≡ pair segments k l
-turned segments k l lt = ap (λ (b : Bool). if b then pair segments l k else pair segments k l) (le-ltb l k (omega arith))
 
 -- the numbers of a meeting are those of its segments
 numbers_of : (a b : NumberedSegment) (m : Meeting) → ordered_meeting a b ≡ Some m → (m.i ≡ a.number) × (m.j ≡ b.number)
@@ -122,32 +119,6 @@ module _ (segments : List LabelledSegment) (order : List ℕ) (row : List Number
 
   standing : (a k : ℕ) → a < length order → row_at row a ≡ numbered segments (get_or order a k)
   standing a k lt = ap (λ (r : List NumberedSegment). row_at r a) row_is ∙ get_or-map (numbered segments) order a k past_row lt
-
-  -- where no two of the row meet, no two segments do
-  pub none_is_least : HasNone row → IsLeastPair segments None
-  none_is_least none = record { bound = bound; one = λ m some. absurd cc }
-    where
-      bound : (k l : ℕ) → k < l → l < length segments → IsNoLater None (pair segments k l)
-      bound k l lt short = by (place_of k (omega arith)) (place_of l short)
-        where
-          by : (a : ℕ) × (a < length order) × (get_or order a k ≡ k) → (b : ℕ) × (b < length order) × (get_or order b l ≡ l) → IsNoLater None (pair segments k l)
-          by (a, a_in, at_a) (b, b_in, at_b) =
-              let first = standing a k a_in ∙ ap (numbered segments) at_a in
-              let second = standing b l b_in ∙ ap (numbered segments) at_b in
-              elim (cases_lt a b) [
-                | inl less ↦
-                    subst (IsNoLater None) (sym (none a (omega (arith, a_in, long, count)) b less (omega (arith, b_in, long, count)))
-                    ∙ ap₂ meeting_of first second ∙ in_order segments k l lt) tt
-                | inr le ↦ elim (cases_lt b a) [
-                  | inl less ↦
-                      subst (IsNoLater None) (sym (none b (omega (arith, b_in, long, count)) a less (omega (arith, a_in, long, count)))
-                      ∙ ap₂ meeting_of second first ∙ turned segments k l lt) tt
-                  | inr ge ↦
-                      let same : a ≡ b = omega arith in
-                      let number : k ≡ l = ap (λ (s : NumberedSegment). s.number) (sym first ∙ ap (row_at row) same ∙ second) in
-                      absurd (omega (arith, lt, number))
-                ]
-              ]
 
   -- the least that is found by number is the least of all
   pub least_by_number : (found : Option Meeting) → IsLeastByNumber segments row found → IsLeastPair segments found

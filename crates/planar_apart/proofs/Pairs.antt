@@ -165,6 +165,19 @@ all_apart ss proper e i j d lt short =
     let s = get_or ss i d in
     common_point_none s.segment (get_or ss j d).segment (proper_parts s (AllPass-from_list_all is_proper ss proper i d (omega (arith, lt, short)))).apart (shared_ends s (get_or ss j d)) (none_pairs 0 ss e i j d lt short)
 
+-- and where all are apart, no pair meets
+pub none_from_apart : (ss : List LabelledSegment) → list_all is_proper ss ≡ true → AllPairs AreApart ss → meeting_from 0 ss ≡ None
+none_from_apart ss proper apart = by (meeting_from 0 ss) refl
+  where
+    by : (o : Option MapFault) → meeting_from 0 ss ≡ o → o ≡ None
+    by None e = refl
+    by (Some f) e =
+        let h = found_pair 0 ss f e in
+        let s = get_or ss h.first no_segment in
+        let t = get_or ss h.second no_segment in
+        let two_ends = (proper_parts s (AllPass-from_list_all is_proper ss proper h.first no_segment (omega (arith, h.order, h.inside)))).apart in
+        absurd (apart h.first h.second no_segment h.order h.inside h.at (common_point_found s.segment t.segment two_ends (shared_ends s t) h.at (h.meets no_segment)))
+
 -- two segments with a common point, of which all lesser pairs have none, are the first meeting
 first_at : (ss : List LabelledSegment) (i j : ℕ) (at : Fraction) → list_all is_proper ss ≡ true → i < j → j < length ss
     → ((d : LabelledSegment) → meeting_point (get_or ss i d) (get_or ss j d) ≡ Some at)

@@ -1,16 +1,13 @@
 -- The search over a row: the least meeting of a segment with those of greater numbers.
-use Rattle.std.proofs.Common.{◌≡◌, ◌⊎◌, inl, inr, ℕ, ◌+◌, ◌<◌, ◌≤◌, List, All, length, get_or, Option, Some, None, sym, ap, subst, ◌∙◌, arith}
-use Rattle.std.specs.List.{range_with_len}
+use Rattle.std.proofs.Common.{◌≡◌, ◌⊎◌, inl, inr, ℕ, ◌+◌, ◌<◌, ◌≤◌, List, length, Option, Some, None, sym, subst, ◌∙◌, arith}
 use Rattle.std.proofs.lemmas.Bool.{cases_lt}
-use Rattle.std.proofs.lemmas.List.FromFn.{get_or-range_with_len, length-range_with_len}
 use Rattle.planar_apart.specs.declared.meeting.Meeting.{Meeting}
 use Rattle.planar_apart.specs.declared.row.NumberedSegment.{NumberedSegment}
 use Rattle.planar_apart.specs.Meetings.{IsNoLater, IsEarlier}
-use Rattle.planar_apart.specs.Rows.{row_at, meeting_of, HasNoneBehind, HasNone, IsLeastAbove}
+use Rattle.planar_apart.specs.Rows.{row_at, meeting_of, IsLeastAbove}
 use Rattle.planar_apart.proofs.Earlier.{IsNoLater-trans}
 
--- ---- one segment and those of the row as far as a place
-
+-- of the segments as far as a place
 pub record IsLeastAboveUpTo (row : List NumberedSegment) (first : NumberedSegment) (end : ℕ) (found : Option Meeting) : Type 0 where
   pub least : (k : ℕ) → k < end → first.number < (row_at row k).number → IsNoLater found (meeting_of first (row_at row k))
   pub one : (m : Meeting) → found ≡ Some m
@@ -73,12 +70,3 @@ above_of_all row first end found far h = record {
   least = λ k lt above. h.least k (omega (arith, lt, far)) above;
   one = h.one;
 }
-
--- ---- all segments
-
--- where from each place on none is found, no two meet
-pub none_of_all : (row : List NumberedSegment) (places : List ℕ) → places ≡ range_with_len 0 (length row) → All (HasNoneBehind row) places → HasNone row
-none_of_all row places is all i lt =
-    let here : 0 + i ≡ i = omega arith in
-    subst (HasNoneBehind row) (ap (λ (ps : List ℕ). get_or ps i 0) is ∙ get_or-range_with_len 0 (length row) i 0 lt ∙ here)
-    (all i 0 (omega (arith, lt, ap length is, length-range_with_len 0 (length row))))

@@ -26,7 +26,7 @@ use Rattle.planar_apart.specs.Ends.{leaves_line, parts_at_end}
 -- ---- one point on two lines that are not parallel
 
 -- of two directions (a, b) and (c, e) that are not parallel, only nothing lies along both
-pub nothing_along_both : (a b c e x y : ℤ) → a *ℤ e -ℤ b *ℤ c ≢ pos 0 → a *ℤ y -ℤ b *ℤ x ≡ pos 0 → c *ℤ y -ℤ e *ℤ x ≡ pos 0 → (x ≡ pos 0) × (y ≡ pos 0)
+nothing_along_both : (a b c e x y : ℤ) → a *ℤ e -ℤ b *ℤ c ≢ pos 0 → a *ℤ y -ℤ b *ℤ x ≡ pos 0 → c *ℤ y -ℤ e *ℤ x ≡ pos 0 → (x ≡ pos 0) × (y ≡ pos 0)
 nothing_along_both a b c e x y n h k = (
   zero_from_mul_left (a *ℤ e -ℤ b *ℤ c) n (
       same_value (a ∷ b ∷ c ∷ e ∷ x ∷ y ∷ []) ((var 0 ⊗ var 3 ⊖ var 1 ⊗ var 2) ⊗ var 4)

@@ -1,5 +1,5 @@
 pub mod Meetings
 pub mod Rows
 pub mod Ends
-pub mod Fans
 pub mod Crossing
+pub mod Doubts

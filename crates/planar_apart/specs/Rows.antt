@@ -1,5 +1,5 @@
 -- Segments in a row, each with its number, in any order, and the meetings of two of them.
-use Rattle.std.specs.Prelude.{◌≡◌, ℕ, ◌<◌, nat_lt, pos, true, false, List, length, map, get_or, Option, Some, None, option_map, if◌then◌else◌}
+use Rattle.std.specs.Prelude.{◌≡◌, ℕ, ◌<◌, nat_lt, pos, true, false, List, length, map, get_or, Option, Some, option_map, if◌then◌else◌}
 use Rattle.tgap_model.specs.declared.geometry.Window.{Window}
 use Rattle.tgap_model.specs.declared.segment.LabelledSegment.{LabelledSegment}
 use Rattle.tgap_model.specs.Partition.{is_proper, meeting_point}
@@ -46,13 +46,6 @@ pub record IsRow (row : List NumberedSegment) (boxes : List Window) : Type 0 whe
 -- what stands at a place of a row
 abbrev pub row_at : List NumberedSegment → ℕ → NumberedSegment
 row_at row k = get_or row k past_row
-
--- the segment at this place meets none behind it, and no two meet
-abbrev pub HasNoneBehind : List NumberedSegment → ℕ → Type 0
-HasNoneBehind row place = (k : ℕ) → place < k → k < length row → meeting_of (row_at row place) (row_at row k) ≡ None
-
-abbrev pub HasNone : List NumberedSegment → Type 0
-HasNone row = (i : ℕ) → i < length row → HasNoneBehind row i
 
 -- It is a meeting of the segment with one of the row of greater number, and none of these is earlier; it is none only where there is none.
 pub record IsLeastAbove (row : List NumberedSegment) (first : NumberedSegment) (found : Option Meeting) : Type 0 where

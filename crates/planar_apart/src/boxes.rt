@@ -1,9 +1,10 @@
-//! The bounding boxes of segments.
+//! The bounding boxes of segments, and an order of the segments by them.
 
-ghost use Rattle.std.specs.Prelude.{◌≡◌, IfOk, map};
+ghost use Rattle.std.specs.Prelude.{◌≡◌, IfOk, IsPermutation, length, map};
+ghost use Rattle.std.specs.List.{range_with_len};
 ghost use Rattle.planar_apart.specs.Meetings.{box_of};
 
-use grid_index::segment_box;
+use grid_index::{order_of, segment_box};
 use std::alloc::Global;
 use tgap_model::{LabelledSegment, List, Memory, Window};
 
@@ -23,4 +24,13 @@ pub fn boxes_of(alloc: Global, segments: &[LabelledSegment]) -> Result<List<Wind
         boxes.push(box_of(s))?;
     }
     Ok(boxes)
+}
+
+/// The numbers of the segments, each once, in an order in which segments that are near one another in the plane mostly
+/// stand near one another. It takes the time of a sort.
+pub fn near_order(alloc: Global, segments: &[LabelledSegment]) -> Result<Vec<usize>, Memory>
+    ensures { IfOk result (λ order. IsPermutation (range_with_len 0 (length segments.now)) order.items) }
+{
+    let boxes = boxes_of(alloc, segments)?;
+    order_of(alloc, boxes.as_slice())
 }

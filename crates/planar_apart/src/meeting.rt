@@ -76,15 +76,6 @@ fn may_meet(a: &NumberedSegment, b: &NumberedSegment) -> bool
     }
 }
 
-/// Whether two segments meet.
-pub fn do_meet(a: &NumberedSegment, b: &NumberedSegment) -> bool
-    requires first { IsTrue (is_proper a.now.segment) }
-    requires second { IsTrue (is_proper b.now.segment) }
-    ensures { result ≡ false → meeting_of a.now b.now ≡ None }
-{
-    may_meet(a, b) && meeting_of(a, b).is_some()
-}
-
 /// The earlier one of a meeting and that of two segments, where the second of these has the greater number.
 pub fn earlier_above(
     least: Option<Meeting>,

@@ -1,64 +1,22 @@
-//! The least pair of segments that meet. Whether there is one is asked first, in any order and side by side; only then is the
-//! least one looked for, by number, so that a map with very many meetings is refused as soon as a sound one is accepted.
+//! The least pair of segments that meet. Whether there may be one is told by a sweep; only then is the least one looked
+//! for, by number.
 
-ghost use Rattle.std.specs.Prelude.{◌≡◌, ◌<◌, ◌-◌, ◌^◌, IsTrue, IfOk, false, length, option_map};
+ghost use Rattle.std.specs.Prelude.{◌≡◌, ℕ, ◌<◌, ◌-◌, ◌^◌, IsTrue, IfOk, false, length, option_map};
 ghost use Rattle.std.specs.List.{list_all};
 ghost use Rattle.tgap_model.specs.Partition.{is_proper, meeting_from};
 ghost use Rattle.planar_apart.specs.Meetings.{meets};
-ghost use Rattle.planar_apart.specs.Fans.{IsFan, AreFanEnds};
-ghost use Rattle.planar_apart.specs.Rows.{IsRow, HasNoneBehind, HasNone, IsLeastAbove, IsLeastByNumber};
+ghost use Rattle.planar_apart.specs.Doubts.{is_doubtful, Suffice};
+ghost use Rattle.planar_apart.specs.Rows.{IsRow, numbered, IsLeastAbove, IsLeastByNumber};
 
-use crate::fan::fan_ends;
-use crate::hubs::order_by_hubs;
-use crate::meeting::{Meeting, do_meet, earlier_above};
+use crate::boxes::near_order;
+use crate::doubt::{doubtful_of, doubts_of, is_doubtful};
+use crate::meeting::{Meeting, earlier_above};
 use crate::row::{NumberedSegment, row_boxes, row_of};
 use crate::sight::Sight;
 use grid_index::BoxTree;
-use rayon::prelude::*;
+use planar_sweep::all_apart;
 use std::alloc::Global;
-use std::thread::Threads;
 use tgap_model::{LabelledSegment, Memory};
-
-/// Whether the segment at this place of the row meets one behind it in the row. It is looked for among those behind its fan
-/// whose boxes it may cross, as far as the first that it meets.
-fn meets_behind(row: &[NumberedSegment], tree: &BoxTree, place: usize, fan_end: usize) -> bool
-    requires inside { place < length row.now }
-    requires row { IsRow row.now tree.now }
-    requires fan { IsFan row.now place fan_end }
-    ensures { result ≡ false → HasNoneBehind row.now place }
-{
-    let segment = &row[place];
-    let sight = Sight::of(&segment.segment);
-    let mut at = tree.next(&sight, fan_end);
-    'near: while at < row.len() {
-        if do_meet(segment, &row[at]) {
-            return true;
-        }
-        at = tree.next(&sight, at + 1);
-    }
-    false
-}
-
-/// Whether two segments of the row meet. Parts of the row are looked at side by side, by as many threads as there are
-/// processors.
-fn any_meet<R: Threads + Sync>(
-    rt: &R,
-    row: &[NumberedSegment],
-    tree: &BoxTree,
-    fan_ends: &[usize],
-) -> bool
-    requires row { IsRow row.now tree.now }
-    requires fans { AreFanEnds row.now fan_ends.now }
-    ensures { result ≡ false → HasNone row.now }
-{
-    (0..row.len()).into_par_iter().any(
-        rt,
-        |place: usize| -> bool
-            requires { (place < length row.now) × IsRow row.now tree.now × AreFanEnds row.now fan_ends.now }
-            ensures { result ≡ false → HasNoneBehind row.entry.now place }
-        { meets_behind(row, tree, place, fan_ends[place]) },
-    )
-}
 
 /// The least meeting of a segment with one of the row that has a greater number.
 fn least_above(row: &[NumberedSegment], tree: &BoxTree, first: &NumberedSegment) -> Option<Meeting>
@@ -76,16 +34,45 @@ fn least_above(row: &[NumberedSegment], tree: &BoxTree, first: &NumberedSegment)
     least
 }
 
-/// The least meeting of the segments, which stand in the row in some order. The segments are asked by number, as far as the
-/// first one that meets one of a greater number.
+/// The least meeting of a segment with one of greater number. One that is not doubtful is held to the doubtful ones
+/// alone.
+fn least_of(
+    doubts: &[bool],
+    few: &[NumberedSegment],
+    few_tree: &BoxTree,
+    row: &[NumberedSegment],
+    tree: &BoxTree,
+    first: &NumberedSegment,
+) -> Option<Meeting>
+    requires few { IsRow few.now few_tree.now }
+    requires row { IsRow row.now tree.now }
+    requires proper { IsTrue (is_proper first.now.segment) }
+    requires suffice { is_doubtful doubts.now first.now.number ≡ false → Suffice few.now row.now first.now }
+    ensures { IsLeastAbove row.now first.now result }
+{
+    if is_doubtful(doubts, first.number as usize) {
+        least_above(row, tree, first)
+    } else {
+        least_above(few, few_tree, first)
+    }
+}
+
+/// The least meeting of the segments, which stand in the row in some order. The segments are asked by number, as far as
+/// the first one that meets one of a greater number.
 fn least_by_number(
     segments: &[LabelledSegment],
+    doubts: &[bool],
+    few: &[NumberedSegment],
+    few_tree: &BoxTree,
     row: &[NumberedSegment],
     tree: &BoxTree,
 ) -> Option<Meeting>
+    requires doubtful { IsRow few.now few_tree.now }
     requires row { IsRow row.now tree.now }
     requires proper { IsTrue (list_all is_proper segments.now) }
     requires few { length segments.now < 2 ^ 32 - 1 }
+    requires suffice { (i : ℕ) → i < length segments.now → is_doubtful doubts.now i ≡ false
+        → Suffice few.now row.now (numbered segments.now i) }
     ensures { IsLeastByNumber segments.now row.now result }
 {
     for i in 0..segments.len() {
@@ -93,7 +80,7 @@ fn least_by_number(
             number: i as u32,
             segment: segments[i],
         };
-        if let Some(meeting) = least_above(row, tree, &first) {
+        if let Some(meeting) = least_of(doubts, few, few_tree, row, tree, &first) {
             return Some(meeting);
         }
     }
@@ -101,22 +88,32 @@ fn least_by_number(
 }
 
 /// The least pair that meets.
-pub fn first_pair<R: Threads + Sync>(
-    rt: &R,
-    alloc: Global,
-    segments: &[LabelledSegment],
-) -> Result<Option<Meeting>, Memory>
+fn least_pair(alloc: Global, segments: &[LabelledSegment]) -> Result<Option<Meeting>, Memory>
     requires proper { IsTrue (list_all is_proper segments.now) }
     requires few { length segments.now < 2 ^ 32 - 1 }
     ensures { IfOk result (λ found. option_map meets found ≡ meeting_from 0 segments.now) }
 {
-    let order = order_by_hubs(alloc, segments)?;
+    let doubts = doubts_of(alloc, segments)?;
+    let order = near_order(alloc, segments)?;
+    let numbers = doubtful_of(alloc, &order, &doubts)?;
+    let doubtful = row_of(alloc, segments, &numbers)?;
     let numbered = row_of(alloc, segments, &order)?;
+    let few = doubtful.as_slice();
     let row = numbered.as_slice();
-    let fan_ends = fan_ends(alloc, row)?;
+    let few_tree = BoxTree::of(alloc, row_boxes(alloc, few)?)?;
     let tree = BoxTree::of(alloc, row_boxes(alloc, row)?)?;
-    if !any_meet(rt, row, &tree, &fan_ends) {
+    Ok(least_by_number(segments, &doubts, few, &few_tree, row, &tree))
+}
+
+/// The least pair that meets, which is looked for only where a sweep does not show that there is none.
+pub fn first_pair(alloc: Global, segments: &[LabelledSegment]) -> Result<Option<Meeting>, Memory>
+    requires proper { IsTrue (list_all is_proper segments.now) }
+    requires few { length segments.now < 2 ^ 32 - 1 }
+    ensures { IfOk result (λ found. option_map meets found ≡ meeting_from 0 segments.now) }
+{
+    let apart = all_apart(alloc, segments)?;
+    if apart {
         return Ok(None);
     }
-    Ok(least_by_number(segments, row, &tree))
+    least_pair(alloc, segments)
 }

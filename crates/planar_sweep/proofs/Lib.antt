@@ -1,0 +1,11 @@
+pub mod Gaps
+pub mod Heights
+pub mod Squeezed
+pub mod Moments
+pub mod Neighbours
+pub mod EventFacts
+pub mod Steps
+pub mod Whole
+pub mod Forward
+pub mod Shared
+pub mod Labels

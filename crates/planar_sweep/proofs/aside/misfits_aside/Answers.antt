@@ -1,0 +1,19 @@
+use Rattle.std.proofs.Common.{◌<◌, ℕ, List, length, All, sym, subst, arith}
+use Rattle.std.proofs.lemmas.List.Elements.{All-nil}
+use Rattle.planar_sweep.specs.declared.events.Event.{Event}
+use Rattle.planar_sweep.proofs.EventFacts.{events_real}
+use Rattle.planar_sweep.proofs.Whole.{near_ready}
+use Rattle.planar_sweep.proofs.aside.misfits_aside.Goals as goal
+
+pub events_of-requires-clause-near : goal.events_of-requires-clause-near
+events_of-requires-clause-near c = near_ready c.args.segs.now c.requires.ready
+
+pub loop-k-init : goal.loop-k-init
+loop-k-init c = subst (λ (row : List ℕ). All (λ n. n < length c.args.segs.now) row) (sym c.new-row.ensures) (All-nil (λ n. n < length c.args.segs.now))
+
+pub pass-requires-clause-number : goal.pass-requires-clause-number
+pass-requires-clause-number c =
+    let segs = c.args.segs.now in
+    let events = c.in_ok-events.events.items in
+    let short : c.loop-k.k < length events = omega (arith, c.loop-k-test.true, c.len-k-end.ensures, c.in_ok-events.events.ok.0) in
+    subst (λ (e : Event). e.number < length segs) (sym c.index.ensures) (events_real segs events c.in_ok-events.ensures c.loop-k.k c.index.result.now short).known

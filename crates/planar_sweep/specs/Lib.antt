@@ -1,0 +1,4 @@
+pub mod Over
+pub mod Times
+pub mod Rows
+pub mod Ends

@@ -1,0 +1,181 @@
+//! Arcs whose segments are apart, and arcs of which two meet.
+
+use crate::labelled::{are_apart, left_by_sweep, segments_of};
+use std::alloc::Global;
+use std::test::Fail;
+use tgap_model::{LabelledSegment, MAX_COORDINATE, Memory};
+
+/// The greatest coordinate.
+const M: i64 = MAX_COORDINATE;
+
+#[test]
+fn arcs_that_meet_only_at_their_ends_are_apart(rt: HostRuntime) -> Result<(), Fail> {
+    let alloc = rt.alloc();
+    let cases: [(&str, &[(u32, i64, i64)]); 12] = [
+        ("none", &[]),
+        ("one", &[(0, 0, 0), (0, 3, 4)]),
+        (
+            "side by side",
+            &[(0, 0, 0), (0, 10, 0), (1, 0, 1), (1, 10, 1)],
+        ),
+        (
+            "one end in common",
+            &[(0, 0, 0), (0, 10, 10), (1, 0, 0), (1, 10, 9)],
+        ),
+        (
+            "both ends in common",
+            &[
+                (0, 0, 0),
+                (0, 5, 5),
+                (0, 10, 0),
+                (1, 0, 0),
+                (1, 5, -5),
+                (1, 10, 0),
+            ],
+        ),
+        (
+            "level, one behind the other",
+            &[(0, 0, 0), (0, 10, 0), (1, 10, 0), (1, 20, 0)],
+        ),
+        (
+            "level, with a gap",
+            &[(0, 0, 0), (0, 10, 0), (1, 11, 0), (1, 20, 0)],
+        ),
+        (
+            "upright, one over the other",
+            &[(0, 0, 0), (0, 0, 10), (1, 0, 10), (1, 0, 20)],
+        ),
+        (
+            "upright, with a gap",
+            &[(0, 0, 0), (0, 0, 9), (1, 0, 10), (1, 0, 20)],
+        ),
+        (
+            "upright at the end of a slanted one",
+            &[(0, 0, 0), (0, 5, 5), (1, 5, 5), (1, 5, -5)],
+        ),
+        (
+            "a ring",
+            &[(0, 0, 0), (0, 10, 0), (0, 10, 10), (0, 0, 10), (0, 0, 0)],
+        ),
+        (
+            "along the plane",
+            &[(0, -M, -M), (0, M, M), (1, -M, 1 - M), (1, M - 1, M)],
+        ),
+    ];
+    for (name, rows) in cases {
+        let segments = segments_of(alloc, rows)?;
+        let apart = are_apart(alloc, &segments)?;
+        assert_eq!(rt; apart, Some(true), "{name}");
+    }
+    Ok(())
+}
+
+#[test]
+fn arcs_that_meet_elsewhere_are_not(rt: HostRuntime) -> Result<(), Fail> {
+    let alloc = rt.alloc();
+    let cases: [(&str, &[(u32, i64, i64)]); 12] = [
+        (
+            "two that cross",
+            &[(0, 0, 0), (0, 10, 10), (1, 0, 10), (1, 10, 0)],
+        ),
+        (
+            "an end within another",
+            &[(0, 0, 0), (0, 10, 10), (1, 5, 5), (1, 9, 0)],
+        ),
+        (
+            "one and the same",
+            &[(0, 0, 0), (0, 10, 10), (1, 0, 0), (1, 10, 10)],
+        ),
+        (
+            "one and the same, turned",
+            &[(0, 0, 0), (0, 10, 0), (1, 10, 0), (1, 0, 0)],
+        ),
+        (
+            "level, one on the other",
+            &[(0, 0, 0), (0, 10, 0), (1, 5, 0), (1, 15, 0)],
+        ),
+        (
+            "upright, one on the other",
+            &[(0, 0, 0), (0, 0, 10), (1, 0, 20), (1, 0, 5)],
+        ),
+        (
+            "upright through a level one",
+            &[(0, 0, 0), (0, 10, 0), (1, 5, -5), (1, 5, 5)],
+        ),
+        (
+            "upright on a level one",
+            &[(0, 0, 0), (0, 10, 0), (1, 5, 0), (1, 5, 5)],
+        ),
+        (
+            "a vertex that an end has",
+            &[(0, 0, 0), (0, 5, 5), (0, 10, 0), (1, 5, 5), (1, 5, 10)],
+        ),
+        ("a spike", &[(0, 0, 0), (0, 10, 0), (0, 5, 0)]),
+        (
+            "an arc that crosses itself",
+            &[(0, 0, 0), (0, 10, 10), (0, 10, 0), (0, 0, 10)],
+        ),
+        (
+            "across the plane",
+            &[(0, -M, -M), (0, M, M), (1, -M, M), (1, M, 1 - M)],
+        ),
+    ];
+    for (name, rows) in cases {
+        let segments = segments_of(alloc, rows)?;
+        let apart = are_apart(alloc, &segments)?;
+        assert_eq!(rt; apart, Some(false), "{name}");
+    }
+    Ok(())
+}
+
+/// The rows of so many arcs from one point to points above each other.
+fn spokes(alloc: Global, count: u32) -> Result<Vec<(u32, i64, i64)>, Memory> {
+    let mut rows = Vec::new(alloc);
+    for arc in 0..count {
+        rows.push((arc, 0, 0))?;
+        rows.push((arc, 1000, i64::from(arc)))?;
+    }
+    Ok(rows)
+}
+
+/// The rows of so many slanting arcs side by side.
+fn strips(alloc: Global, count: u32) -> Result<Vec<(u32, i64, i64)>, Memory> {
+    let mut rows = Vec::new(alloc);
+    for arc in 0..count {
+        rows.push((arc, 0, i64::from(arc)))?;
+        rows.push((arc, 100_000, 100_000 + i64::from(arc)))?;
+    }
+    Ok(rows)
+}
+
+/// The segments of so many slanting arcs and of an upright one across them.
+fn crossed_strips(alloc: Global, count: u32) -> Result<Vec<LabelledSegment>, Memory> {
+    let mut rows = strips(alloc, count)?;
+    rows.push((count, 50_000, 0))?;
+    rows.push((count, 50_000, 200_000))?;
+    segments_of(alloc, &rows)
+}
+
+#[test]
+fn thousands_at_one_point_or_side_by_side(rt: HostRuntime) -> Result<(), Fail> {
+    let alloc = rt.alloc();
+    for rows in [spokes(alloc, 4000)?, strips(alloc, 4000)?] {
+        let segments = segments_of(alloc, &rows)?;
+        let apart = are_apart(alloc, &segments)?;
+        assert_eq!(rt; apart, Some(true));
+    }
+    let crossed = crossed_strips(alloc, 4000)?;
+    let apart = are_apart(alloc, &crossed)?;
+    assert_eq!(rt; apart, Some(false));
+    Ok(())
+}
+
+#[test]
+fn what_a_sweep_leaves_is_apart(rt: HostRuntime) -> Result<(), Fail> {
+    let alloc = rt.alloc();
+    let crossed = crossed_strips(alloc, 4000)?;
+    let left = left_by_sweep(alloc, &crossed)?;
+    let apart = are_apart(alloc, &left)?;
+    assert_eq!(rt; (apart, 3990 < left.len()), (Some(true), true));
+    Ok(())
+}
