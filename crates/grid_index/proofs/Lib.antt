@@ -4,6 +4,7 @@ pub mod Meeting
 pub mod Towers
 pub mod Hulls
 pub mod Sorted
+pub mod Counted
 pub mod Ordering
 pub mod Pieces
 pub mod Renewal

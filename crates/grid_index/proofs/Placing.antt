@@ -322,11 +322,36 @@ pub record IsSwept (gone : List ℕ) (old now : List Edge) (next kept i : ℕ) :
   pub filtered : FiltersInPlace (λ (e : Edge). not (list_any (λ k. k == e.key) gone)) old now kept i
   pub passed : (j : ℕ) → i ≤ j → j < length old → AreBelow gone next (edge_at old j).key
 
-pub IsSwept-start : (gone : List ℕ) (edges : List Edge) → IsSwept gone edges edges 0 0 0
-IsSwept-start gone edges = record {
-  filtered = record { front = refl; rest = refl; behind = omega arith; within = omega arith; long = refl };
+front_stays : (p : Edge → Bool) (edges : List Edge) (n : ℕ) → ((j : ℕ) → j < n → j < length edges → p (edge_at edges j) ≡ true) → take n edges ≡ filter p (take n edges)
+front_stays p [] zero h = refl
+front_stays p [] (suc n) h = refl
+front_stays p (e ∷ edges) zero h = refl
+front_stays p (e ∷ edges) (suc n) h =
+    ap (λ (es : List Edge). e ∷ es) (front_stays p edges n (λ j l s. h (suc j) (omega (arith, l)) (omega (arith, s))))
+    ∙ sym (ap (λ (b : Bool). cond b (e ∷ filter p (take n edges)) (filter p (take n edges))) (h 0 (omega arith) (omega arith)))
+
+-- the edges before the first one that goes stay
+pub IsSwept-start : (gone : List ℕ) (edges : List Edge) (first : ℕ) → first ≤ length edges
+    → ((j : ℕ) → j < first → list_any (λ k. k == (edge_at edges j).key) gone ≡ false) → IsSwept gone edges edges 0 first first
+IsSwept-start gone edges first within before = record {
+  filtered = record {
+    front = front_stays (λ (e : Edge). not (list_any (λ k. k == e.key) gone)) edges first (λ j l s. ap not (before j l));
+    rest = refl;
+    behind = omega arith;
+    within = within;
+    long = refl;
+  };
   passed = λ j l m k a b. absurd (omega arith);
 }
+
+-- where edges ascend, those before one that has the first of keys that do not fall have none of the keys
+pub none_before : (gone : List ℕ) (edges : List Edge) (place : ℕ) → IsNonDecreasing gone → AllPairs (λ e f. e.key < f.key) edges → place < length edges
+    → (edge_at edges place).key ≡ get_or gone 0 0 → (j : ℕ) → j < place → list_any (λ k. k == (edge_at edges j).key) gone ≡ false
+none_before gone edges place fall up within at j l = list_any_none (λ k. k == (edge_at edges j).key) gone (λ i d s.
+    let less = up j place no_edge l within in
+    let le = fall 0 i d (omega arith) s in
+    let same = get_or_default gone 0 d 0 (omega (arith, s)) in
+    differ (get_or gone i d) (edge_at edges j).key (λ e. absurd (omega (arith, less, at, le, same, e))))
 
 module _ (gone : List ℕ) (old now : List Edge) (next kept i later : ℕ) (x : Edge) (up : AllPairs (λ e f. e.key < f.key) old) (l : i < length now) (is : x ≡ get_or now i x) (upto : AreUpTo gone later x.key)
     (h : IsSwept gone old now next kept i) where

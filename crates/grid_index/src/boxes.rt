@@ -1,7 +1,9 @@
 //! Boxes by their places, of which there are fewer than 32 bits can count.
 
-ghost use Rattle.std.specs.Prelude.{◌≡◌, ◌<◌, ◌-◌, ◌^◌, length, All, IfOk};
+ghost use Rattle.std.specs.Prelude.{◌≡◌, ◌<◌, ◌-◌, ◌^◌, length, IsPermutation, All, IfOk, IfSome, IfNone};
+ghost use Rattle.grid_index.specs.Boxes.{meets};
 ghost use Rattle.grid_index.specs.Near.{near_boxes};
+ghost use Rattle.grid_index.specs.Picked.{box_at};
 
 use crate::places::Places;
 use std::alloc::Global;
@@ -54,8 +56,35 @@ impl EdgeBoxes {
         Ok(EdgeBoxes { places })
     }
 
+    /// The places of the boxes that meet a closed window, each once, in no told order, or none where there are more
+    /// than `most`. Its time is that of the places that it gives, and little more, and where it gives none that of
+    /// `most` places.
+    pub fn meeting(
+        &self,
+        alloc: Global,
+        area: Window,
+        most: usize,
+    ) -> Result<Option<List<u32>>, Memory>
+        ensures few { IfOk result (λ found. IfSome found (λ places. IsPermutation (near_boxes area self.now) places)) }
+        ensures many { IfOk result (λ found. IfNone found (most < length (near_boxes area self.now))) }
+    {
+        let found = self.places.meeting(alloc, &area, most)?;
+        match found {
+            Some(places) => Ok(Some(narrowed(alloc, &places)?)),
+            None => Ok(None),
+        }
+    }
+
+    /// Whether the box at a place meets a closed window.
+    pub fn is_near(&self, place: u32, area: &Window) -> bool
+        requires { place < length self.now }
+        ensures { result ≡ meets area.now (box_at self.now place) }
+    {
+        self.places.is_near(place as usize, area)
+    }
+
     /// The places of the boxes that meet a closed window, in ascending order, each once. Its time is that of the places
-    /// that it gives, and little more.
+    /// that it gives, and of a sort of them.
     pub fn near(&self, alloc: Global, area: Window) -> Result<List<u32>, Memory>
         ensures { IfOk result (λ places. places ≡ near_boxes area self.now) }
     {

@@ -1,6 +1,6 @@
 //! Edges in order of key, changed where they stand.
 
-ghost use Rattle.std.specs.Prelude.{◌≡◌, ◌≢◌, ◌<◌, ◌≤◌, ◌+◌, ◌++◌, ◌∷◌, [], ◌==◌, filter, length, All, AllPairs, Contains, IfSome, IfNone, IsPermutation, IfOk};
+ghost use Rattle.std.specs.Prelude.{◌≡◌, ◌≢◌, ◌<◌, ◌≤◌, ◌+◌, ◌++◌, ◌∷◌, [], ◌==◌, ℕ, false, filter, length, All, AllPairs, Contains, IfSome, IfNone, IsPermutation, IfOk};
 ghost use Rattle.std.specs.Bool.{OnTrue};
 ghost use Rattle.std.specs.Vec.{vec_capacity, vec_len};
 ghost use Rattle.std.specs.List.{list_any};
@@ -88,7 +88,24 @@ fn is_next(keys: &[u32], next: &mut usize, key: u32) -> bool
     }
 }
 
-/// Takes out the edges with these keys. Keys and edges ascend, and the others move up in one pass.
+/// A place before which no edge has one of these keys. Keys and edges ascend.
+fn first_gone(edges: &[Edge], gone: &[u32]) -> usize
+    requires gone { IsNonDecreasing gone.now }
+    requires edges { AllPairs (λ e f. e.key < f.key) edges.now }
+    ensures within { result ≤ length edges.now }
+    ensures before { (j : ℕ) → j < result → list_any (λ k. k == (edge_at edges.now j).key) gone.now ≡ false }
+{
+    if gone.is_empty() {
+        return 0;
+    }
+    match place_of(edges, gone[0]) {
+        Some(place) => place,
+        None => 0,
+    }
+}
+
+/// Takes out the edges with these keys. Keys and edges ascend, and the others behind the first one that goes move up in
+/// one pass.
 fn take_out(edges: &mut Vec<Edge>, gone: &[u32])
     requires gone { IsNonDecreasing gone.now }
     requires edges { AllPairs (λ e f. e.key < f.key) edges.old.items }
@@ -97,9 +114,10 @@ fn take_out(edges: &mut Vec<Edge>, gone: &[u32])
     if gone.is_empty() {
         return;
     }
+    let first = first_gone(edges, gone);
     let mut next = 0;
-    let mut kept = 0;
-    for i in 0..edges.len() {
+    let mut kept = first;
+    for i in first..edges.len() {
         if !is_next(gone, &mut next, edges[i].key) {
             edges.swap(kept, i);
             kept += 1;

@@ -1,11 +1,13 @@
 //! Boxes in any order, looked up by a tree over them.
 
-ghost use Rattle.std.specs.Prelude.{◌≡◌, ◌<◌, map, length, get_or, All, IfOk};
+ghost use Rattle.std.specs.Prelude.{◌≡◌, ◌<◌, map, length, get_or, IsPermutation, All, IfOk, IfSome, IfNone};
+ghost use Rattle.grid_index.specs.Boxes.{meets};
 ghost use Rattle.grid_index.specs.Near.{near_boxes};
 ghost use Rattle.grid_index.specs.Picked.{box_at};
 
 use crate::order::order_of;
 use crate::tree::BoxTree;
+use crate::window::meets;
 use std::alloc::Global;
 use std::marker::Model;
 use tgap_model::{List, Memory, Window};
@@ -63,6 +65,31 @@ impl Places {
         let row = picked(alloc, boxes.as_slice(), &order)?;
         let tree = BoxTree::of(alloc, row)?;
         Ok(Places { boxes, order, tree })
+    }
+
+    /// The places at which a box meets the area, each once, in no told order, or none where there are more than `most`.
+    pub fn meeting(
+        &self,
+        alloc: Global,
+        area: &Window,
+        most: usize,
+    ) -> Result<Option<Vec<usize>>, Memory>
+        ensures few { IfOk result (λ found. IfSome found (λ places. IsPermutation (near_boxes area.now self.now) places.items)) }
+        ensures many { IfOk result (λ found. IfNone found (most < length (near_boxes area.now self.now))) }
+    {
+        let found = self.tree.near_up_to(alloc, area, most)?;
+        match found {
+            Some(places) => Ok(Some(looked_up(&self.order, places))),
+            None => Ok(None),
+        }
+    }
+
+    /// Whether the box at a place meets the area.
+    pub fn is_near(&self, place: usize, area: &Window) -> bool
+        requires { place < length self.now }
+        ensures { result ≡ meets area.now (box_at self.now place) }
+    {
+        meets(area, &self.boxes.as_slice()[place])
     }
 
     /// The places, in ascending order, at which a box meets the area.

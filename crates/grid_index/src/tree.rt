@@ -1,6 +1,6 @@
 //! A packed tree over a row of boxes.
 
-ghost use Rattle.std.specs.Prelude.{◌≡◌, ◌<◌, ◌≤◌, ◌*◌, ◌++◌, List as Sequence, length, filter, slice_set, All, IfOk, OnOk};
+ghost use Rattle.std.specs.Prelude.{◌≡◌, ◌<◌, ◌≤◌, ◌*◌, ◌++◌, List as Sequence, length, filter, slice_set, All, IfOk, IfSome, IfNone, OnOk};
 ghost use Rattle.std.specs.Vec.{vec_capacity, vec_len};
 ghost use Rattle.tgap_model.specs.declared.geometry.Window.{Window as Area};
 ghost use Rattle.grid_index.specs.Near.{near_boxes, IsNextHit};
@@ -187,6 +187,29 @@ impl BoxTree {
             parents = meeting(alloc, level.as_slice(), &parents, area)?;
         }
         meeting(alloc, self.boxes.as_slice(), &parents, area)
+    }
+
+    /// The places, in ascending order, at which a box meets the area, or none where there are more than `most`. No more
+    /// boxes are looked at than it takes to see that.
+    pub fn near_up_to(
+        &self,
+        alloc: Global,
+        area: &Window,
+        most: usize,
+    ) -> Result<Option<Vec<usize>>, Memory>
+        ensures few { IfOk result (λ found. IfSome found (λ places. places.items ≡ near_boxes area.now self.now)) }
+        ensures many { IfOk result (λ found. IfNone found (most < length (near_boxes area.now self.now))) }
+    {
+        let mut places = Vec::new(alloc);
+        let mut at = self.next(area, 0);
+        'walk: while at < self.boxes.len() {
+            if places.len() >= most {
+                return Ok(None);
+            }
+            places.push(at)?;
+            at = self.next(area, at + 1);
+        }
+        Ok(Some(places))
     }
 
     /// The boxes.

@@ -1,18 +1,22 @@
 -- Words that are numbers in canonical decimal.
-use Rattle.std.proofs.Common.{◌≡◌, ◌≢◌, ◌<◌, ◌^◌, ℕ, suc, Bool, true, false, cond, ◌&&◌, ℤ, pos, negsuc, neg_ℤ, ◌≤ℤ◌, FitsSigned, List, [], ◌∷◌, get_or, Option, Some, None, Result, Ok, Err, bytes_eq, decimal, IsUtf8, MatchResult, w64, refl, sym, ap, ◌∙◌, subst, arith, ne_eqb}
+use Rattle.std.proofs.Common.{◌≡◌, ◌≢◌, ◌<◌, ◌^◌, ◌==◌, ◌⊎◌, inl, inr, ⊎_elim, ℕ, zero, suc, length, Bool, true, false, cond, ◌&&◌, ℤ, pos, negsuc, neg_ℤ, ◌≤ℤ◌, FitsSigned, List, [], ◌∷◌, get_or, Option, Some, None, IfSome, IfNone, Result, Ok, Err, bytes_eq, decimal, IsUtf8, MatchResult, w64, refl, sym, ap, ◌∙◌, subst, arith, ne_eqb}
 use Rattle.std.specs.Int.{IsInRange}
 use Rattle.std.specs.Result.{result_ok}
 use Rattle.std.specs.Fmt.{signed_decimal}
 use Rattle.std.specs.Str.Parse.{digits_value, AllDigits, ParsesSigned}
 use Rattle.std.proofs.lemmas.Int.{ints}
-use Rattle.std.proofs.lemmas.Bool.{false≢true, and_parts}
+use Rattle.std.proofs.lemmas.Bool.{and_parts}
 use Rattle.std.proofs.lemmas.Option.{cond_some}
 use Rattle.std.proofs.lemmas.Slice.Eq.{bytes_eq-Decides}
 use Rattle.std.proofs.lemmas.Str.{IsUtf8-from_ascii}
-use Rattle.std.proofs.lemmas.Str.Parse.{IsNumeralModel, numerals_by_value, tells_digits, not_in_digits}
-use Rattle.std.proofs.lemmas.Fmt.{digits_decimal, digits_value-decimal, decimal_nonempty, IsAscii-signed, parse-signed_decimal}
+use Rattle.std.proofs.lemmas.Str.Parse.{IsNumeralModel, numerals_by_value, tells_digits, not_in_digits, parse_signed_minus, parse_signed_plain}
+use Rattle.std.proofs.lemmas.Fmt.{digits_decimal, digits_value-decimal, decimal-digits_value, decimal_digit, decimal_nonempty, first_decimal, IsAscii-signed, parse-signed_decimal}
 use Rattle.tgap_model.specs.Base.{within}
 use Rattle.line_forms.specs.Texts.{word_value, number_of}
+use Rattle.plain_io.specs.Canonical.{IsPlain}
+
+abbrev ok_of : {E : Type 0} → ℤ → Result ℤ E
+ok_of z = Ok z
 
 own : IsNumeralModel (AllDigits 10) (digits_value 10)
 own = numerals_by_value (AllDigits 10) tells_digits
@@ -106,9 +110,64 @@ none_in_range least most n word p q spelled out z low high e =
     let same : n ≡ z = same_number word n z spelled.1 (fits_between least most z p q low high) spelled.0 e in
     out (rw same low, rw same high)
 
--- a word that differs from what a number is written as does not spell that number
-pub differs : (word text : List ℕ) (n z : ℤ) → text ≡ signed_decimal n → bytes_eq text word ≡ false → n ≡ z → word ≢ signed_decimal z
-differs word text n z written other same spelled =
-    let equal : text ≡ word = written ∙ ap signed_decimal same ∙ sym spelled in
-    let yes : bytes_eq text word ≡ true = (bytes_eq-Decides text word).1 equal in
-    absurd (false≢true (sym other ∙ yes))
+-- ---- words by how they begin
+
+eq_or : (m n : ℕ) → (m ≡ n) ⊎ (m ≢ n)
+eq_or m n = by (m == n) refl
+  where
+    by : (b : Bool) → (m == n) ≡ b → (m ≡ n) ⊎ (m ≢ n)
+    by true e = inl (grind arith)
+    by false e = inr (λ h. grind arith)
+
+-- what is written begins plainly
+pub written_plainly : (z : ℤ) → FitsSigned w64 z → IsPlain (signed_decimal z)
+written_plainly (pos zero) fits =
+    subst IsPlain (sym (decimal_digit 0 (omega arith))) (λ h. absurd (omega (arith, h)), λ h. omega arith, λ h. absurd (omega (arith, h)))
+written_plainly (pos (suc n)) fits =
+    let small : suc n < 2 ^ 64 = omega (arith, fits.sfits) in
+    let first = first_decimal (suc n) (omega arith) small in
+    (λ h. absurd (omega (arith, first, h)), λ h. absurd (omega (arith, first, h)), λ h. absurd (omega (arith, first, h)))
+written_plainly (negsuc n) fits =
+    let small : suc n < 2 ^ 64 = omega (arith, fits.sfits) in
+    let first = first_decimal (suc n) (omega arith) small in
+    (λ h. absurd (omega (arith, h)), λ h. absurd (omega (arith, h)), λ _ h. absurd (omega (arith, first, h)))
+
+-- a minus and digits without a zero in front are what is written for their number
+minus_spelled : (ds : List ℕ) → AllDigits 10 ds → 0 < length ds → get_or ds 0 0 ≢ 48 → digits_value 10 ds < 2 ^ 64
+    → signed_decimal (neg_ℤ (pos (digits_value 10 ds))) ≡ 45 ∷ ds
+minus_spelled ds digits some lead small =
+    by (digits_value 10 ds) refl (decimal-digits_value own ds digits some (λ h. absurd (lead h)) small)
+  where
+    by : (v : ℕ) → digits_value 10 ds ≡ v → decimal (digits_value 10 ds) ≡ ds → signed_decimal (neg_ℤ (pos (digits_value 10 ds))) ≡ 45 ∷ ds
+    by zero e written = absurd (lead (ap (λ (l : List ℕ). get_or l 0 0) (sym written ∙ (ap decimal e ∙ decimal_digit 0 (omega arith)))))
+    by (suc m) e written = ap (λ (v : ℕ). signed_decimal (neg_ℤ (pos v))) e ∙ ap (λ (l : List ℕ). 45 ∷ l) (sym (ap decimal e) ∙ written)
+
+-- a word that begins plainly and is parsed spells its number
+pub plainly_parsed : {E : Type 0} (word : List ℕ) (r : Result ℤ E) → ParsesSigned w64 10 word r → IfSome (result_ok r) (λ z. IsPlain word → word ≡ signed_decimal z)
+plainly_parsed word (Err e) h = tt
+plainly_parsed {E} [] (Ok z) h =
+    λ plain. (let p = parse_signed_plain own w64 [] (ok_of {E = E} z) h (λ (e : 0 ≡ 43). absurd (omega (arith, e))) (λ (e : 0 ≡ 45). absurd (omega (arith, e))) in absurd (omega (arith, p.0.1)))
+plainly_parsed {E} (c ∷ cs) (Ok z) h = λ plain. ⊎_elim (minus plain) (other plain) (eq_or c 45)
+  where
+    minus : IsPlain (c ∷ cs) → c ≡ 45 → c ∷ cs ≡ signed_decimal z
+    minus plain e =
+        let p = parse_signed_minus own w64 (c ∷ cs) (ok_of {E = E} z) h e in
+        let small : digits_value 10 cs < 2 ^ 64 = omega (arith, p.0.2) in
+        ap (λ (b : ℕ). b ∷ cs) e ∙ sym (ap signed_decimal p.1 ∙ minus_spelled cs p.0.0 p.0.1 (plain.2 e) small)
+
+    other : IsPlain (c ∷ cs) → c ≢ 45 → c ∷ cs ≡ signed_decimal z
+    other plain ne =
+        let p = parse_signed_plain own w64 (c ∷ cs) (ok_of {E = E} z) h plain.0 ne in
+        let small : digits_value 10 (c ∷ cs) < 2 ^ 64 = omega (arith, p.0.2) in
+        sym (ap signed_decimal p.1 ∙ decimal-digits_value own (c ∷ cs) p.0.0 p.0.1 (λ e. (let one = plain.1 e in omega (arith, one))) small)
+
+-- what is told of a number under a condition
+pub on_condition : {C : Type 0} (P Q : ℤ → Type 0) (o : Option ℤ) → C → IfSome o (λ n. C → P n) → IfSome o Q → IfSome o (λ n. P n × Q n)
+on_condition P Q None c p q = tt
+on_condition P Q (Some n) c p q = (p c, q)
+
+-- what is not read spells no number
+pub unread : (word : List ℕ) (o : Option ℤ) → ((n : ℤ) → FitsSigned w64 n → word ≡ signed_decimal n → o ≡ Some n)
+    → IfNone o ((n : ℤ) → FitsSigned w64 n → word ≢ signed_decimal n)
+unread word None h = λ n fits e. absurd (let none : None ≡ Some n = h n fits e in cc)
+unread word (Some m) h = tt

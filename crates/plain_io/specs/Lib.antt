@@ -20,3 +20,4 @@ pub mod Pieces
 pub mod Taking
 pub mod Fronts
 pub mod Fields
+pub mod Canonical

@@ -1,9 +1,10 @@
 //! Numbers in canonical decimal.
 
-ghost use Rattle.std.specs.Prelude.{◌≡◌, ◌≢◌, ℤ, ◌≤ℤ◌, ◌++◌, ◌∷◌, ◌↔◌, FitsSigned, Some, IfSome, IfNone, IsTrue, decimal, is_ok, if◌then◌else◌};
+ghost use Rattle.std.specs.Prelude.{◌≡◌, ◌≢◌, ℤ, ◌≤ℤ◌, ◌++◌, ◌∷◌, ◌↔◌, FitsSigned, Some, IfSome, IfNone, IsTrue, decimal, slice_index, is_ok, if◌then◌else◌};
 ghost use Rattle.std.specs.Int.{w64};
 ghost use Rattle.std.specs.Fmt.{signed_decimal};
 ghost use Rattle.line_forms.specs.Texts.{number_of};
+ghost use Rattle.plain_io.specs.Canonical.{IsPlain};
 
 use itoa::Buffer;
 use std::alloc::Global;
@@ -31,24 +32,38 @@ fn is_between(least: i64, number: i64, most: i64) -> bool
     least <= number && number <= most
 }
 
-/// The number of 64 bits that a word spells in canonical decimal: writing it again gives the word.
+/// The number of 64 bits that a word spells in canonical decimal, which is told by how it begins.
 fn canonical_number(word: &[u8]) -> Option<i64>
     ensures spelled { IfSome result (λ n. (word.now ≡ signed_decimal n) × FitsSigned w64 n) }
     ensures none { IfNone result ((n : ℤ) → FitsSigned w64 n → word.now ≢ signed_decimal n) }
 {
-    let number = parse(word)?;
-    let mut buffer = Buffer::new();
-    if buffer.format(number).as_bytes() == word {
-        Some(number)
-    } else {
-        None
+    if is_plain(word) { parse(word) } else { None }
+}
+
+/// Whether a word has no plus sign in front, no zero before another byte, and no zero behind a minus.
+fn is_plain(word: &[u8]) -> bool
+    ensures { IsTrue result ↔ IsPlain word.now }
+{
+    match byte_at(word, 0) {
+        b'+' => false,
+        b'-' => byte_at(word, 1) != b'0',
+        b'0' => word.len() <= 1,
+        _ => true,
     }
+}
+
+/// The byte at a place, or 0 behind the last one.
+fn byte_at(word: &[u8], place: usize) -> u8
+    ensures { result ≡ slice_index word.now place }
+{
+    word.get(place).copied().unwrap_or(0)
 }
 
 /// The number of 64 bits that a word is parsed as, in canonical decimal or not.
 fn parse(word: &[u8]) -> Option<i64>
     ensures fits { IfSome result (FitsSigned w64) }
     ensures complete { (n : ℤ) → FitsSigned w64 n → word.now ≡ signed_decimal n → result ≡ Some n }
+    ensures plain { IfSome result (λ n. IsPlain word.now → word.now ≡ signed_decimal n) }
 {
     let text = str::from_utf8(word).ok()?;
     text.parse().ok()

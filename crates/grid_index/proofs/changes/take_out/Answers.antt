@@ -1,5 +1,8 @@
-use Rattle.std.proofs.Common.{◌≡◌, ◌<◌, ℕ, List, true, false, length, sym, ap, ◌∙◌, arith, rules}
+use Rattle.std.proofs.Common.{◌≡◌, ◌<◌, ◌≤◌, ◌==◌, ℕ, List, true, false, length, sym, ap, ◌∙◌, subst, arith, rules}
+use Rattle.std.specs.List.{list_any}
+use Rattle.tgap_model.specs.declared.slice.Edge.{Edge}
 use Rattle.grid_index.specs.Live.{without_keys}
+use Rattle.grid_index.specs.Slots.{edge_at}
 use Rattle.grid_index.proofs.Placing.{none_tested, without_none, IsSwept-start, IsSwept-go, IsSwept-stay, IsSwept-same, IsSwept-end}
 use Rattle.grid_index.proofs.changes.take_out.Goals.{then-not-is_next, else-not-is_next}
 use Rattle.grid_index.proofs.changes.take_out.Goals as goal
@@ -10,7 +13,12 @@ returns-then-is_empty c =
     sym (ap (λ (l : List ℕ). without_keys l c.args.edges.now.items) none ∙ without_none c.args.edges.now.items)
 
 pub loop-i-init : goal.loop-i-init
-loop-i-init c = IsSwept-start c.args.gone.now c.args.edges.now.items
+loop-i-init c =
+    let gone = c.args.gone.now in
+    let first = c.first_gone-first.result in
+    let told = c.first_gone-first.ensures in
+    IsSwept-start gone c.args.edges.now.items first (subst (λ (es : List Edge). first ≤ length es) c.deref.ensures.value told.within)
+    (subst (λ (es : List Edge). (j : ℕ) → j < first → list_any (λ k. k == (edge_at es j).key) gone ≡ false) c.deref.ensures.value told.before)
 
 pub loop-i-preserved : goal.loop-i-preserved
 loop-i-preserved c =

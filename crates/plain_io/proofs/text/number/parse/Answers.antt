@@ -1,6 +1,8 @@
-use Rattle.std.proofs.Common.{sym, ap, ◌∙◌, IsUtf8}
+use Rattle.std.proofs.Common.{◌≡◌, sym, ap, ◌∙◌, subst, ℤ, List, ℕ, Option, IfSome, IsUtf8}
+use Rattle.std.specs.Fmt.{signed_decimal}
 use Rattle.std.specs.Result.{result_ok}
-use Rattle.plain_io.proofs.Numbers.{no_text, parsed, err_says, ok_says}
+use Rattle.plain_io.proofs.Numbers.{no_text, parsed, plainly_parsed, err_says, ok_says}
+use Rattle.plain_io.specs.Canonical.{IsPlain}
 use Rattle.plain_io.proofs.text.number.parse.Goals as goal
 
 pub returns-in_err-text-clause-complete : goal.returns-in_err-text-clause-complete
@@ -14,3 +16,11 @@ returns-clause-complete c =
     let some = sym c.ok.ensures.value ∙ c.in_ok-text.was in
     let same = ok_says _ _ c.from_utf8.result c.in_ok-text.text c.from_utf8.ensures.cases some in
     λ n fits e. c.ok-2.ensures.value ∙ ap result_ok (parsed c.in_ok-text.text.now c.parse.result c.parse.ensures.value.0 n fits (same.0 ∙ e))
+
+pub returns-clause-plain : goal.returns-clause-plain
+returns-clause-plain c =
+    let some = sym c.ok.ensures.value ∙ c.in_ok-text.was in
+    let same = ok_says _ _ c.from_utf8.result c.in_ok-text.text c.from_utf8.ensures.cases some in
+    subst (λ (o : Option ℤ). IfSome o (λ n. IsPlain c.args.word.now → c.args.word.now ≡ signed_decimal n)) (sym c.ok-2.ensures.value)
+    (subst (λ (w : List ℕ). IfSome (result_ok c.parse.result) (λ n. IsPlain w → w ≡ signed_decimal n)) same.0
+    (plainly_parsed c.in_ok-text.text.now c.parse.result c.parse.ensures.value.0))
