@@ -1,18 +1,18 @@
 -- Rows of arcs of which no point is left but the ends: turned round and put together they are so again, and their spans tell it.
-use Rattle.std.proofs.Common.{◌≡◌, ℕ, zero, suc, ◌+◌, ◌<◌, ◌≤◌, max, Bool, true, false, not, cond, ◌&&◌, ◌==◌, nat_le, nat_lt, List, All, [], ◌∷◌, ◌++◌, filter, reverse, drop, length, get_or, append_assoc, refl, sym, ap, ap₂, ◌∙◌, subst, arith}
+use Rattle.std.proofs.Common.{◌≡◌, ℕ, suc, ◌+◌, ◌<◌, ◌≤◌, max, Bool, true, false, not, cond, ◌&&◌, ◌==◌, nat_le, nat_lt, List, All, [], ◌∷◌, ◌++◌, filter, reverse, drop, length, get_or, append_assoc, refl, sym, ap, ap₂, ◌∙◌, subst, arith}
 use Rattle.std.proofs.Math.Nat.{le-max_left, le-max_right}
 use Rattle.std.proofs.lemmas.Bool.{and_parts, and_from, leb-true, le-leb, ltb-true, lt-ltb, eqb-false}
-use Rattle.std.proofs.lemmas.List.{append-nil, reverse-append, length-append, length-reverse}
+use Rattle.std.proofs.lemmas.List.{append-nil, reverse-append}
 use Rattle.std.proofs.lemmas.List.Elements.{filter-append, All-append}
 use Rattle.tgap_model.specs.declared.geometry.Point.{Point}
 use Rattle.tgap_model.specs.declared.base.BaseArc.{BaseArc}
 use Rattle.tgap_model.specs.Chains.{Link, Chain, first_point, last_point, arc_number, link_points, link_start, link_end, chain_start, chain_end, chain_points, has_links, turned_round}
-use Rattle.map_laws.proofs.ChainEnds.{turn, turn_start, turn_end}
+use Rattle.map_laws.proofs.ChainEnds.{turn_start, turn_end}
 use Rattle.map_laws.proofs.JoinPaths.{turned_links, append_links, append_start, append_end, turned_start, turned_end}
 use Rattle.edge_forest.specs.declared.span.Span.{Span}
 use Rattle.edge_forest.specs.Forest.{never}
 use Rattle.edge_forest.specs.Removed.{PointSteps, step_of}
-use Rattle.edge_forest.specs.Spent.{is_left, left_points, left_ends, IsBare, gone_step, is_past, turned_link, turned_span, joined_span, IsSpan}
+use Rattle.edge_forest.specs.Spent.{is_left, left_points, left_ends, IsBare, gone_step, is_past, turned_span, joined_span, IsSpan}
 use Rattle.edge_forest.specs.Walks.{chain_link}
 use Rattle.edge_forest.proofs.Alike.{turned_append, turned_twice}
 use Rattle.edge_forest.proofs.WalkedArcs.{AreArcs, turned_arcs}

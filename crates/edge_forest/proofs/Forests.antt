@@ -224,6 +224,7 @@ closed_spent arcs t high es s w = record {
   edges_count = w.edges_count ∙ sym (length-map es (closed_edge high));
   arc_steps = w.arc_steps;
   edge_spans = subst (λ (cs : List Chain). AreSpans arcs t cs s.edges.items) (sym (closed_chains high es)) w.edge_spans;
+  gone = w.gone;
 }
 
 module _ (made : ℕ) (g g' : Growth) (t : PointSteps) (w : IsForest (forest_of made false g t)) (few : length g.edges.items < 2 ^ 32 - 1) (all : made ≡ length (history_of g.base)) (less : made + 1 < never)

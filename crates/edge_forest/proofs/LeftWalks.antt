@@ -1,5 +1,5 @@
 -- The walk along an edge that writes the points that are left, from the last one to the first.
-use Rattle.std.proofs.Common.{◌≡◌, ℕ, ◌+◌, ◌<◌, ◌≤◌, Bool, true, false, not, cond, ◌||◌, List, All, [], ◌∷◌, ◌++◌, flat_map, map, filter, reverse, sum_by, drop, length, get_or, append_assoc, refl, sym, ap, ap₂, ◌∙◌, subst, arith}
+use Rattle.std.proofs.Common.{◌≡◌, ℕ, ◌<◌, ◌≤◌, Bool, true, false, cond, ◌||◌, List, All, [], ◌∷◌, ◌++◌, flat_map, filter, reverse, sum_by, drop, length, get_or, append_assoc, refl, sym, ap, ap₂, ◌∙◌, subst, arith}
 use Rattle.std.proofs.lemmas.List.{append-nil, reverse-append, reverse-reverse}
 use Rattle.std.proofs.lemmas.List.Concat.{flat_map-append}
 use Rattle.std.proofs.lemmas.List.Elements.{filter-append, All-append, All-weaker, All-map}
@@ -7,7 +7,7 @@ use Rattle.std.proofs.lemmas.List.Sums.{sum_by-append, sum_by-cons}
 use Rattle.std.proofs.lemmas.List.Sorted.{IsPermutation-reverse, All-permutation}
 use Rattle.tgap_model.specs.declared.geometry.Point.{Point}
 use Rattle.tgap_model.specs.declared.base.BaseArc.{BaseArc}
-use Rattle.tgap_model.specs.Chains.{Link, Chain, link_points, link_start, link_end, chain_start, chain_end, chain_points, turned_round}
+use Rattle.tgap_model.specs.Chains.{Chain, link_points, link_start, link_end, chain_start, chain_end, chain_points, turned_round}
 use Rattle.edge_forest.specs.declared.edge.Part.{Part}
 use Rattle.edge_forest.specs.declared.edge.ForestEdge.{ForestEdge}
 use Rattle.edge_forest.specs.declared.span.Span.{Span}

@@ -43,5 +43,6 @@ mod StepJoints
 mod StartJoints
 mod Steps
 mod Few
+mod LaidSteps
 pub mod Forests
 pub mod RemovedPoints

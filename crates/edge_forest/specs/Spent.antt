@@ -1,14 +1,15 @@
 -- Rows of arcs of which no point is left but the ends, and the tables that tell from which step on.
-use Rattle.std.specs.Prelude.{◌≡◌, ◌<◌, ℕ, max, Bool, true, false, not, ◌&&◌, ◌==◌, nat_le, nat_lt, List, [], ◌∷◌, filter, length, slice_index_or, get_or, if◌then◌else◌}
+use Rattle.std.specs.Prelude.{◌≡◌, ◌<◌, ◌≤◌, ◌+◌, ℕ, max, Bool, true, false, not, ◌&&◌, ◌==◌, nat_le, nat_lt, List, [], ◌∷◌, filter, map, length, slice_index_or, slice_range, get_or, if◌then◌else◌}
 use Rattle.std.specs.List.{All}
 use Rattle.tgap_model.specs.declared.geometry.Point.{Point}
 use Rattle.tgap_model.specs.declared.base.BaseArc.{BaseArc}
-use Rattle.tgap_model.specs.Chains.{Chain, chain_points, chain_start, chain_end, link_start, link_end, has_links, turned_round}
+use Rattle.tgap_model.specs.Chains.{Chain, arc_number, chain_points, chain_start, chain_end, link_start, link_end, has_links, turned_round}
 use Rattle.edge_forest.specs.declared.edge.Part.{Part}
 use Rattle.edge_forest.specs.declared.edge.ForestEdge.{ForestEdge}
 use Rattle.edge_forest.specs.declared.walk.Link.{Link}
 use Rattle.edge_forest.specs.declared.span.Span.{Span}
 use Rattle.edge_forest.specs.declared.spent.Spent.{Spent}
+use Rattle.edge_forest.specs.declared.gone_steps.GoneSteps.{GoneSteps}
 use Rattle.edge_forest.specs.Edges.{chains_of}
 use Rattle.edge_forest.specs.Forest.{never}
 use Rattle.edge_forest.specs.Removed.{PointSteps, step_of, is_gone_by}
@@ -67,6 +68,13 @@ pub record IsSpan (arcs : List BaseArc) (t : PointSteps) (c : Chain) (s : Span) 
 
 -- ---- tables
 
+-- Beside the points of each arc stand the steps at which they were removed.
+pub record AreGoneSteps (arcs : List BaseArc) (t : PointSteps) (gone : GoneSteps) : Type 0 where
+  pub count : length gone.starts.items ≡ length arcs
+  pub inside : (i : ℕ) → i < length arcs → get_or gone.starts.items i 0 + length (arc_number arcs i).points ≤ length gone.steps.items
+  pub each : (i : ℕ) → i < length arcs
+      → slice_range gone.steps.items (get_or gone.starts.items i 0) (get_or gone.starts.items i 0 + length (arc_number arcs i).points) ≡ map (step_of t) (arc_number arcs i).points
+
 -- the span of a part: by the steps of the arcs and the spans of the edges
 abbrev pub whole_span : List ℕ → List Span → Part → Span
 whole_span steps spans p =
@@ -89,9 +97,10 @@ AreSpans arcs t chains spans =
     → IsSpan arcs t (slice_index_or chains i [])
     (slice_index_or spans i (record { step = 0; first = record { arc = 0; turned = false }; last = record { arc = 0; turned = false } }))
 
--- a step for each arc, and a span for each edge
+-- a step for each arc, a span for each edge, and the steps of the points
 pub record AreSpent (arcs : List BaseArc) (t : PointSteps) (edges : List ForestEdge) (s : Spent) : Type 0 where
   pub arcs_count : length s.arcs.items ≡ length arcs
   pub edges_count : length s.edges.items ≡ length edges
   pub arc_steps : AreArcSteps arcs t s.arcs.items
   pub edge_spans : AreSpans arcs t (chains_of edges) s.edges.items
+  pub gone : AreGoneSteps arcs t s.gone

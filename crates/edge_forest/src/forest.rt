@@ -218,8 +218,8 @@ impl Forest {
     }
 
     /// The points of an edge after k steps, each junction once, less those removed at step k or before. Once the history is
-    /// closed the time is that of the points that are left and of the parts on the way to them, with a search among the
-    /// points of the map for each; before, that of all points of the edge.
+    /// closed the time is that of the points that are left and of the parts on the way to them; before, that of all points of
+    /// the edge, with a search among the points of the map for each.
     pub fn points_at(&self, alloc: Global, id: u32, k: u32) -> Result<List<Point>, Memory>
         requires { id < length self.now.edges }
         ensures { IfOk result (λ points. points
@@ -228,7 +228,7 @@ impl Forest {
         let arcs = self.growth.base.arcs().as_slice();
         let edges = self.growth.edges.as_slice();
         if self.closed {
-            return left_of_edge(alloc, arcs, edges, &self.removed, &self.spent, id, k);
+            return left_of_edge(alloc, arcs, edges, &self.spent, id, k);
         }
         let points = points_of(alloc, arcs, edges, id)?;
         Ok(self.removed.left_of(points, k))

@@ -1,63 +1,66 @@
 //! The points of an edge that are left after a step, without those parts that have none.
 
-ghost use Rattle.std.specs.Prelude.{◌≡◌, ◌<◌, ◌≤◌, ◌++◌, ◌||◌, ℕ, true, false, [], ◌∷◌, length, filter, reverse, drop, IfOk, if◌then◌else◌};
+ghost use Rattle.std.specs.Prelude.{◌≡◌, ◌<◌, ◌≤◌, ◌++◌, ◌||◌, ℕ, true, false, [], ◌∷◌, length, map, filter, reverse, drop, IfOk, if◌then◌else◌};
 ghost use Rattle.std.specs.List.{All};
 ghost use Rattle.tgap_model.specs.Chains.{link_points, link_start, link_end};
 ghost use Rattle.edge_forest.specs.Edges.{IsPart, edge_at, chain_of};
-ghost use Rattle.edge_forest.specs.Spent.{is_left, is_past, left_points, AreSpent};
+ghost use Rattle.edge_forest.specs.Removed.{PointSteps, step_of};
+ghost use Rattle.edge_forest.specs.Spent.{is_left, is_past, left_points, AreGoneSteps, AreSpent};
 ghost use Rattle.edge_forest.specs.Walks.{chain_link};
 
 use crate::edge::{ForestEdge, Part};
-use crate::removed::Removed;
+use crate::gone_steps::GoneSteps;
+use crate::removed::is_by;
 use crate::span::{Span, end_of, start_of};
 use crate::spent::Spent;
 use crate::walk::push_parts_of;
 use std::alloc::Global;
 use tgap_model::{BaseArc, List, Memory, Point};
 
-/// Puts a point at the end where it is left after k steps, and tells whether it is.
-fn push_left(
-    points: &mut Vec<Point>,
-    removed: &Removed,
-    point: &Point,
-    k: u32,
-) -> Result<bool, Memory>
-    ensures points { IfOk result (λ _. points.new.items ≡ points.old.items ++ filter (is_left removed.now k) (point.now ∷ [])) }
-    ensures left { IfOk result (λ left. left ≡ is_left removed.now k point.now) }
+/// Puts a point, with the step at which it was removed or 0, at the end where it is left after k steps, and tells whether it is.
+fn push_left(points: &mut Vec<Point>, point: &Point, step: u32, k: u32) -> Result<bool, Memory>
+    ensures points { (t : PointSteps) → step ≡ step_of t point.now
+        → IfOk result (λ _. points.new.items ≡ points.old.items ++ filter (is_left t k) (point.now ∷ [])) }
+    ensures left { (t : PointSteps) → step ≡ step_of t point.now → IfOk result (λ left. left ≡ is_left t k point.now) }
 {
-    let left = !removed.is_gone(point, k);
+    let left = !is_by(step, k);
     if left {
         points.push(*point)?;
     }
     Ok(left)
 }
 
-/// Puts those of the points at the end that are left after k steps.
+/// Puts those of the points, with their steps, at the end that are left after k steps.
 fn push_left_along(
     points: &mut Vec<Point>,
-    removed: &Removed,
     along: &[Point],
+    steps: &[u32],
     k: u32,
 ) -> Result<(), Memory>
-    ensures { IfOk result (λ _. points.new.items ≡ points.old.items ++ filter (is_left removed.now k) along.now) }
+    requires { length steps.now ≡ length along.now }
+    ensures { (t : PointSteps) → steps.now ≡ map (step_of t) along.now
+        → IfOk result (λ _. points.new.items ≡ points.old.items ++ filter (is_left t k) along.now) }
 {
-    for point in along {
-        push_left(points, removed, point, k)?;
+    for i in 0..along.len() {
+        push_left(points, &along[i], steps[i], k)?;
     }
     Ok(())
 }
 
-/// Puts those of the points at the end that are left after k steps, from the last one to the first.
+/// Puts those of the points, with their steps, at the end that are left after k steps, from the last one to the first.
 fn push_left_back(
     points: &mut Vec<Point>,
-    removed: &Removed,
     along: &[Point],
+    steps: &[u32],
     k: u32,
 ) -> Result<(), Memory>
-    ensures { IfOk result (λ _. points.new.items ≡ points.old.items ++ filter (is_left removed.now k) (reverse along.now)) }
+    requires { length steps.now ≡ length along.now }
+    ensures { (t : PointSteps) → steps.now ≡ map (step_of t) along.now
+        → IfOk result (λ _. points.new.items ≡ points.old.items ++ filter (is_left t k) (reverse along.now)) }
 {
-    for point in along.iter().rev() {
-        push_left(points, removed, point, k)?;
+    for done in 0..along.len() {
+        let i = along.len() - 1 - done;
+        push_left(points, &along[i], steps[i], k)?;
     }
     Ok(())
 }
@@ -67,31 +70,37 @@ fn push_left_back(
 fn push_part(
     points: &mut Vec<Point>,
     arcs: &[BaseArc],
-    removed: &Removed,
+    gone: &GoneSteps,
     span: &Span,
     k: u32,
 ) -> Result<bool, Memory>
     requires first { span.now.first.arc < length arcs.now }
     requires last { span.now.last.arc < length arcs.now }
     requires long { All (λ a. 2 ≤ length a.points) arcs.now }
-    ensures start { IfOk result (λ start. start ≡ is_left removed.now k (link_start arcs.now (chain_link span.now.first))) }
-    ensures points { IfOk result (λ _. points.new.items ≡ points.old.items ++ filter (is_left removed.now k)
+    requires gone { (t : PointSteps) × AreGoneSteps arcs.now t gone.now }
+    ensures start { (t : PointSteps) → AreGoneSteps arcs.now t gone.now
+        → IfOk result (λ start. start ≡ is_left t k (link_start arcs.now (chain_link span.now.first))) }
+    ensures points { (t : PointSteps) → AreGoneSteps arcs.now t gone.now
+        → IfOk result (λ _. points.new.items ≡ points.old.items ++ filter (is_left t k)
         (if is_past span.now.step k
         then link_end arcs.now (chain_link span.now.last) ∷ link_start arcs.now (chain_link span.now.first) ∷ []
         else reverse (link_points arcs.now (chain_link span.now.first)))) }
 {
     let start = start_of(arcs, span.first);
+    let start_step = gone.at_start(arcs, span.first);
     if span.is_past(k) {
-        push_left(points, removed, &end_of(arcs, span.last), k)?;
-        return push_left(points, removed, &start, k);
+        let end = end_of(arcs, span.last);
+        push_left(points, &end, gone.at_end(arcs, span.last), k)?;
+        return push_left(points, &start, start_step, k);
     }
     let along = arcs[span.first.arc as usize].points.as_slice();
+    let steps = gone.along(arcs, span.first.arc);
     if span.first.turned {
-        push_left_along(points, removed, along, k)?;
+        push_left_along(points, along, steps, k)?;
     } else {
-        push_left_back(points, removed, along, k)?;
+        push_left_back(points, along, steps, k)?;
     }
-    Ok(!removed.is_gone(&start, k))
+    Ok(!is_by(start_step, k))
 }
 
 /// Takes the start of the part behind out, where it is left: it is the last point that was written.
@@ -117,7 +126,6 @@ fn left_from_last(
     alloc: Global,
     arcs: &[BaseArc],
     edges: &[ForestEdge],
-    removed: &Removed,
     spent: &Spent,
     id: u32,
     k: u32,
@@ -125,8 +133,9 @@ fn left_from_last(
     requires id { id < length edges.now }
     requires long { All (λ a. 2 ≤ length a.points) arcs.now }
     requires parts { (i : ℕ) → i < length edges.now → All (IsPart (length arcs.now) i) (edge_at edges.now i).parts }
-    requires spent { AreSpent arcs.now removed.now edges.now spent.now }
-    ensures { IfOk result (λ points. reverse points.items ≡ left_points arcs.now removed.now k (chain_of edges.now id)) }
+    requires spent { (t : PointSteps) × AreSpent arcs.now t edges.now spent.now }
+    ensures { (t : PointSteps) → AreSpent arcs.now t edges.now spent.now
+        → IfOk result (λ points. reverse points.items ≡ left_points arcs.now t k (chain_of edges.now id)) }
 {
     let mut points = Vec::new(alloc);
     let mut start_left = false;
@@ -140,7 +149,7 @@ fn left_from_last(
         let span = spent.span_of(part);
         if is_whole(part, &span, k) {
             take_out_start(&mut points, start_left);
-            start_left = push_part(&mut points, arcs, removed, &span, k)?;
+            start_left = push_part(&mut points, arcs, &spent.gone, &span, k)?;
         } else {
             push_parts_of(&mut stack, edges, part)?;
         }
@@ -149,12 +158,11 @@ fn left_from_last(
 }
 
 /// The points of an edge that are left after k steps, each junction once. The time is that of the points that are left and
-/// of the parts on the way to them, with a search among the points of the map for each.
+/// of the parts on the way to them.
 pub fn left_of_edge(
     alloc: Global,
     arcs: &[BaseArc],
     edges: &[ForestEdge],
-    removed: &Removed,
     spent: &Spent,
     id: u32,
     k: u32,
@@ -162,10 +170,11 @@ pub fn left_of_edge(
     requires id { id < length edges.now }
     requires long { All (λ a. 2 ≤ length a.points) arcs.now }
     requires parts { (i : ℕ) → i < length edges.now → All (IsPart (length arcs.now) i) (edge_at edges.now i).parts }
-    requires spent { AreSpent arcs.now removed.now edges.now spent.now }
-    ensures { IfOk result (λ points. points ≡ left_points arcs.now removed.now k (chain_of edges.now id)) }
+    requires spent { (t : PointSteps) × AreSpent arcs.now t edges.now spent.now }
+    ensures { (t : PointSteps) → AreSpent arcs.now t edges.now spent.now
+        → IfOk result (λ points. points ≡ left_points arcs.now t k (chain_of edges.now id)) }
 {
-    let mut points = left_from_last(alloc, arcs, edges, removed, spent, id, k)?;
+    let mut points = left_from_last(alloc, arcs, edges, spent, id, k)?;
     points.reverse();
     Ok(List::from(points))
 }

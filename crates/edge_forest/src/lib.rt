@@ -7,6 +7,7 @@ mod copy;
 mod edge;
 mod face_labels;
 mod forest;
+mod gone_steps;
 mod growth;
 mod index;
 mod join;

@@ -1,6 +1,6 @@
 //! The points of a map, and the steps at which they were removed.
 
-ghost use Rattle.std.specs.Prelude.{◌≡◌, ◌<◌, ℕ, IfOk, MatchOption, Contains, not, filter, get_or, length, if◌then◌else◌};
+ghost use Rattle.std.specs.Prelude.{◌≡◌, ◌<◌, ◌&&◌, nat_le, ℕ, IfOk, MatchOption, Contains, not, filter, get_or, length, if◌then◌else◌};
 ghost use Rattle.std.specs.List.{All, list_any};
 ghost use Rattle.std.specs.List.Sorted.{IsStrictlySortedBy};
 ghost use Rattle.tgap_model.specs.Base.{same_point};
@@ -45,6 +45,13 @@ fn points_in_order(alloc: Global, arcs: &[BaseArc]) -> Result<Vec<Point>, Memory
     Ok(points)
 }
 
+/// Whether a step at which a point was removed, or 0 where it was not, is step k or before.
+pub fn is_by(step: u32, k: u32) -> bool
+    ensures { result ≡ (nat_le 1 step && nat_le step k) }
+{
+    1 <= step && step <= k
+}
+
 impl Removed {
     /// The table of the points of these arcs, of which none is removed.
     pub fn of(alloc: Global, arcs: &[BaseArc]) -> Result<Removed, Memory>
@@ -65,7 +72,7 @@ impl Removed {
     }
 
     /// The step at which a point was removed, or 0 where it was not.
-    fn step_of(&self, point: &Point) -> u32
+    pub fn step_of(&self, point: &Point) -> u32
         ensures { result ≡ step_of self.now point.now }
     {
         match self.row_of(point) {
@@ -78,8 +85,7 @@ impl Removed {
     pub fn is_gone(&self, point: &Point, k: u32) -> bool
         ensures { result ≡ is_gone_by self.now k point.now }
     {
-        let step = self.step_of(point);
-        1 <= step && step <= k
+        is_by(self.step_of(point), k)
     }
 
     /// The step at which a point was removed, or `NEVER` where it was not.

@@ -21,7 +21,7 @@ pub struct Span {
 }
 
 /// The arc in the other direction.
-fn turned_link(link: Link) -> Link
+pub fn turned_link(link: Link) -> Link
     ensures { result ≡ turned_link link }
 {
     Link {

@@ -7,17 +7,19 @@ ghost use Rattle.edge_forest.specs.Edges.{IsPart, edge_at, chain_of, chains_of};
 ghost use Rattle.edge_forest.specs.Spent.{is_left, is_past, part_span, AreArcSteps, AreSpans, AreSpent, IsSpan};
 
 use crate::edge::{ForestEdge, Part};
+use crate::gone_steps::GoneSteps;
 use crate::removed::Removed;
 use crate::span::Span;
 use crate::walk::Link;
 use std::alloc::Global;
 use tgap_model::{BaseArc, Memory, Point};
 
-/// For each arc the step after which none of its points is left but the ends, and for each edge its span.
+/// For each arc the step after which none of its points is left but the ends, for each edge its span, and the step of each point of an arc.
 #[derive(Debug, Drop)]
 pub struct Spent {
     pub arcs: Vec<u32>,
     pub edges: Vec<Span>,
+    pub gone: GoneSteps,
 }
 
 /// The step after which none of these points is left but the first and the last.
@@ -100,6 +102,7 @@ impl Spent {
         Spent {
             arcs: Vec::new(alloc),
             edges: Vec::new(alloc),
+            gone: GoneSteps::none(alloc),
         }
     }
 
@@ -124,6 +127,7 @@ impl Spent {
         Ok(Spent {
             arcs: steps,
             edges: spans,
+            gone: GoneSteps::of(alloc, arcs, removed)?,
         })
     }
 

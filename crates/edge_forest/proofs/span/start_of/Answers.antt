@@ -1,7 +1,6 @@
 -- A turned arc starts at its last point.
-use Rattle.std.proofs.Common.{◌≡◌, ◌≤◌, Bool, List, [], cond, length, pos, sym, ap, ◌∙◌, subst, arith}
+use Rattle.std.proofs.Common.{Bool, [], cond, length, pos, sym, ap, ◌∙◌, arith}
 use Rattle.std.proofs.lemmas.List.{get_or_read}
-use Rattle.tgap_model.specs.declared.geometry.Point.{Point}
 use Rattle.tgap_model.specs.declared.base.BaseArc.{BaseArc}
 use Rattle.tgap_model.specs.Chains.{first_point, last_point, arc_number}
 use Rattle.edge_forest.proofs.PartSpans.{last_at}

@@ -1,10 +1,9 @@
 -- The span of one more part.
-use Rattle.std.proofs.Common.{◌≡◌, ◌+◌, ◌<◌, ℕ, false, List, [], take, length, sym, ap, ◌∙◌, subst, arith}
+use Rattle.std.proofs.Common.{◌+◌, ◌<◌, false, [], take, length, sym, ap, ◌∙◌, subst, arith}
 use Rattle.std.proofs.lemmas.List.{get_or_read, take_all}
 use Rattle.tgap_model.specs.Chains.{Chain}
 use Rattle.edge_forest.specs.declared.edge.Part.{Part}
 use Rattle.edge_forest.specs.declared.edge.ForestEdge.{ForestEdge}
-use Rattle.edge_forest.specs.declared.span.Span.{Span}
 use Rattle.edge_forest.specs.Edges.{parts_chain, chains_of}
 use Rattle.edge_forest.specs.Spent.{joined_span, IsSpan}
 use Rattle.edge_forest.proofs.Walks.{chain_step}

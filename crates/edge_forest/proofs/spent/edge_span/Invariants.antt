@@ -1,5 +1,5 @@
 -- The span of the parts so far.
-use Rattle.std.proofs.Common.{◌≤◌, take}
+use Rattle.std.proofs.Common.{take}
 use Rattle.edge_forest.specs.Edges.{parts_chain, chains_of}
 use Rattle.edge_forest.specs.Spent.{IsSpan}
 use Rattle.edge_forest.proofs.spent.edge_span.Given as goal
