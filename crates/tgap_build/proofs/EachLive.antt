@@ -24,6 +24,7 @@ use Rattle.map_laws.proofs.ChainLinks.{chains_sorted}
 use Rattle.map_laws.proofs.ChainsExist.{chains_exist}
 use Rattle.map_laws.proofs.Lists.{all_members, members_all, map_among, among_map, sum_member, sum_less}
 use Rattle.removal_laws.specs.Trace.{edges_before_sweep}
+use Rattle.removal_laws.proofs.ChainLengths.{chain_length, kept_length}
 use Rattle.removal_laws.proofs.Less.{without_both}
 use Rattle.slice_laws.proofs.CountedSums.{sum_of_chains}
 use Rattle.step_laws.proofs.EachSlice.{each_good}
@@ -33,32 +34,6 @@ use Rattle.tgap_build.proofs.KeyedEdges.{pairs_mapped}
 use Rattle.tgap_build.proofs.Swept.{near_points}
 
 -- ---- few points
-
-link_length : (arcs : List BaseArc) (d : Link) → length (link_points arcs d) ≡ length (arc_number arcs d.arc).points
-link_length arcs d = by d.turned
-  where
-    points : List Point
-    points = (arc_number arcs d.arc).points
-
-    by : (t : Bool) → length (cond t (reverse points) points) ≡ length points
-    by true = length-reverse points
-    by false = refl
-
-chain_length : (arcs : List BaseArc) (c : Chain) → length (chain_points arcs c) ≤ sum_by (λ d. length (arc_number arcs d.arc).points) c
-chain_length arcs [] = omega arith
-chain_length arcs (d ∷ []) = omega (arith, link_length arcs d, sum_by-cons (λ (d : Link). length (arc_number arcs d.arc).points) d [])
-chain_length arcs (d ∷ e ∷ c) = omega (
-  arith,
-  length-append (link_points arcs d) (drop 1 (chain_points arcs (e ∷ c))),
-  length-drop 1 (chain_points arcs (e ∷ c)),
-  link_length arcs d,
-  chain_length arcs (e ∷ c),
-  sum_by-cons (λ (d : Link). length (arc_number arcs d.arc).points) d (e ∷ c),
-)
-
--- a filter keeps so many at most
-pub kept_length : (p : Point → Bool) (points : List Point) → length (filter p points) ≤ length points
-kept_length p points = omega (arith, length-filter p points, count_by-le-length p points)
 
 module _ (m : BaseMap) (base : is_base m ≡ true) (planar : IsPartition (base_segments m)) (k : ℕ) where
   abbrev chains : List Chain

@@ -3,6 +3,7 @@ use Rattle.std.proofs.Common.{◌≡◌, inl, inr, ℕ, zero, suc, ◌+◌, ◌-
 use Rattle.std.specs.Prelude.{flat_map, option_to_list}
 use Rattle.std.specs.List.{list_any}
 use Rattle.std.proofs.lemmas.Bool.{eq-eqb, eqb-true, lt-ltb, ltb-true, or_parts, false_from_ne_true}
+use Rattle.std.proofs.lemmas.List.Folds.{list_any-append}
 use Rattle.std.proofs.lemmas.List.Kept.{AllPairs-cons, AllPairs-filter}
 use Rattle.std.proofs.lemmas.List.Sorted.{IsPermutation-sym, IsPermutation-filter_both}
 use Rattle.lemmas.proofs.Members.{AllPairs-nil, AllPairs-head, AllPairs-tail, filter_agree_on}
@@ -40,19 +41,11 @@ use Rattle.tgap_build.proofs.ChangedChains.{lost, lost_known, changed_from, fres
 
 -- ---- tests of lists
 
-pub any_append : {A : Type 0} (p : A → Bool) (xs ys : List A) → list_any p (xs ++ ys) ≡ (list_any p xs || list_any p ys)
-any_append p [] ys = refl
-any_append p (x ∷ xs) ys = by (p x) (any_append p xs ys)
-  where
-    by : (b : Bool) → list_any p (xs ++ ys) ≡ (list_any p xs || list_any p ys) → (b || list_any p (xs ++ ys)) ≡ ((b || list_any p xs) || list_any p ys)
-    by true e = refl
-    by false e = e
-
 -- the keys of the parts of chains are those that are parts
 pub any_parts : (h : MergedMap) (k : ℕ) (bs : List Chain) (i : ℕ) → list_any (λ j. j == i) (flat_map (part_keys h k) bs) ≡ is_part_of (chains_at h (k - 1)) bs i
 any_parts h k [] i = refl
 any_parts h k (b ∷ bs) i =
-    any_append (λ j. j == i) (part_keys h k b) (flat_map (part_keys h k) bs)
+    list_any-append (λ j. j == i) (part_keys h k b) (flat_map (part_keys h k) bs)
     ∙ ap₂ (λ (x y : Bool). x || y) (mapped (runs (chains_at h (k - 1)) b)) (any_parts h k bs i)
   where
     mapped : (rs : List Chain) → list_any (λ j. j == i) (map (λ r. key (chain_of_run (chains_at h (k - 1)) r)) rs) ≡ list_any (λ r. key (chain_of_run (chains_at h (k - 1)) r) == i) rs
@@ -221,7 +214,7 @@ module _ (f : EdgeForest) (k old : ℕ) (some : 0 < k) (grown : HasGrown f k old
 
   -- what is told of the keys that go
   raw_is : (c : Chain) → list_any (λ i. i == key c) raw ≡ ((list_any (λ i. i == key c) joined || list_any (λ i. i == key c) losing) || list_any (λ i. i == key c) (keys ended))
-  raw_is c = any_append (λ i. i == key c) (joined ++ losing) (keys ended) ∙ ap (λ (b : Bool). b || list_any (λ i. i == key c) (keys ended)) (any_append (λ i. i == key c) joined losing)
+  raw_is c = list_any-append (λ i. i == key c) (joined ++ losing) (keys ended) ∙ ap (λ (b : Bool). b || list_any (λ i. i == key c) (keys ended)) (list_any-append (λ i. i == key c) joined losing)
 
   -- a key that stays is that of a chain that is no part, not the loser's, and not between it and the winner
   stays_is : (c : Chain) → Among c finer → list_any (λ i. i == key c) raw ≡ false

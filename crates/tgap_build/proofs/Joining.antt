@@ -2,6 +2,7 @@
 use Rattle.std.proofs.Common.{◌≡◌, ◌≢◌, inl, inr, ℕ, suc, ◌+◌, ◌-◌, ◌<◌, ◌≤◌, ◌==◌, ◌&&◌, ◌||◌, Bool, true, false, cond, not, List, [], ◌∷◌, ◌++◌, append_assoc, map, filter, length, sum_by, All, AllPairs, Contains, IsPermutation, Option, Some, None, eq-eqb, refl, sym, ap, ap₂, ◌∙◌, subst, true≢false, arith}
 use Rattle.std.specs.List.{list_any}
 use Rattle.std.proofs.lemmas.Bool.{eqb-true, eqb-false, or_parts, false_from_ne_true}
+use Rattle.std.proofs.lemmas.List.Folds.{list_any-append}
 use Rattle.std.proofs.lemmas.List.{append-nil, map-append}
 use Rattle.std.proofs.lemmas.List.Elements.{filter-append}
 use Rattle.std.proofs.lemmas.List.Sorted.{Contains-permutation, IsPermutation-refl, IsPermutation-trans, IsPermutation-append_left}
@@ -58,14 +59,6 @@ pub placed_with : (places : List (Option Edge)) → AreAtKeys places → (e : Ed
 placed_with places keyed e m k same =
     ap (edge_with places) (sym same)
     ∙ ap (λ (o : Option Edge). elim o [ None ↦ record { key = e.key; left = 0; right = 0; points = [] } | Some x ↦ x ]) (placed places keyed e m)
-
-any_append : {A : Type 0} (p : A → Bool) (xs ys : List A) → list_any p (xs ++ ys) ≡ (list_any p xs || list_any p ys)
-any_append p [] ys = refl
-any_append p (x ∷ xs) ys = by (p x) (any_append p xs ys)
-  where
-    by : (b : Bool) → list_any p (xs ++ ys) ≡ (list_any p xs || list_any p ys) → (b || list_any p (xs ++ ys)) ≡ ((b || list_any p xs) || list_any p ys)
-    by true e = refl
-    by false e = e
 
 any_mapped : {A B : Type 0} (p : B → Bool) (f : A → B) (xs : List A) → list_any p (map f xs) ≡ list_any (λ x. p (f x)) xs
 any_mapped p f [] = refl
@@ -309,7 +302,7 @@ module _ (f : EdgeForest) (k old : ℕ) (some : 0 < k) (grown : HasGrown f k old
           ∙ sym (or_none (list_any (λ r. key (chain_of_run finer r) == i) (runs finer b)))
 
       more_is : (i : ℕ) → is_part_of finer (bs ++ b ∷ []) i ≡ (is_part_of finer bs i || is_part_of finer (b ∷ []) i)
-      more_is i = any_append (λ (c : Chain). list_any (λ r. key (chain_of_run finer r) == i) (runs finer c)) bs (b ∷ [])
+      more_is i = list_any-append (λ (c : Chain). list_any (λ r. key (chain_of_run finer r) == i) (runs finer c)) bs (b ∷ [])
 
       left_less : without_keys (old_keys parts) (filter (λ e. not (is_part_of finer bs e.key)) left) ≡ filter (λ e. not (is_part_of finer (bs ++ b ∷ []) e.key)) left
       left_less =

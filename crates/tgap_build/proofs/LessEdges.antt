@@ -152,21 +152,23 @@ none_there p (x ∷ points) h =
     let both = or_parts (p x) (list_any p points) h in
     ap (λ (b : Bool). cond (not b) (x ∷ filter (λ q. not (p q)) points) (filter (λ q. not (p q)) points)) both.0 ∙ ap (λ (qs : List Point). x ∷ qs) (none_there p points both.1)
 
+-- points less those of the set are those that are not listed
+pub less_points : (gone : List Point) (removals : List Removal) → ((p : Point) → has_point gone p ≡ is_removed removals p) → (points : List Point)
+    → filter (λ p. not (has_point gone p)) points ≡ without removals points
+less_points gone removals same points =
+    filter_agree_on (λ p. not (has_point gone p)) (λ p. not (is_removed removals p)) points
+    (all_members (λ p. not (has_point gone p) ≡ not (is_removed removals p)) points (λ p m. ap not (same p)))
+
 module _ (gone : List Point) (removals : List Removal) (same : (p : Point) → has_point gone p ≡ is_removed removals p) (made : ℕ) (edges : List Edge)
     (others : All (λ (e : Edge). has_side made e ≡ false → without removals e.points ≡ e.points) edges) where
-  less_points : (points : List Point) → filter (λ p. not (has_point gone p)) points ≡ without removals points
-  less_points points =
-      filter_agree_on (λ p. not (has_point gone p)) (λ p. not (is_removed removals p)) points
-      (all_members (λ p. not (has_point gone p) ≡ not (is_removed removals p)) points (λ p m. ap not (same p)))
-
   -- the edges with the face that have one of the points are less those, and the others have none of them
   pub less_removals : map (less_where gone (λ (e : Edge). has_any gone e && has_side made e)) edges ≡ edges_less removals edges
   less_removals = by edges (λ e m. m)
     where
       one : (e : Edge) → Among e edges → (b : Bool) → (has_any gone e && has_side made e) ≡ b → cond b (less gone e) e ≡ record e { points = without removals e.points }
-      one e m true t = ap (λ (ps : List Point). record { key = e.key; left = e.left; right = e.right; points = ps }) (less_points e.points)
+      one e m true t = ap (λ (ps : List Point). record { key = e.key; left = e.left; right = e.right; points = ps }) (less_points gone removals same e.points)
       one e m false t = ap (λ (ps : List Point). record { key = e.key; left = e.left; right = e.right; points = ps }) (elim (and_cases (has_any gone e) (has_side made e) t) [
-        | inl none ↦ sym (none_there (has_point gone) e.points none) ∙ less_points e.points
+        | inl none ↦ sym (none_there (has_point gone) e.points none) ∙ less_points gone removals same e.points
         | inr off ↦ sym (members_all (λ (e : Edge). has_side made e ≡ false → without removals e.points ≡ e.points) edges e others m off)
       ])
 

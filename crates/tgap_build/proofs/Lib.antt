@@ -42,3 +42,9 @@ pub mod LostEdges
 pub mod StepSweep
 pub mod StepMerge
 pub mod NoSweep
+pub mod WideEdges
+pub mod QueueEntries
+pub mod CornerLists
+pub mod SmallAreas
+pub mod KeptEdges
+pub mod LosingEdges

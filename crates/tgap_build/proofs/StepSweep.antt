@@ -27,7 +27,8 @@ use Rattle.tgap_build.proofs.Sided.{side_test}
 use Rattle.tgap_build.proofs.StepTable.{made_live}
 use Rattle.tgap_build.proofs.Swept.{list_is}
 use Rattle.tgap_build.proofs.TableLive.{labels_live}
-use Rattle.tgap_build.proofs.Taken.{taken_is, others_stay}
+use Rattle.tgap_build.proofs.Taken.{taken_is}
+use Rattle.tgap_build.proofs.WideEdges.{others_stay}
 
 module _ (f : EdgeForest) (k : ℕ) (some : 0 < k) (made : f.made ≡ k) (t : EdgeTable) (r : AreRunning f k (removals_to (merged f.base) (k - 1)) t) where
   abbrev h : MergedMap

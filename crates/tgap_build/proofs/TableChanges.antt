@@ -1,5 +1,5 @@
--- An edge comes into a table, one takes the place of those of which it is made, one gets other points, and a list is read.
-use Rattle.std.proofs.Common.{◌≡◌, ◌≢◌, inl, inr, ℕ, zero, suc, ◌<◌, ◌==◌, ◌||◌, not, Bool, true, false, cond, List, [], ◌∷◌, ◌++◌, map, filter, length, get_or, set, replicate, All, AllPairs, Contains, IsPermutation, Option, Some, None, refl, sym, ap, ap₂, ◌∙◌, subst, eq-eqb, true≢false, arith}
+-- An edge comes into a table, one takes the place of those of which it is made, and one gets other points.
+use Rattle.std.proofs.Common.{◌≡◌, ◌≢◌, inl, inr, ℕ, zero, suc, ◌<◌, ◌==◌, not, Bool, true, false, cond, List, [], ◌∷◌, ◌++◌, map, length, get_or, set, replicate, All, AllPairs, Contains, IsPermutation, Option, Some, None, refl, sym, ap, ap₂, ◌∙◌, subst, eq-eqb, true≢false, arith}
 use Rattle.std.specs.Prelude.{option_map}
 use Rattle.std.specs.List.{list_any}
 use Rattle.std.proofs.lemmas.Bool.{cases_eq, cases_lt, ne_eqb}
@@ -8,18 +8,17 @@ use Rattle.std.proofs.lemmas.List.Sorted.{IsPermutation-refl}
 use Rattle.lemmas.proofs.Members.{in_none}
 use Rattle.tgap_model.specs.declared.geometry.Point.{Point}
 use Rattle.tgap_model.specs.declared.slice.Edge.{Edge}
-use Rattle.tgap_model.specs.Removals.{has_side}
 use Rattle.map_laws.proofs.ChainMembers.{Among, filter_among}
-use Rattle.map_laws.proofs.Lists.{all_members, members_all, any_from, kept_among, among_kept, among_map, map_among}
-use Rattle.removal_laws.proofs.ChainEnds.{contained, among_contained}
-use Rattle.grid_index.specs.Live.{keys, without_keys}
+use Rattle.map_laws.proofs.Lists.{all_members, members_all, any_from, kept_among, map_among}
+use Rattle.removal_laws.proofs.ChainEnds.{among_contained}
+use Rattle.grid_index.specs.Live.{without_keys}
 use Rattle.edge_forest.specs.declared.face_labels.FaceLabels.{FaceLabels}
 use Rattle.edge_forest.specs.FaceLabels.{face_of, label_of, HasLabel, IsCurrent}
 use Rattle.tgap_build.specs.EdgeTable.{edge_in, edges_in, AreAtKeys}
 use Rattle.tgap_build.specs.Table.{faced, listed_at, IsHeld, IsTableOf, with_points}
 use Rattle.tgap_build.proofs.EdgeTables.{stays, keyed_put, put_there, IsPutting}
 use Rattle.tgap_build.proofs.Filters.{filter_all}
-use Rattle.tgap_build.proofs.Tables.{all_placed, placed_all, place_within, key_placed}
+use Rattle.tgap_build.proofs.Tables.{all_placed, placed_all, place_within}
 use Rattle.tgap_build.proofs.Visits.{push_keeps, push_there, push_from}
 
 some_same : {A : Type 0} (x y : A) → Some x ≡ Some y → x ≡ y
@@ -296,63 +295,3 @@ module _ (places : List (Option Edge)) (keyed : AreAtKeys places) (k : ℕ) (wit
         here : (o : Option Edge) (e : Edge) → edge_in places k ≡ o → pointed points o ≡ Some e → e.key ≡ k
         here None e at is = absurd cc
         here (Some f) e at is = ap (λ (g : Edge). g.key) (sym (some_same (record { key = f.key; left = f.left; right = f.right; points = points }) e is)) ∙ keyed k f at
-
--- ---- a list is read, and what is on it for nothing goes
-
-module _ (t : FaceLabels) (lists : List (List ℕ)) (places : List (Option Edge)) (w : IsTableOf t lists places) (l : ℕ) (within : l < length lists) where
-  abbrev kept : List ℕ
-  kept = keys (filter (has_side l) (edges_in places))
-
-  abbrev read : List (List ℕ)
-  read = set (set lists l []) l (keys (filter (has_side l) (edges_in places)))
-
-  read_count : length read ≡ length lists
-  read_count = length-set (set lists l []) l kept ∙ length-set lists l []
-
-  read_at : listed_at read l ≡ kept
-  read_at = get_or-set_same (set lists l []) l kept [] (omega (arith, within, length-set lists l []))
-
-  read_other : (m : ℕ) → m ≢ l → listed_at read m ≡ listed_at lists m
-  read_other m ne = get_or-set_other (set lists l []) l m kept [] ne ∙ get_or-set_other lists l m [] [] ne
-
-  side_kept : (e : Edge) → Among e (edges_in places) → (m : ℕ) → has_side m e ≡ true → Contains (listed_at lists m) e.key → Contains (listed_at read m) e.key
-  side_kept e n m side c = elim (cases_eq m l) [
-    | inl s ↦
-        subst (λ (ks : List ℕ). Contains ks e.key) (sym (ap (listed_at read) s ∙ read_at))
-        (contained kept e.key (among_map (λ (e : Edge). e.key) (filter (has_side l) (edges_in places)) e
-        (among_kept (has_side l) (edges_in places) e n (subst (λ (m : ℕ). has_side m e ≡ true) s side))))
-    | inr ne ↦ subst (λ (ks : List ℕ). Contains ks e.key) (sym (read_other m ne)) c
-  ]
-
-  pub read_table : IsTableOf t (set (set lists l []) l (keys (filter (has_side l) (edges_in places)))) places
-  read_table = record {
-    keyed = w.keyed;
-    each = all_members (IsHeld t read) (edges_in places) (λ e m.
-        let h = members_all (IsHeld t lists) (edges_in places) e w.each m in
-        record {
-          left = h.left;
-          right = h.right;
-          at_left = side_kept e m e.left (left_side e) h.at_left;
-          at_right = side_kept e m e.right (right_side e) h.at_right;
-        });
-    listed = λ m k c. elim (cases_eq m l) [
-      | inl s ↦
-          let c' = subst (λ (ks : List ℕ). Contains ks k) (ap (listed_at read) s ∙ read_at) c in
-          let e = map_among (λ (e : Edge). e.key) (filter (has_side l) (edges_in places)) k (among_contained kept k c') in
-          let q = key_placed places w.keyed e.0 (kept_among (has_side l) (edges_in places) e.0 e.1) in
-          omega (arith, q, e.2)
-      | inr ne ↦ w.listed m k (subst (λ (ks : List ℕ). Contains ks k) (read_other m ne) c)
-    ];
-    face_room = λ f q. w.face_room f (omega (arith, q, read_count));
-    label_room = λ f q. let r = w.label_room f (omega (arith, q, read_count)) in omega (arith, r, read_count);
-  }
-    where
-      left_side : (e : Edge) → has_side e.left e ≡ true
-      left_side e = ap (λ (b : Bool). b || (e.right == e.left)) (eq-eqb e.left e.left refl)
-
-      right_side : (e : Edge) → has_side e.right e ≡ true
-      right_side e = by (e.left == e.right) (eq-eqb e.right e.right refl)
-        where
-          by : (a : Bool) → (e.right == e.right) ≡ true → (a || (e.right == e.right)) ≡ true
-          by true h = refl
-          by false h = h

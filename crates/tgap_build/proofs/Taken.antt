@@ -1,20 +1,18 @@
--- What a sweep takes out of the edges: the edges that do not border the new face stay as they are.
-use Rattle.std.proofs.Common.{◌≡◌, ℕ, zero, suc, ◌+◌, ◌-◌, ◌<◌, ◌≤◌, ℤ, Bool, true, false, cond, ◌==◌, List, [], ◌∷◌, ◌++◌, length, length-append, get_or, filter, All, refl, sym, ap, ap₂, ◌∙◌, subst, arith}
-use Rattle.std.proofs.lemmas.List.{append_cancel_left, get_or-map, get_or_append_left}
-use Rattle.std.proofs.Math.Seq.{get_or-append_seam}
+-- What a sweep takes out of the edges.
+use Rattle.std.proofs.Common.{◌≡◌, ℕ, suc, ◌-◌, ◌<◌, ◌≤◌, ℤ, Bool, true, false, ◌==◌, List, [], ◌∷◌, ◌++◌, length, length-append, get_or, filter, refl, sym, ap, ap₂, ◌∙◌, subst, arith}
+use Rattle.std.proofs.lemmas.List.{append_cancel_left, get_or_append_left}
 use Rattle.tgap_model.specs.declared.geometry.Point.{Point}
 use Rattle.tgap_model.specs.declared.slice.Edge.{Edge}
 use Rattle.tgap_model.specs.declared.slice.Removal.{Removal}
 use Rattle.tgap_model.specs.Base.{BaseMap, is_base}
 use Rattle.tgap_model.specs.Partition.{IsPartition, base_segments}
 use Rattle.tgap_model.specs.History.{history_of}
-use Rattle.tgap_model.specs.Merged.{merged, step_number}
+use Rattle.tgap_model.specs.Merged.{merged}
 use Rattle.tgap_model.specs.Chains.{Chain, chain_points, chains_at}
-use Rattle.tgap_model.specs.Removals.{edge_of, edges_of, without, has_side, removals_to}
+use Rattle.tgap_model.specs.Removals.{edge_of, edges_of, has_side, removals_to}
 use Rattle.removal_laws.specs.StandLaws.{edges_less}
-use Rattle.removal_laws.specs.Trace.{swept_edge, swept_edges, step_area, edges_before_sweep}
+use Rattle.removal_laws.specs.Trace.{swept_edge, swept_edges, edges_before_sweep}
 use Rattle.removal_laws.proofs.Less.{without_both}
-use Rattle.removal_laws.proofs.StandOnce.{partition_has_removals}
 use Rattle.step_laws.proofs.StepRemovals.{step_list, listed_next}
 use Rattle.record_laws.proofs.PutsBack.{listed_at}
 
@@ -29,7 +27,7 @@ module _ (ratio : ℕ) (area : ℤ) (made : ℕ) where
   ]
 
   -- what was swept stays
-  swept_before : (before edges : List Edge) (i : ℕ) (d : Edge) → i < length before → get_or (swept_edges ratio area made before edges) i d ≡ get_or before i d
+  pub swept_before : (before edges : List Edge) (i : ℕ) (d : Edge) → i < length before → get_or (swept_edges ratio area made before edges) i d ≡ get_or before i d
   swept_before before [] i d l = refl
   swept_before before (e ∷ edges) i d l = by (has_side made e) (λ x. swept_before (before ++ x ∷ []) edges i d (omega (arith, length-append before (x ∷ []))))
     where
@@ -37,23 +35,6 @@ module _ (ratio : ℕ) (area : ℤ) (made : ℕ) where
           → get_or (swept_on before e edges b) i d ≡ get_or before i d
       by true next = next (swept_edge ratio area before e edges) ∙ get_or_append_left before (swept_edge ratio area before e edges ∷ []) d i l
       by false next = next e ∙ get_or_append_left before (e ∷ []) d i l
-
-  -- an edge that does not border the face stays as it is
-  swept_other : (before edges : List Edge) (i j : ℕ) (d : Edge) → j ≡ length before + i → i < length edges → has_side made (get_or edges i d) ≡ false
-      → get_or (swept_edges ratio area made before edges) j d ≡ get_or edges i d
-  swept_other before [] i j d at l off = absurd (omega arith)
-  swept_other before (e ∷ edges) zero j d at l off =
-      let j_is : j ≡ length before = omega (arith, at) in
-      ap (λ (b : Bool). get_or (swept_on before e edges b) j d) off
-      ∙ swept_before (before ++ e ∷ []) edges j d (omega (arith, length-append before (e ∷ []), at))
-      ∙ ap (λ (n : ℕ). get_or (before ++ e ∷ []) n d) j_is
-      ∙ get_or-append_seam before e [] d
-  swept_other before (e ∷ edges) (suc i) j d at l off =
-      by (has_side made e) (λ x. swept_other (before ++ x ∷ []) edges i j d (omega (arith, at, length-append before (x ∷ []))) (omega arith) off)
-    where
-      by : (b : Bool) → ((x : Edge) → get_or (swept_edges ratio area made (before ++ x ∷ []) edges) j d ≡ get_or edges i d) → get_or (swept_on before e edges b) j d ≡ get_or edges i d
-      by true next = next (swept_edge ratio area before e edges)
-      by false next = next e
 
 -- ---- a step
 
@@ -82,19 +63,3 @@ module _ (m : BaseMap) (base : is_base m ≡ true) (planar : IsPartition (base_s
       less_more m k (removals_to (merged m) (k - 1)) removals (chains_at (merged m) k)
       ∙ ap (λ (rs : List Removal). edges_of (merged m) k (removals_to (merged m) (k - 1) ++ rs) (chains_at (merged m) k)) is
       ∙ ap (λ (rs : List Removal). edges_of (merged m) k rs (chains_at (merged m) k)) (sym (listed_next m base planar k some within))
-
-  abbrev edges : List Edge
-  edges = edges_before_sweep (merged m) k
-
-  -- the others stay
-  pub others_stay : All (λ (e : Edge). has_side (step_number (merged m) k).made e ≡ false → without removals e.points ≡ e.points) (edges_before_sweep (merged m) k)
-  others_stay i d l off =
-      ap (λ (e : Edge). e.points) (
-      sym (get_or-map (λ (e : Edge). record e { points = without removals e.points }) edges i d d l)
-      ∙ ap (λ (es : List Edge). get_or es i d) (taken_is ∙ sym ((partition_has_removals m base planar k).left some within))
-      ∙ by (m.rules.ratio == 0)
-      )
-    where
-      by : (b : Bool) → get_or (cond b edges (swept_edges m.rules.ratio (step_area (merged m) k) (step_number (merged m) k).made [] edges)) i d ≡ get_or edges i d
-      by true = refl
-      by false = swept_other m.rules.ratio (step_area (merged m) k) (step_number (merged m) k).made [] edges i i d (omega arith) l off

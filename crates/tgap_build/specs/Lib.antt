@@ -5,3 +5,5 @@ pub mod Table
 pub mod OldEdges
 pub mod Boxes
 pub mod Changes
+pub mod Queue
+pub mod Queues

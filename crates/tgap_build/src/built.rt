@@ -1,7 +1,8 @@
 //! What is built of a map.
 
 ghost use Rattle.std.specs.Prelude.{◌≡◌, ◌≤◌, true, length, IsTrue};
-ghost use Rattle.tgap_model.specs.Base.{is_base};
+ghost use Rattle.tgap_model.specs.Base.{is_base, count_points};
+ghost use Rattle.tgap_model.specs.declared.limits.TheConstants.{MAX_POINTS};
 ghost use Rattle.tgap_model.specs.Partition.{IsPartition, base_segments};
 ghost use Rattle.tgap_model.specs.History.{history_of};
 ghost use Rattle.tgap_model.specs.Merged.{merged};
@@ -14,37 +15,51 @@ use crate::boxed::BoxedForest;
 use edge_forest::Forest;
 use face_tree::FaceTree;
 use std::marker::Model;
-use tgap_model::{Base, List, StepRecord};
+use tgap_model::{Base, BaseArc, List, StepRecord};
 
-/// A checked map, its tree of faces, its forest of edges with their boxes, and the records of its steps.
+/// A checked map, its tree of faces, its forest of edges with their boxes, the records of its steps, and how many
+/// points it has.
 #[derive(Debug, Drop)]
 pub struct Built {
     tree: FaceTree,
     boxed: BoxedForest,
     records: List<StepRecord>,
+    points: usize,
 }
 
 impl Model for Built {
-    ghost use Rattle.tgap_model.specs.Base.{BaseMap};
+    ghost use Rattle.std.specs.Prelude.{◌≡◌};
+    ghost use Rattle.tgap_model.specs.Base.{BaseMap, count_points};
     ghost use Rattle.tgap_build.specs.Built.{IsBuilt};
 
     ghost Value = { BaseMap };
 
     ghost view = { λ b. b.boxed.base };
 
-    ghost invariant = { λ b. IsBuilt b.tree b.boxed b.records };
+    ghost invariant = { λ b. IsBuilt b.tree b.boxed b.records × (b.points ≡ count_points b.boxed.base.arcs) };
+}
+
+/// How many points all arcs have.
+fn count_points(arcs: &[BaseArc]) -> usize
+    requires { count_points arcs.now ≤ MAX_POINTS }
+    ensures { result ≡ count_points arcs.now }
+{
+    arcs.iter().map(|arc| arc.points.len()).sum()
 }
 
 impl Built {
-    /// The tree, the forest and the records of one map, together.
+    /// The tree, the forest and the records of one map, together. Its points are counted here, once.
     pub(crate) fn of(tree: FaceTree, boxed: BoxedForest, records: List<StepRecord>) -> Built
         requires { IsBuilt tree boxed records }
         ensures { result ≡ boxed.base }
     {
+        let arcs = boxed.forest().base().arcs().as_slice();
+        let points = count_points(arcs);
         Built {
             tree,
             boxed,
             records,
+            points,
         }
     }
 
@@ -91,6 +106,13 @@ impl Built {
         ensures { result.now ≡ step_record (merged self.now) step }
     {
         &self.records.as_slice()[step as usize - 1]
+    }
+
+    /// How many points all arcs of its base map have, as they were counted when it was built.
+    pub fn points(&self) -> usize
+        ensures { result ≡ count_points self.now.arcs }
+    {
+        self.points
     }
 
     /// The number of steps of its merge history.

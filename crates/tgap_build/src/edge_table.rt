@@ -328,6 +328,36 @@ impl EdgeTable {
         }
     }
 
+    /// The edge with this key, if there is one, with its labels.
+    pub fn edge(&self, key: u32) -> Option<&Edge>
+        ensures { option_map (λ e. e.now) result ≡ edge_in self.now.places.items key }
+    {
+        match self.places.get(key as usize) {
+            Some(Some(edge)) => Some(edge),
+            _ => None,
+        }
+    }
+
+    /// The keys of all edges, in ascending order.
+    pub fn keys(&self, alloc: Global) -> Result<List<u32>, Memory>
+        ensures { IfOk result (λ found. found ≡ keys (labelled_edges self.now)) }
+    {
+        let mut found = List::new(alloc);
+        for place in &self.places {
+            if let Some(edge) = place {
+                found.push(edge.key)?;
+            }
+        }
+        Ok(found)
+    }
+
+    /// How many labels have lists of keys.
+    pub fn label_count(&self) -> usize
+        ensures { result ≡ length self.now.beside.items }
+    {
+        self.beside.len()
+    }
+
     /// The label of a face.
     pub fn label(&self, face: u32) -> u32
         requires { face < length self.now.labels.labels.items }
@@ -345,50 +375,6 @@ impl EdgeTable {
             copies.push(copied_edge(alloc, edge)?)?;
         }
         Ok(())
-    }
-
-    /// Appends a copy of the edge with this key, and the key, if there is one and it has the label.
-    fn push_beside(
-        &self,
-        alloc: Global,
-        label: u32,
-        key: u32,
-        kept: &mut List<u32>,
-        edges: &mut List<Edge>,
-    ) -> Result<(), Memory>
-        requires { key < length self.now.places.items }
-        ensures edges { OnOk result (edges.new ≡ edges.old ++ filter (has_side label) (option_to_list (edge_in self.now.places.items key))) }
-        ensures kept { OnOk result (kept.new ≡ kept.old ++ keys (filter (has_side label) (option_to_list (edge_in self.now.places.items key)))) }
-    {
-        if let Some(edge) = &self.places[key as usize] {
-            if edge.has_side(label) {
-                kept.push(edge.key)?;
-                edges.push(copied_edge(alloc, edge)?)?;
-            }
-        }
-        Ok(())
-    }
-
-    /// Copies of the edges with a label, in order of key. The time is that of a sort of their keys, of their points, and of the
-    /// keys that were listed since it was asked last.
-    pub fn beside(&mut self, alloc: Global, label: u32) -> Result<List<Edge>, Memory>
-        requires table { IsTable self.old }
-        requires label { label < length self.old.beside.items }
-        ensures edges { IfOk result (λ edges. edges ≡ filter (has_side label) (labelled_edges self.old)) }
-        ensures table { OnOk result (IsTable self.new) }
-        ensures places { self.new.places ≡ self.old.places }
-        ensures labels { self.new.labels ≡ self.old.labels }
-        ensures room { HaveSameRoom self.old self.new }
-    {
-        let listed = mem::replace(&mut self.beside[label as usize], List::new(alloc));
-        let keys = in_order(listed);
-        let mut kept = List::new(alloc);
-        let mut edges = List::new(alloc);
-        for key in &keys {
-            self.push_beside(alloc, label, *key, &mut kept, &mut edges)?;
-        }
-        self.beside[label as usize] = kept;
-        Ok(edges)
     }
 
     /// Copies of all edges, in order of key, with their labels.

@@ -74,7 +74,7 @@ pub fn edges_of(
     ensures { (removals : List Removal) → AreGone forest.now k removals
         → IfOk result (λ edges. edges ≡ edges_of (merged forest.now.base) k removals (map (chain_of forest.now.edges) ids.now)) }
 {
-    let mut edges = List::new(alloc);
+    let mut edges = List::with_capacity(alloc, ids.len())?;
     push_edges(alloc, tree, forest, ids, k, &mut edges)?;
     Ok(edges)
 }

@@ -13,6 +13,8 @@ ghost use Rattle.tgap_build.specs.Built.{HasRemoved, all_records};
 mod boxed;
 mod boxes;
 mod built;
+mod corner_queue;
+mod corner_queues;
 mod edge_table;
 mod edges;
 mod joined;

@@ -16,10 +16,12 @@ ghost use Rattle.edge_forest.specs.Edges.{edge_at, chain_of, is_alive};
 ghost use Rattle.edge_forest.specs.Forest.{IsForest};
 ghost use Rattle.tgap_build.specs.Built.{HasRemoved};
 ghost use Rattle.tgap_build.specs.EdgeTable.{edge_in, IsSought};
+ghost use Rattle.tgap_build.specs.Queues.{IsCornered};
 ghost use Rattle.tgap_build.specs.Running.{AreRunning, less};
 ghost use Rattle.tgap_build.specs.Table.{labelled_edges, IsTable, HaveSameRoom, old_keys};
 ghost use Rattle.tgap_build.specs.Changes.{HasGrown, born_chains, part_pieces, count_at, side_with, losing_keys, made_of, is_changed, HasJoined, whole_of, part_keys, come_of, IsExchange, less_where, with_all};
 
+use crate::corner_queues::{CornerQueues, requeue};
 use crate::edge_table::{EdgeTable, Merging, in_order};
 use crate::edges::edges_of;
 use crate::joined::{OldEdge, old_edges};
@@ -31,11 +33,13 @@ use grid_index::Live;
 use std::alloc::Global;
 use tgap_model::{Edge, List, Memory, MergeStep, Piece};
 
-/// The edges after some steps of the history, and a look-up of their segments where one was asked for.
+/// The edges after some steps of the history, with a look-up of their segments and the queues of their corners, where
+/// these were asked for.
 #[derive(Debug, Drop)]
 pub struct LiveEdges {
     pub edges: EdgeTable,
     pub sought: Option<Live>,
+    pub corners: Option<CornerQueues>,
 }
 
 /// An edge by its key, and the pieces of which it is made: the edges before the step.
@@ -45,8 +49,8 @@ pub struct Made {
     pub pieces: List<Piece>,
 }
 
-/// What a step changed, but for the points that it takes out: the edges that ended, and those that are new or had the loser at a
-/// side, in order of key.
+/// What a step changed, but for the points that it takes out: the edges that ended, and those that are new or had the
+/// loser at a side, in order of key.
 #[derive(Debug, Drop)]
 pub struct Changed {
     pub ended: List<Edge>,
@@ -73,8 +77,8 @@ fn points_behind(edges: &EdgeTable, key: u32) -> u32
     }
 }
 
-/// The face that an edge before the step had at the side of the new face. The edges of the loser have the keys of `losing`, and the
-/// other ones of which edges of the new face are made are those of the winner.
+/// The face that an edge before the step had at the side of the new face. The edges of the loser have the keys of
+/// `losing`, and the other ones of which edges of the new face are made are those of the winner.
 fn side_of(step: &MergeStep, losing: &[u32], key: u32) -> u32
     requires { IsNonDecreasing losing.now }
     ensures { result ≡ side_with step.now losing.now key }
@@ -145,7 +149,8 @@ fn push_keys(keys: &mut Vec<u32>, parts: &[OldEdge]) -> Result<(), Memory>
     Ok(())
 }
 
-/// Appends edges that are one piece: of those with these keys, the ones whose keys are not among `others`, which ascend.
+/// Appends edges that are one piece: of those with these keys, the ones whose keys are not among `others`, which
+/// ascend.
 pub fn push_whole(
     alloc: Global,
     edges: &EdgeTable,
@@ -199,6 +204,17 @@ fn come_of(alloc: Global, edges: &EdgeTable, made: &[Made]) -> Result<List<Edge>
         edges.push_copy(alloc, one.key, &mut come)?;
     }
     Ok(come)
+}
+
+/// The keys of these edges.
+pub fn made_keys(alloc: Global, made: &[Made]) -> Result<Vec<u32>, Memory>
+    ensures { IfOk result (λ found. found.items ≡ map (λ one. one.key) made.now) }
+{
+    let mut found = Vec::with_capacity(alloc, made.len())?;
+    for one in made {
+        found.push(one.key)?;
+    }
+    Ok(found)
 }
 
 /// The keys of these edges.
@@ -259,6 +275,7 @@ impl LiveEdges {
         requires removed { HasRemoved forest.now 0 }
         ensures running { IfOk result (λ live. AreRunning forest.now 0 (removals_to (merged forest.now.base) 0) live.edges) }
         ensures sought { IfOk result (λ live. IsSought (labelled_edges live.edges) live.sought) }
+        ensures corners { IfOk result (λ live. IsCornered (length live.edges.beside.items) (labelled_edges live.edges) live.corners) }
     {
         let ids = forest.present(alloc)?;
         let edges = edges_of(alloc, tree, forest, ids.as_slice(), 0)?;
@@ -268,11 +285,12 @@ impl LiveEdges {
         Ok(LiveEdges {
             edges: EdgeTable::of(alloc, arcs, faces, edges)?,
             sought: None,
+            corners: None,
         })
     }
 
-    /// Puts a new edge of the forest in place of those of which it is made, where the forest had the first `old` edges before, and
-    /// tells the keys of those.
+    /// Puts a new edge of the forest in place of those of which it is made, where the forest had the first `old`
+    /// edges before, and tells the keys of those.
     fn join(
         &mut self,
         alloc: Global,
@@ -300,6 +318,7 @@ impl LiveEdges {
         ensures labels { OnOk result (self.new.edges.labels ≡ self.old.edges.labels) }
         ensures room { OnOk result (HaveSameRoom self.old.edges self.new.edges) }
         ensures sought { self.new.sought ≡ self.old.sought }
+        ensures corners { self.new.corners ≡ self.old.corners }
     {
         let key = forest.edge(id).key;
         let parts = old_edges(alloc, forest, old, id, k)?;
@@ -333,6 +352,7 @@ impl LiveEdges {
         ensures labels { OnOk result (self.new.edges.labels ≡ self.old.edges.labels) }
         ensures room { OnOk result (HaveSameRoom self.old.edges self.new.edges) }
         ensures sought { self.new.sought ≡ self.old.sought }
+        ensures corners { self.new.corners ≡ self.old.corners }
     {
         let mut made = Vec::new(alloc);
         for id in old..forest.count() {
@@ -343,8 +363,8 @@ impl LiveEdges {
         Ok(made)
     }
 
-    /// Brings the look-up up to a step, where there is one, in the time of the edges that ended, were joined, had the loser at a
-    /// side or are new.
+    /// Brings the look-up up to a step, where there is one, in the time of the edges that ended, were joined, had the
+    /// loser at a side or are new.
     fn seek(
         &mut self,
         alloc: Global,
@@ -357,6 +377,7 @@ impl LiveEdges {
         requires sought { (before : Sequence Line) × IsSought before self.old.sought
             × IsExchange before (joined.now ++ losing.now ++ keys ended.now) (come_of self.old.edges.places.items made.now) (labelled_edges self.old.edges) }
         ensures edges { self.new.edges ≡ self.old.edges }
+        ensures corners { self.new.corners ≡ self.old.corners }
         ensures sought { (before : Sequence Line) → IsSought before self.old.sought
             → IsExchange before (joined.now ++ losing.now ++ keys ended.now) (come_of self.old.edges.places.items made.now) (labelled_edges self.old.edges)
             → OnOk result (IsSought (labelled_edges self.old.edges) self.new.sought) }
@@ -370,8 +391,9 @@ impl LiveEdges {
         Ok(())
     }
 
-    /// Brings the edges up to step number k, which the forest has made. The forest had the first `old` edges before. The time is
-    /// that of the loser's edges, and of the points of the new ones but for the first part of each.
+    /// Brings the edges up to step number k, which the forest has made. The forest had the first `old` edges before.
+    /// The time is that of the loser's edges, and of the points of the new ones but for the first part of each; where
+    /// there are queues of corners, it is that of the points of all edges that it tells.
     pub fn merge(
         &mut self,
         alloc: Global,
@@ -386,8 +408,10 @@ impl LiveEdges {
         requires step { step.now ≡ step_number (merged forest.now.base) k }
         requires running { AreRunning forest.now (k - 1) (removals_to (merged forest.now.base) (k - 1)) self.old.edges }
         requires sought { IsSought (labelled_edges self.old.edges) self.old.sought }
+        requires corners { IsCornered (length self.old.edges.beside.items) (labelled_edges self.old.edges) self.old.corners }
         ensures running { OnOk result (AreRunning forest.now k (removals_to (merged forest.now.base) (k - 1)) self.new.edges) }
         ensures sought { OnOk result (IsSought (labelled_edges self.new.edges) self.new.sought) }
+        ensures corners { OnOk result (IsCornered (length self.new.edges.beside.items) (labelled_edges self.new.edges) self.new.corners) }
         ensures ended { IfOk result (λ changed. changed.ended
             ≡ filter (is_edge_between step.now.loser step.now.winner) (edges_of (merged forest.now.base) (k - 1) (removals_to (merged forest.now.base) (k - 1)) (chains_at (merged forest.now.base) (k - 1)))) }
         ensures made { IfOk result (λ changed. changed.made.items
@@ -408,6 +432,8 @@ impl LiveEdges {
         )?;
         made.sort_unstable_by_key(|one| one.key);
         self.seek(alloc, &joined, &losing, ended.as_slice(), &made)?;
+        let keys = made_keys(alloc, &made)?;
+        requeue(&self.edges, &mut self.corners, &keys)?;
         Ok(Changed { ended, made })
     }
 
@@ -417,17 +443,20 @@ impl LiveEdges {
         requires losing { (p : Line → Bool) × (losing.now ≡ filter p (labelled_edges self.old.edges)) }
         requires live { (p : Line → Bool) → losing.now ≡ filter p (labelled_edges self.old.edges) → AreLive (map (less_where gone.now p) (labelled_edges self.old.edges)) }
         requires sought { IsSought (labelled_edges self.old.edges) self.old.sought }
+        requires corners { IsCornered (length self.old.edges.beside.items) (labelled_edges self.old.edges) self.old.corners }
         ensures edges { (p : Line → Bool) → losing.now ≡ filter p (labelled_edges self.old.edges)
             → OnOk result (labelled_edges self.new.edges ≡ map (less_where gone.now p) (labelled_edges self.old.edges)) }
         ensures table { OnOk result (IsTable self.new.edges) }
         ensures labels { OnOk result (self.new.edges.labels ≡ self.old.edges.labels) }
         ensures room { OnOk result (HaveSameRoom self.old.edges self.new.edges) }
         ensures sought { OnOk result (IsSought (labelled_edges self.new.edges) self.new.sought) }
+        ensures corners { OnOk result (IsCornered (length self.new.edges.beside.items) (labelled_edges self.new.edges) self.new.corners) }
     {
         let keys = keys_of(alloc, losing)?;
         let come = less_edges(alloc, gone, losing)?;
         self.sought = sought_after(alloc, self.sought.take(), &keys, come.as_slice())?;
         set_all(&mut self.edges, come);
+        requeue(&self.edges, &mut self.corners, keys.as_slice())?;
         Ok(())
     }
 }

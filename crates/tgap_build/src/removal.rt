@@ -1,6 +1,6 @@
 //! A step of the history, with what it removes, and its record.
 
-ghost use Rattle.std.specs.Prelude.{◌≡◌, ◌<◌, ◌≤◌, ◌-◌, ◌^◌, ◌==◌, ◌++◌, ℕ, [], true, false, not, map, filter, length, All, IsPermutation, IfOk, OnOk};
+ghost use Rattle.std.specs.Prelude.{◌≡◌, ◌<◌, ◌≤◌, ◌-◌, ◌^◌, ◌==◌, ◌++◌, ℕ, [], true, false, not, map, filter, flat_map, option_to_list, length, All, IsPermutation, IfOk, OnOk};
 ghost use Rattle.std.specs.List.{list_any};
 ghost use Rattle.std.specs.List.Sorted.{IsNonDecreasing, IsNonDecreasingBy};
 ghost use Rattle.tgap_model.specs.Merged.{merged, step_number, face_area};
@@ -11,46 +11,59 @@ ghost use Rattle.grid_index.specs.Live.{keys};
 ghost use Rattle.face_tree.specs.Tree.{face_history};
 ghost use Rattle.edge_forest.specs.Forest.{last_step};
 ghost use Rattle.tgap_build.specs.Built.{HasRemoved};
-ghost use Rattle.tgap_build.specs.EdgeTable.{IsSought};
+ghost use Rattle.tgap_build.specs.EdgeTable.{edge_in, IsSought};
+ghost use Rattle.tgap_build.specs.Queues.{IsCornered};
 ghost use Rattle.tgap_build.specs.Table.{labelled_edges};
 ghost use Rattle.tgap_build.specs.Running.{AreRunning, has_any};
 ghost use Rattle.tgap_build.specs.Changes.{count_at, whole_of, made_of, is_changed};
 
+use crate::corner_queues::candidates;
 use crate::edge_table::EdgeTable;
-use crate::live_edges::{Changed, LiveEdges, Made, keys_of, push_whole};
+use crate::live_edges::{Changed, LiveEdges, Made, keys_of, made_keys, push_whole};
 use crate::mends::mends_of;
 use crate::point_set::PointSet;
 use crate::sought::swept;
 use edge_forest::Forest;
 use face_tree::FaceTree;
 use std::alloc::Global;
-use tgap_model::{Edge, List, Memory, Mend, MergeStep, StepRecord};
+use tgap_model::{Edge, List, Memory, Mend, MergeStep, StepRecord, copied_edge};
 
-/// Those of these edges that have a point of the set.
-fn losing(alloc: Global, gone: &PointSet, edges: List<Edge>) -> Result<List<Edge>, Memory>
-    ensures { IfOk result (λ losing. losing ≡ filter (has_any gone.now) edges) }
+/// Appends a copy of the edge with this key, if there is one and it has a point of the set.
+fn push_losing(
+    alloc: Global,
+    gone: &PointSet,
+    edges: &EdgeTable,
+    key: u32,
+    losing: &mut List<Edge>,
+) -> Result<(), Memory>
+    ensures { OnOk result (losing.new ≡ losing.old ++ filter (has_any gone.now) (option_to_list (edge_in edges.now.places.items key))) }
+{
+    if let Some(edge) = edges.edge(key) {
+        if gone.holds_any(edge.points.as_slice()) {
+            losing.push(copied_edge(alloc, edge)?)?;
+        }
+    }
+    Ok(())
+}
+
+/// Copies of those of the edges with these keys that have a point of the set.
+fn losing(
+    alloc: Global,
+    gone: &PointSet,
+    edges: &EdgeTable,
+    keys: &[u32],
+) -> Result<List<Edge>, Memory>
+    ensures { IfOk result (λ losing. losing ≡ flat_map (λ k. filter (has_any gone.now) (option_to_list (edge_in edges.now.places.items k))) keys.now) }
 {
     let mut losing = List::new(alloc);
-    for edge in edges.into_vec() {
-        if gone.holds_any(edge.points.as_slice()) {
-            losing.push(edge)?;
-        }
+    for key in keys {
+        push_losing(alloc, gone, edges, *key, &mut losing)?;
     }
     Ok(losing)
 }
 
-/// The keys of these edges.
-fn made_keys(alloc: Global, made: &[Made]) -> Result<Vec<u32>, Memory>
-    ensures { IfOk result (λ found. found.items ≡ map (λ one. one.key) made.now) }
-{
-    let mut found = Vec::with_capacity(alloc, made.len())?;
-    for one in made {
-        found.push(one.key)?;
-    }
-    Ok(found)
-}
-
-/// These edges, which stand in order of key, and those that lose a point, as the pieces of which they are made, in order of key.
+/// These edges, which stand in order of key, and those that lose a point, as the pieces of which they are made, in
+/// order of key.
 fn with_losing(
     alloc: Global,
     edges: &EdgeTable,
@@ -73,8 +86,9 @@ fn with_losing(
     Ok(all)
 }
 
-/// Takes out of the forest and of the edges the vertices that the last step, number k, removes. It gives the mends of the step.
-/// What the step changed and twice the area of its loser are given.
+/// Takes out of the forest and of the edges the vertices that the last step, number k, removes, where the ratio is
+/// above 0. It gives the mends of the step. What the step changed and twice the area of its loser are given. Of the
+/// edges that border the new face those alone are looked at that have a corner which is small enough.
 fn remove_vertices(
     alloc: Global,
     forest: &mut Forest,
@@ -91,9 +105,11 @@ fn remove_vertices(
     requires step { step.now ≡ step_number (merged forest.old.base) k }
     requires area { loser_area ≡ face_area (merged forest.old.base) (k - 1) (step_number (merged forest.old.base) k).loser }
     requires ratio { ratio ≡ forest.old.base.rules.ratio }
+    requires positive { 0 < ratio }
     requires removed { HasRemoved forest.old (k - 1) }
     requires running { AreRunning forest.old k (removals_to (merged forest.old.base) (k - 1)) live.old.edges }
     requires sought { IsSought (labelled_edges live.old.edges) live.old.sought }
+    requires corners { IsCornered (length live.old.edges.beside.items) (labelled_edges live.old.edges) live.old.corners }
     requires changed { made.items ≡ map (made_of (merged forest.old.base) k) (filter (is_changed (merged forest.old.base) k) (chains_at (merged forest.old.base) k)) }
     ensures mends { IfOk result (λ mends. mends ≡ (step_record (merged forest.old.base) k).mends) }
     ensures base { OnOk result (forest.new.base ≡ forest.old.base) }
@@ -103,21 +119,29 @@ fn remove_vertices(
     ensures removed { OnOk result (HasRemoved forest.new k) }
     ensures running { OnOk result (AreRunning forest.new k (removals_to (merged forest.old.base) k) live.new.edges) }
     ensures sought { OnOk result (IsSought (labelled_edges live.new.edges) live.new.sought) }
+    ensures corners { OnOk result (IsCornered (length live.new.edges.beside.items) (labelled_edges live.new.edges) live.new.corners) }
 {
     let made_label = live.edges.label(step.made);
-    let border = live.edges.beside(alloc, made_label)?;
+    let keys = candidates(
+        alloc,
+        &live.edges,
+        &mut live.corners,
+        made_label,
+        loser_area,
+        ratio,
+    )?;
     let removals = swept(
         alloc,
         &live.edges,
         &mut live.sought,
-        border.as_slice(),
+        &keys,
         made_label,
         loser_area,
         ratio,
         k,
     )?;
     let gone = PointSet::of(alloc, removals.as_slice())?;
-    let losing = losing(alloc, &gone, border)?;
+    let losing = losing(alloc, &gone, &live.edges, &keys)?;
     let made = with_losing(alloc, &live.edges, step, made, losing.as_slice())?;
     let mends = mends_of(alloc, &live.edges, step, made, &gone)?;
     forest.remove(&removals);
@@ -146,8 +170,8 @@ fn plain_mends(
     mends_of(alloc, &live.edges, step, made, &gone)
 }
 
-/// The mends of the last step, number k, and what it removes. Where the ratio is 0 nothing is removed, and none of the edges that
-/// the step did not change is looked at.
+/// The mends of the last step, number k, and what it removes. Where the ratio is 0 nothing is removed, and none of
+/// the edges that the step did not change is looked at.
 fn mend_and_remove(
     alloc: Global,
     forest: &mut Forest,
@@ -167,6 +191,7 @@ fn mend_and_remove(
     requires removed { HasRemoved forest.old (k - 1) }
     requires running { AreRunning forest.old k (removals_to (merged forest.old.base) (k - 1)) live.old.edges }
     requires sought { IsSought (labelled_edges live.old.edges) live.old.sought }
+    requires corners { IsCornered (length live.old.edges.beside.items) (labelled_edges live.old.edges) live.old.corners }
     requires changed { made.items ≡ map (made_of (merged forest.old.base) k) (filter (is_changed (merged forest.old.base) k) (chains_at (merged forest.old.base) k)) }
     ensures mends { IfOk result (λ mends. mends ≡ (step_record (merged forest.old.base) k).mends) }
     ensures base { OnOk result (forest.new.base ≡ forest.old.base) }
@@ -175,6 +200,7 @@ fn mend_and_remove(
     ensures removed { OnOk result (HasRemoved forest.new k) }
     ensures running { OnOk result (AreRunning forest.new k (removals_to (merged forest.old.base) k) live.new.edges) }
     ensures sought { OnOk result (IsSought (labelled_edges live.new.edges) live.new.sought) }
+    ensures corners { OnOk result (IsCornered (length live.new.edges.beside.items) (labelled_edges live.new.edges) live.new.corners) }
 {
     if ratio > 0 {
         remove_vertices(alloc, forest, live, step, made, loser_area, ratio, k)
@@ -183,9 +209,9 @@ fn mend_and_remove(
     }
 }
 
-/// Makes step number k of the history in the forest, takes out what it removes, and gives its record. The edges are those
-/// before the step, and then those after it. Twice the area of the step's loser is given. Where nothing is removed the time is that
-/// of the loser's edges, and of the points of the edges that the step changes.
+/// Makes step number k of the history in the forest, takes out what it removes, and gives its record. The edges are
+/// those before the step, and then those after it. Twice the area of the step's loser is given. Where nothing is
+/// removed the time is that of the loser's edges, and of the points of the edges that the step changes.
 pub fn make_step(
     alloc: Global,
     tree: &FaceTree,
@@ -205,6 +231,7 @@ pub fn make_step(
     requires removed { HasRemoved forest.old (k - 1) }
     requires running { AreRunning forest.old (k - 1) (removals_to (merged forest.old.base) (k - 1)) live.old.edges }
     requires sought { IsSought (labelled_edges live.old.edges) live.old.sought }
+    requires corners { IsCornered (length live.old.edges.beside.items) (labelled_edges live.old.edges) live.old.corners }
     ensures record { IfOk result (λ r. r ≡ step_record (merged forest.old.base) k) }
     ensures base { OnOk result (forest.new.base ≡ forest.old.base) }
     ensures made { OnOk result (forest.new.made ≡ k) }
@@ -212,6 +239,7 @@ pub fn make_step(
     ensures removed { OnOk result (HasRemoved forest.new k) }
     ensures running { OnOk result (AreRunning forest.new k (removals_to (merged forest.old.base) k) live.new.edges) }
     ensures sought { OnOk result (IsSought (labelled_edges live.new.edges) live.new.sought) }
+    ensures corners { OnOk result (IsCornered (length live.new.edges.beside.items) (labelled_edges live.new.edges) live.new.corners) }
 {
     let old = forest.count();
     forest.merge(alloc, step)?;

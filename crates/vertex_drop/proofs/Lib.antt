@@ -6,5 +6,7 @@ pub mod Removed
 pub mod NearPlaces
 pub mod Unswept
 pub mod Swept
-pub mod CornerPlaces
-pub mod WideCorners
+pub mod Least
+pub mod Chosen
+pub mod Reached
+pub mod Candidates

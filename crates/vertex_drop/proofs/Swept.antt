@@ -14,8 +14,8 @@ use Rattle.tgap_model.specs.Removals.{path, is_removable, Swept, sweep, sweep_fr
 use Rattle.vertex_drop.specs.declared.removable.Rule.{Rule}
 use Rattle.vertex_drop.specs.declared.near.Stand.{Stand}
 use Rattle.vertex_drop.specs.Held.{IsNearPoint}
-use Rattle.vertex_drop.specs.Left.{left_segments, unswept_path, other_segments}
-use Rattle.vertex_drop.specs.Sweep.{sweep_after, swept_edge, IsEdgeSwept}
+use Rattle.vertex_drop.specs.Left.{swept_by, left_segments, unswept_path, other_segments}
+use Rattle.vertex_drop.specs.Sweep.{sweep_after, swept_edge, sweep_chosen, IsEdgeSwept}
 use Rattle.vertex_drop.proofs.Unswept.{Ascend, left_around}
 
 -- ---- lists of segments that every test finds alike
@@ -221,13 +221,13 @@ module _ (ratio : ℕ) (area : ℤ) where
           sym (append-nil gone) ∙ ap (λ (u : Swept). gone ++ u.gone) (sym now) ∙ h.removed,
         )
 
-  -- what is tested where a sweep stands at a vertex of edge number i is what the definition tests
+  -- what is tested where a sweep stands at a vertex of edge number i is what the sweep of that edge tests
   pub stand_alike : (at : Stand) (edges : List Edge) (i : ℕ) (d : Edge) (kept : List Seg) (a b c : Point) → Ascend edges → i < length edges
       → (get_or edges i d).key ≡ at.key
       → is_removable ratio area (kept ++ left_segments at edges) a b c
-      ≡ is_removable ratio area (other_segments at.made i edges ++ kept ++ path (drop (at.place + 1) (get_or edges i d).points)) a b c
+      ≡ is_removable ratio area (other_segments (swept_by at) i edges ++ kept ++ path (drop (at.place + 1) (get_or edges i d).points)) a b c
   stand_alike at edges i d kept a b c up short same =
-      let before = flat_map (unswept_path at.made) (take i edges) in
+      let before = flat_map (unswept_path (swept_by at)) (take i edges) in
       let rest = path (drop (at.place + 1) (get_or edges i d).points) in
       let later = live_segments (drop (i + 1) edges) in
       ap (λ (l : List Seg). is_removable ratio area (kept ++ l) a b c) (left_around at edges i d up short same)
@@ -235,34 +235,45 @@ module _ (ratio : ℕ) (area : ℤ) where
 
 -- ---- all edges
 
--- what is removed of these edges, where `before` has the segments of the edges before them
-abbrev sweep_rest : ℕ → ℤ → ℕ → List Seg → List Edge → List Point
-sweep_rest ratio area made before [] = []
-sweep_rest ratio area made before (e ∷ edges) =
-    elim (has_side made e) [
-      | true ↦
-          let s = sweep_points ratio area (before ++ live_segments edges) e.points in
-          s.gone ++ sweep_rest ratio area made (before ++ path s.kept) edges
-      | false ↦ sweep_rest ratio area made (before ++ path e.points) edges
-    ]
-
 -- the segments of one edge more
 live_more : (before : List Edge) (e : Edge) → live_segments (before ++ e ∷ []) ≡ live_segments before ++ path e.points
 live_more before e =
     flat_map-append (λ (x : Edge). path x.points) before (e ∷ [])
     ∙ ap (λ (rest : List Seg). live_segments before ++ rest) (append-nil (path e.points))
 
-module _ (ratio : ℕ) (area : ℤ) (made : ℕ) where
-  pub rest_swept : (before : List Seg) (e : Edge) (edges : List Edge) → has_side made e ≡ true
-      → sweep_rest ratio area made before (e ∷ edges)
+module _ (ratio : ℕ) (area : ℤ) (swept : Edge → Bool) where
+  pub rest_swept : (before : List Seg) (e : Edge) (edges : List Edge) → swept e ≡ true
+      → sweep_chosen ratio area swept before (e ∷ edges)
       ≡ (sweep_points ratio area (before ++ live_segments edges) e.points).gone
-      ++ sweep_rest ratio area made (before ++ path (sweep_points ratio area (before ++ live_segments edges) e.points).kept) edges
-  rest_swept before e edges h = rw (sweep_rest, h) refl
+      ++ sweep_chosen ratio area swept (before ++ path (sweep_points ratio area (before ++ live_segments edges) e.points).kept) edges
+  rest_swept before e edges h = rw (sweep_chosen, h) refl
 
-  pub rest_passed : (before : List Seg) (e : Edge) (edges : List Edge) → has_side made e ≡ false
-      → sweep_rest ratio area made before (e ∷ edges) ≡ sweep_rest ratio area made (before ++ path e.points) edges
-  rest_passed before e edges h = rw (sweep_rest, h) refl
+  pub rest_passed : (before : List Seg) (e : Edge) (edges : List Edge) → swept e ≡ false
+      → sweep_chosen ratio area swept before (e ∷ edges) ≡ sweep_chosen ratio area swept (before ++ path e.points) edges
+  rest_passed before e edges h = rw (sweep_chosen, h) refl
 
+  rest_alike : (before before' : List Seg) (edges : List Edge) → AreAlike before before' → sweep_chosen ratio area swept before edges ≡ sweep_chosen ratio area swept before' edges
+  rest_alike before before' [] h = refl
+  rest_alike before before' (e ∷ edges) h =
+      by (swept e) refl (λ ys. rest_alike (before ++ ys) (before' ++ ys) edges (alike_both before before' ys h))
+    where
+      same : sweep_points ratio area (before ++ live_segments edges) e.points ≡ sweep_points ratio area (before' ++ live_segments edges) e.points
+      same =
+          points_alike ratio area (before ++ live_segments edges) (before' ++ live_segments edges) e.points
+          (alike_both before before' (live_segments edges) h)
+
+      by : (r : Bool) → swept e ≡ r
+          → ((ys : List Seg) → sweep_chosen ratio area swept (before ++ ys) edges ≡ sweep_chosen ratio area swept (before' ++ ys) edges)
+          → sweep_chosen ratio area swept before (e ∷ edges) ≡ sweep_chosen ratio area swept before' (e ∷ edges)
+      by true side rest =
+          let t = sweep_points ratio area (before ++ live_segments edges) e.points in
+          rest_swept before e edges side
+          ∙ ap (λ (l : List Point). t.gone ++ l) (rest (path t.kept))
+          ∙ ap (λ (u : Swept). u.gone ++ sweep_chosen ratio area swept (before' ++ path u.kept) edges) same
+          ∙ sym (rest_swept before' e edges side)
+      by false side rest = rest_passed before e edges side ∙ rest (path e.points) ∙ sym (rest_passed before' e edges side)
+
+module _ (ratio : ℕ) (area : ℤ) (made : ℕ) where
   pub edges_swept : (before : List Edge) (e : Edge) (edges : List Edge) → has_side made e ≡ true
       → sweep_edges ratio area made before (e ∷ edges)
       ≡ (sweep_points ratio area (live_segments before ++ live_segments edges) e.points).gone
@@ -275,103 +286,82 @@ module _ (ratio : ℕ) (area : ℤ) (made : ℕ) where
 
   -- what is removed depends on the segments before alone
   edge_step : (before : List Edge) (e : Edge) (edges : List Edge) (r : Bool) → has_side made e ≡ r
-      → ((x : Edge) → sweep_edges ratio area made (before ++ x ∷ []) edges ≡ sweep_rest ratio area made (live_segments (before ++ x ∷ [])) edges)
-      → sweep_edges ratio area made before (e ∷ edges) ≡ sweep_rest ratio area made (live_segments before) (e ∷ edges)
+      → ((x : Edge) → sweep_edges ratio area made (before ++ x ∷ []) edges ≡ sweep_chosen ratio area (has_side made) (live_segments (before ++ x ∷ [])) edges)
+      → sweep_edges ratio area made before (e ∷ edges) ≡ sweep_chosen ratio area (has_side made) (live_segments before) (e ∷ edges)
   edge_step before e edges true h k =
       let s = sweep_points ratio area (live_segments before ++ live_segments edges) e.points in
       let x : Edge = record e { points = s.kept } in
       edges_swept before e edges h
-      ∙ ap (λ (rest : List Point). s.gone ++ rest) (k x ∙ ap (λ (l : List Seg). sweep_rest ratio area made l edges) (live_more before x))
-      ∙ sym (rest_swept (live_segments before) e edges h)
+      ∙ ap (λ (rest : List Point). s.gone ++ rest) (k x ∙ ap (λ (l : List Seg). sweep_chosen ratio area (has_side made) l edges) (live_more before x))
+      ∙ sym (rest_swept ratio area (has_side made) (live_segments before) e edges h)
   edge_step before e edges false h k =
-      edges_passed before e edges h ∙ k e ∙ ap (λ (l : List Seg). sweep_rest ratio area made l edges) (live_more before e)
-      ∙ sym (rest_passed (live_segments before) e edges h)
+      edges_passed before e edges h ∙ k e ∙ ap (λ (l : List Seg). sweep_chosen ratio area (has_side made) l edges) (live_more before e)
+      ∙ sym (rest_passed ratio area (has_side made) (live_segments before) e edges h)
 
-  pub swept_edges : (before edges : List Edge) → sweep_edges ratio area made before edges ≡ sweep_rest ratio area made (live_segments before) edges
+  pub swept_edges : (before edges : List Edge) → sweep_edges ratio area made before edges ≡ sweep_chosen ratio area (has_side made) (live_segments before) edges
   swept_edges before [] = refl
   swept_edges before (e ∷ edges) = edge_step before e edges _ refl (λ x. swept_edges (before ++ x ∷ []) edges)
 
-  rest_alike : (before before' : List Seg) (edges : List Edge) → AreAlike before before' → sweep_rest ratio area made before edges ≡ sweep_rest ratio area made before' edges
-  rest_alike before before' [] h = refl
-  rest_alike before before' (e ∷ edges) h =
-      by (has_side made e) refl (λ ys. rest_alike (before ++ ys) (before' ++ ys) edges (alike_both before before' ys h))
-    where
-      same : sweep_points ratio area (before ++ live_segments edges) e.points ≡ sweep_points ratio area (before' ++ live_segments edges) e.points
-      same =
-          points_alike ratio area (before ++ live_segments edges) (before' ++ live_segments edges) e.points
-          (alike_both before before' (live_segments edges) h)
-
-      by : (r : Bool) → has_side made e ≡ r
-          → ((ys : List Seg) → sweep_rest ratio area made (before ++ ys) edges ≡ sweep_rest ratio area made (before' ++ ys) edges)
-          → sweep_rest ratio area made before (e ∷ edges) ≡ sweep_rest ratio area made before' (e ∷ edges)
-      by true side rest =
-          let t = sweep_points ratio area (before ++ live_segments edges) e.points in
-          rest_swept before e edges side
-          ∙ ap (λ (l : List Point). t.gone ++ l) (rest (path t.kept))
-          ∙ ap (λ (u : Swept). u.gone ++ sweep_rest ratio area made (before' ++ path u.kept) edges) same
-          ∙ sym (rest_swept before' e edges side)
-      by false side rest = rest_passed before e edges side ∙ rest (path e.points) ∙ sym (rest_passed before' e edges side)
-
 -- ---- one edge
 
-module _ (rule : Rule) (made : ℕ) (edges : List Edge) where
+module _ (rule : Rule) (swept : Edge → Bool) (edges : List Edge) where
   -- What was removed so far, and what is of the edges from number i on, is what is removed of all.
   abbrev pub IsGoing : List Seg → List Point → ℕ → Type 0
   IsGoing kept gone i =
-      gone ++ sweep_rest rule.ratio rule.area made (flat_map (unswept_path made) (take i edges) ++ kept) (drop i edges)
-      ≡ sweep_rest rule.ratio rule.area made [] edges
+      gone ++ sweep_chosen rule.ratio rule.area swept (flat_map (unswept_path swept) (take i edges) ++ kept) (drop i edges)
+      ≡ sweep_chosen rule.ratio rule.area swept [] edges
 
   -- the segments of one edge more that is not swept
   unswept_more : (i : ℕ) (d : Edge) → i < length edges
-      → flat_map (unswept_path made) (take (i + 1) edges) ≡ flat_map (unswept_path made) (take i edges) ++ unswept_path made (get_or edges i d)
+      → flat_map (unswept_path swept) (take (i + 1) edges) ≡ flat_map (unswept_path swept) (take i edges) ++ unswept_path swept (get_or edges i d)
   unswept_more i d lt =
-      ap (flat_map (unswept_path made)) (take_more edges i d lt) ∙ flat_map-append (unswept_path made) (take i edges) (get_or edges i d ∷ [])
-      ∙ ap (λ (l : List Seg). flat_map (unswept_path made) (take i edges) ++ l) (append-nil (unswept_path made (get_or edges i d)))
+      ap (flat_map (unswept_path swept)) (take_more edges i d lt) ∙ flat_map-append (unswept_path swept) (take i edges) (get_or edges i d ∷ [])
+      ∙ ap (λ (l : List Seg). flat_map (unswept_path swept) (take i edges) ++ l) (append-nil (unswept_path swept (get_or edges i d)))
 
-  -- an edge that does not border the face
-  pub edge_passed : (kept : List Seg) (gone : List Point) (i : ℕ) (d : Edge) → i < length edges → has_side made (get_or edges i d) ≡ false
+  -- an edge that is not swept
+  pub edge_passed : (kept : List Seg) (gone : List Point) (i : ℕ) (d : Edge) → i < length edges → swept (get_or edges i d) ≡ false
       → IsGoing kept gone i → IsGoing kept gone (i + 1)
   edge_passed kept gone i d lt h s =
       let e = get_or edges i d in
       let rest = drop (i + 1) edges in
-      let before = flat_map (unswept_path made) (take i edges) in
-      let more : flat_map (unswept_path made) (take (i + 1) edges) ≡ before ++ path e.points =
+      let before = flat_map (unswept_path swept) (take i edges) in
+      let more : flat_map (unswept_path swept) (take (i + 1) edges) ≡ before ++ path e.points =
       unswept_more i d lt ∙ ap (λ (b : Bool). before ++ (if b then [] else path e.points)) h in
-      ap (λ (l : List Seg). gone ++ sweep_rest rule.ratio rule.area made (l ++ kept) rest) more
+      ap (λ (l : List Seg). gone ++ sweep_chosen rule.ratio rule.area swept (l ++ kept) rest) more
       ∙ ap (λ (l : List Point). gone ++ l)
-      (rest_alike rule.ratio rule.area made ((before ++ path e.points) ++ kept) ((before ++ kept) ++ path e.points) rest (alike_turned before (path e.points) kept)
-      ∙ sym (at_drop_more (sweep_rest rule.ratio rule.area made (before ++ kept)) edges i d lt ∙ rest_passed rule.ratio rule.area made (before ++ kept) e rest h))
+      (rest_alike rule.ratio rule.area swept ((before ++ path e.points) ++ kept) ((before ++ kept) ++ path e.points) rest (alike_turned before (path e.points) kept)
+      ∙ sym (at_drop_more (sweep_chosen rule.ratio rule.area swept (before ++ kept)) edges i d lt ∙ rest_passed rule.ratio rule.area swept (before ++ kept) e rest h))
       ∙ s
 
-  -- an edge that borders it
-  pub edge_swept : (kept all_kept : List Seg) (gone all_gone : List Point) (i : ℕ) (d : Edge) → i < length edges → has_side made (get_or edges i d) ≡ true
-      → IsEdgeSwept rule made edges i d kept all_kept gone all_gone → IsGoing kept gone i → IsGoing all_kept all_gone (i + 1)
+  -- an edge that is
+  pub edge_swept : (kept all_kept : List Seg) (gone all_gone : List Point) (i : ℕ) (d : Edge) → i < length edges → swept (get_or edges i d) ≡ true
+      → IsEdgeSwept rule swept edges i d kept all_kept gone all_gone → IsGoing kept gone i → IsGoing all_kept all_gone (i + 1)
   edge_swept kept all_kept gone all_gone i d lt h w s =
       let e = get_or edges i d in
       let rest = drop (i + 1) edges in
-      let before = flat_map (unswept_path made) (take i edges) in
-      let t = swept_edge rule made edges i d kept in
+      let before = flat_map (unswept_path swept) (take i edges) in
+      let t = swept_edge rule swept edges i d kept in
       let same : t ≡ sweep_points rule.ratio rule.area ((before ++ kept) ++ live_segments rest) e.points =
       after_alike rule.ratio rule.area (before ++ live_segments rest) kept ((before ++ kept) ++ live_segments rest) e.points
       (alike_turned before (live_segments rest) kept) in
-      let more : flat_map (unswept_path made) (take (i + 1) edges) ≡ before =
+      let more : flat_map (unswept_path swept) (take (i + 1) edges) ≡ before =
       unswept_more i d lt ∙ ap (λ (b : Bool). before ++ (if b then [] else path e.points)) h ∙ append-nil before in
       let removed : IsGoing (kept ++ path t.kept) (gone ++ t.gone) (i + 1) =
-      ap (λ (l : List Seg). (gone ++ t.gone) ++ sweep_rest rule.ratio rule.area made (l ++ (kept ++ path t.kept)) rest) more
-      ∙ ap (λ (l : List Seg). (gone ++ t.gone) ++ sweep_rest rule.ratio rule.area made l rest) (sym (append_assoc before kept (path t.kept)))
-      ∙ append_assoc gone t.gone (sweep_rest rule.ratio rule.area made ((before ++ kept) ++ path t.kept) rest)
-      ∙ ap (λ (u : Swept). gone ++ (u.gone ++ sweep_rest rule.ratio rule.area made ((before ++ kept) ++ path u.kept) rest)) same
+      ap (λ (l : List Seg). (gone ++ t.gone) ++ sweep_chosen rule.ratio rule.area swept (l ++ (kept ++ path t.kept)) rest) more
+      ∙ ap (λ (l : List Seg). (gone ++ t.gone) ++ sweep_chosen rule.ratio rule.area swept l rest) (sym (append_assoc before kept (path t.kept)))
+      ∙ append_assoc gone t.gone (sweep_chosen rule.ratio rule.area swept ((before ++ kept) ++ path t.kept) rest)
+      ∙ ap (λ (u : Swept). gone ++ (u.gone ++ sweep_chosen rule.ratio rule.area swept ((before ++ kept) ++ path u.kept) rest)) same
       ∙ ap (λ (l : List Point). gone ++ l)
-      (sym (at_drop_more (sweep_rest rule.ratio rule.area made (before ++ kept)) edges i d lt ∙ rest_swept rule.ratio rule.area made (before ++ kept) e rest h))
+      (sym (at_drop_more (sweep_chosen rule.ratio rule.area swept (before ++ kept)) edges i d lt ∙ rest_swept rule.ratio rule.area swept (before ++ kept) e rest h))
       ∙ s in
       subst (λ (l : List Seg). IsGoing l all_gone (i + 1)) (sym w.left) (subst (λ (l : List Point). IsGoing (kept ++ path t.kept) l (i + 1)) (sym w.removed) removed)
 
-  pub all_swept : (kept : List Seg) (gone : List Point) (i : ℕ) → length edges ≤ i → IsGoing kept gone i → gone ≡ sweep_edges rule.ratio rule.area made [] edges
+  pub all_swept : (kept : List Seg) (gone : List Point) (i : ℕ) → length edges ≤ i → IsGoing kept gone i → gone ≡ sweep_chosen rule.ratio rule.area swept [] edges
   all_swept kept gone i le s =
       sym (append-nil gone)
       ∙ ap (λ (l : List Point). gone ++ l)
-      (sym (at_drop_all (sweep_rest rule.ratio rule.area made (flat_map (unswept_path made) (take i edges) ++ kept)) edges i le))
-      ∙ s ∙ sym (swept_edges rule.ratio rule.area made [] edges)
+      (sym (at_drop_all (sweep_chosen rule.ratio rule.area swept (flat_map (unswept_path swept) (take i edges) ++ kept)) edges i le))
+      ∙ s
 
 -- ---- a step
 

@@ -9,11 +9,11 @@ use Rattle.std.proofs.lemmas.List.Elements.{All-head, All-tail}
 use Rattle.tgap_model.specs.declared.geometry.Point.{Point}
 use Rattle.tgap_model.specs.declared.geometry.Seg.{Seg}
 use Rattle.tgap_model.specs.declared.slice.Edge.{Edge}
-use Rattle.tgap_model.specs.Removals.{path, live_segments, has_side}
+use Rattle.tgap_model.specs.Removals.{path, live_segments}
 use Rattle.lemmas.proofs.Members.{AllPairs-head, AllPairs-tail}
 use Rattle.grid_index.specs.declared.live.SegmentPlace.{SegmentPlace}
 use Rattle.vertex_drop.specs.declared.near.Stand.{Stand}
-use Rattle.vertex_drop.specs.Left.{first_left, left_path, left_segments, unswept_path, passes_in, passes_on, passes_at}
+use Rattle.vertex_drop.specs.Left.{swept_by, first_left, left_path, left_segments, unswept_path, passes_in, passes_on, passes_at}
 
 -- an edge, for reads of edges
 abbrev pub no_edge : Edge
@@ -84,16 +84,16 @@ passes_found test at (e ∷ edges) p (suc j) d up short same =
 
 module _ (at : Stand) where
   -- an edge before
-  left_before : (e : Edge) → e.key < at.key → left_path at e ≡ unswept_path at.made e
-  left_before e l = ap (λ n. path (drop n e.points)) first ∙ by (has_side at.made e)
+  left_before : (e : Edge) → e.key < at.key → left_path at e ≡ unswept_path (swept_by at) e
+  left_before e l = ap (λ n. path (drop n e.points)) first ∙ by (swept_by at e)
     where
       below : nat_lt e.key at.key ≡ true
       below = grind (arith, nat_tests, l)
 
-      first : first_left at e ≡ (if has_side at.made e then length e.points else 0)
+      first : first_left at e ≡ (if swept_by at e then length e.points else 0)
       first =
-          ap (λ (b : Bool). cond b (at.place + 1) (cond (nat_lt e.key at.key && has_side at.made e) (length e.points) 0)) (ne_eqb e.key at.key (λ h. absurd (omega (arith, h, l))))
-          ∙ ap (λ (b : Bool). cond (b && has_side at.made e) (length e.points) 0) below
+          ap (λ (b : Bool). cond b (at.place + 1) (cond (nat_lt e.key at.key && swept_by at e) (length e.points) 0)) (ne_eqb e.key at.key (λ h. absurd (omega (arith, h, l))))
+          ∙ ap (λ (b : Bool). cond (b && swept_by at e) (length e.points) 0) below
 
       by : (b : Bool) → path (drop (if b then length e.points else 0) e.points) ≡ (if b then [] else path e.points)
       by true = ap path (drop_all (length e.points) e.points (omega arith))
@@ -108,13 +108,13 @@ module _ (at : Stand) where
 
       first : first_left at e ≡ 0
       first =
-          ap (λ (b : Bool). cond b (at.place + 1) (cond (nat_lt e.key at.key && has_side at.made e) (length e.points) 0)) (ne_eqb e.key at.key (λ h. absurd (omega (arith, h, l))))
-          ∙ ap (λ (b : Bool). cond (b && has_side at.made e) (length e.points) 0) above
+          ap (λ (b : Bool). cond b (at.place + 1) (cond (nat_lt e.key at.key && swept_by at e) (length e.points) 0)) (ne_eqb e.key at.key (λ h. absurd (omega (arith, h, l))))
+          ∙ ap (λ (b : Bool). cond (b && swept_by at e) (length e.points) 0) above
 
   -- the edge itself
   left_at : (e : Edge) → e.key ≡ at.key → left_path at e ≡ path (drop (at.place + 1) e.points)
   left_at e same =
-      ap (λ (b : Bool). path (drop (cond b (at.place + 1) (cond (nat_lt e.key at.key && has_side at.made e) (length e.points) 0)) e.points)) (eq-eqb e.key at.key same)
+      ap (λ (b : Bool). path (drop (cond b (at.place + 1) (cond (nat_lt e.key at.key && swept_by at e) (length e.points) 0)) e.points)) (eq-eqb e.key at.key same)
 
   all_after : (edges : List Edge) → All (λ e. at.key < e.key) edges → left_segments at edges ≡ live_segments edges
   all_after [] h = refl
@@ -125,7 +125,7 @@ module _ (at : Stand) where
   -- the segments that are left round the edge with the key
   pub left_around : (edges : List Edge) (i : ℕ) (d : Edge) → Ascend edges → i < length edges → (get_or edges i d).key ≡ at.key
       → left_segments at edges
-      ≡ flat_map (unswept_path at.made) (take i edges) ++ (path (drop (at.place + 1) (get_or edges i d).points) ++ live_segments (drop (i + 1) edges))
+      ≡ flat_map (unswept_path (swept_by at)) (take i edges) ++ (path (drop (at.place + 1) (get_or edges i d).points) ++ live_segments (drop (i + 1) edges))
   left_around [] i d up short same = absurd (omega (arith, short))
   left_around (e ∷ edges) zero d up short same =
       let lt = λ (e f : Edge). e.key < f.key in
@@ -134,8 +134,8 @@ module _ (at : Stand) where
   left_around (e ∷ edges) (suc i) d up short same =
       let lt = λ (e f : Edge). e.key < f.key in
       let less = AllPairs-head lt e edges up i d (omega (arith, short)) in
-      let before = unswept_path at.made e in
-      let more = flat_map (unswept_path at.made) (take i edges) in
+      let before = unswept_path (swept_by at) e in
+      let more = flat_map (unswept_path (swept_by at)) (take i edges) in
       let rest = path (drop (at.place + 1) (get_or edges i d).points) in
       let next : suc (i + 1) ≡ suc i + 1 = omega arith in
       ap₂ (λ (xs ys : List Seg). xs ++ ys) (left_before e (omega (arith, less, same)))

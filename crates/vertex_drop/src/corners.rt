@@ -1,52 +1,61 @@
-//! Whether a step could remove anything.
+//! How small the corners of edges are.
 
-ghost use Rattle.std.specs.Prelude.{◌≡◌, ℕ, List as Sequence, [], false, filter, All};
-ghost use Rattle.tgap_model.specs.declared.slice.Edge.{Edge as Line};
-ghost use Rattle.tgap_model.specs.Removals.{has_side, sweep};
-ghost use Rattle.vertex_drop.specs.Corners.{has_small_corner, may_remove};
+ghost use Rattle.std.specs.Prelude.{◌≡◌, ◌≤◌, ℕ, pos, Some, map, filter, All, IfOk};
+ghost use Rattle.std.specs.Option.{option_map};
+ghost use Rattle.tgap_model.specs.Bounds.{max_cross};
+ghost use Rattle.vertex_drop.specs.Corners.{has_small_corner, least_corner, may_lose};
 ghost use Rattle.vertex_drop.specs.Held.{IsNearPoint};
 
-use crate::removable::{Corner, Rule, is_small_corner};
-use tgap_model::{Edge, Point};
+use crate::removable::is_small_area;
+use grid_geo::area2;
+use std::alloc::Global;
+use tgap_model::{Edge, Memory, Point};
 
-/// Whether three points in a row of these are on one line, or have a triangle that is small enough.
-fn has_small_corner(rule: Rule, points: &[Point]) -> bool
+/// Twice the area of the least triangle of three points in a row of these, in square grid units: 0 where three are on
+/// one line, and none where there are fewer than three points. It takes one pass over them.
+pub fn least_corner(points: &[Point]) -> Option<i128>
     requires { All IsNearPoint points.now }
-    ensures { result ≡ has_small_corner rule.ratio rule.area points.now }
+    ensures exact { result ≡ option_map pos (least_corner points.now) }
+    ensures small { (n : ℕ) → least_corner points.now ≡ Some n → n ≤ max_cross }
 {
-    for i in 2..points.len() {
-        let corner = Corner {
-            a: points[i - 2],
-            b: points[i - 1],
-            c: points[i],
-        };
-        if is_small_corner(rule, corner) {
-            return true;
-        }
+    if points.len() < 3 {
+        return None;
     }
-    false
+    let mut least = area2(points[0], points[1], points[2]);
+    for i in 3..points.len() {
+        least = least.min(area2(points[i - 2], points[i - 1], points[i]));
+    }
+    Some(least)
 }
 
-/// Whether a step may remove a vertex of these edges, which are those that border its new face, where `loser_area` is twice the
-/// area of its loser: the ratio is not 0, and three points in a row of one of them are on one line, or the ratio times twice the
-/// area of their triangle is at most that. Where it may not, `sweep` removes nothing, and need not be asked. It takes one pass
-/// over the points, which ends at the first such three. With a ratio of 0 nothing is read.
-pub fn may_remove(edges: &[Edge], loser_area: i128, ratio: u32) -> bool
-    requires { All (λ e. All IsNearPoint e.points) edges.now }
-    ensures exact { result ≡ may_remove ratio loser_area edges.now }
-    ensures none { result ≡ false → (made : ℕ) (live : Sequence Line) → edges.now ≡ filter (has_side made) live → sweep ratio loser_area made live ≡ [] }
+/// Whether three points in a row of these are on one line, or have a triangle that is small enough.
+fn has_small_corner(points: &[Point], loser_area: i128, ratio: u32) -> bool
+    requires { All IsNearPoint points.now }
+    ensures { result ≡ has_small_corner ratio loser_area points.now }
 {
-    if ratio == 0 {
-        return false;
+    match least_corner(points) {
+        Some(area) => is_small_area(area, loser_area, ratio),
+        None => false,
     }
-    let rule = Rule {
-        ratio,
-        area: loser_area,
-    };
+}
+
+/// The keys of those of these edges that border the face `made` and have three points in a row that a step may cut
+/// short, in the order of the edges.
+pub fn small_keys(
+    alloc: Global,
+    edges: &[Edge],
+    made: u32,
+    loser_area: i128,
+    ratio: u32,
+) -> Result<Vec<u32>, Memory>
+    requires { All (λ e. All IsNearPoint e.points) edges.now }
+    ensures { IfOk result (λ keys. keys.items ≡ map (λ e. e.key) (filter (may_lose ratio loser_area made) edges.now)) }
+{
+    let mut keys = Vec::new(alloc);
     for edge in edges {
-        if has_small_corner(rule, edge.points.as_slice()) {
-            return true;
+        if edge.has_side(made) && has_small_corner(edge.points.as_slice(), loser_area, ratio) {
+            keys.push(edge.key)?;
         }
     }
-    false
+    Ok(keys)
 }

@@ -1,5 +1,5 @@
-//! Which vertices a step of the history removes out of the edges that border its new face. It stands on `tgap_model`, whose
-//! `Removals` defines them, on the predicates of `grid_geo`, and on the look-up of segments of `grid_index`.
+//! Which vertices a step of the history removes out of the edges that border its new face. It stands on `tgap_model`,
+//! whose `Removals` defines them, on the predicates of `grid_geo`, and on the look-up of segments of `grid_index`.
 #![tactic(auto)]
 
 mod bounds;
@@ -11,5 +11,6 @@ mod removable;
 mod steps;
 mod triangle;
 
-pub use corners::may_remove;
-pub use steps::sweep;
+pub use corners::least_corner;
+pub use removable::is_small_area;
+pub use steps::{sweep, sweep_some};

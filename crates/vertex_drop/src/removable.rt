@@ -1,12 +1,12 @@
 //! Whether a vertex can be removed.
 
-ghost use Rattle.std.specs.Prelude.{◌≡◌, ◌≢◌, ◌<◌, ◌≤◌, ◌*◌, ◌^◌, ◌++◌, ℕ, pos, int_le, unsigned_abs, ◌+◌, IfOk};
+ghost use Rattle.std.specs.Prelude.{◌≡◌, ◌≢◌, ◌<◌, ◌≤◌, ◌*◌, ◌^◌, ◌++◌, ℕ, pos, int_le, unsigned_abs, ◌+◌, AllPairs, IfOk};
 ghost use Rattle.std.specs.List.{list_all};
 ghost use Rattle.tgap_model.specs.Bounds.{max_cross};
 ghost use Rattle.tgap_model.specs.Point.{cross};
 ghost use Rattle.tgap_model.specs.Clear.{is_clear};
 ghost use Rattle.tgap_model.specs.Removals.{is_removable};
-ghost use Rattle.vertex_drop.specs.Corners.{is_small_corner};
+ghost use Rattle.vertex_drop.specs.Corners.{small_area};
 ghost use Rattle.vertex_drop.specs.Held.{IsNearPoint};
 ghost use Rattle.vertex_drop.specs.Left.{left_segments};
 ghost use Rattle.vertex_drop.specs.Outside.{IsTriangle};
@@ -35,14 +35,17 @@ fn is_small(rule: Rule, area: i128) -> bool
     i128::from(rule.ratio) * area <= rule.area
 }
 
-/// Whether the vertex of a corner is on one line with its neighbours, or their triangle is small enough.
-pub fn is_small_corner(rule: Rule, corner: Corner) -> bool
-    requires a { IsNearPoint corner.a }
-    requires b { IsNearPoint corner.b }
-    requires c { IsNearPoint corner.c }
-    ensures { result ≡ is_small_corner rule.ratio rule.area corner.a corner.b corner.c }
+/// Whether a corner with twice this area may go, by the rule of a step: it has no area, or `ratio` times it is at most
+/// `loser_area`, which is twice the area of the loser. What may go by its area still has to be clear of the other
+/// segments.
+pub fn is_small_area(area: i128, loser_area: i128, ratio: u32) -> bool
+    requires { unsigned_abs area ≤ max_cross }
+    ensures { (n : ℕ) → area ≡ pos n → result ≡ small_area ratio loser_area n }
 {
-    let area = area2(corner.a, corner.b, corner.c);
+    let rule = Rule {
+        ratio,
+        area: loser_area,
+    };
     area == 0 || is_small(rule, area)
 }
 
@@ -78,13 +81,14 @@ fn triangle_of(corner: Corner) -> Triangle
 fn is_clear_of_all(
     alloc: Global,
     t: &Triangle,
-    at: Stand,
+    at: Stand<'_>,
     live: &Live,
     kept: &Kept,
 ) -> Result<bool, Memory>
     requires triangle { IsTriangle t.now }
+    requires keys { AllPairs (λ j k. j < k) at.keys.now }
     requires at { at.place + 1 < 2 ^ 32 }
-    ensures { IfOk result (λ clear. clear ≡ list_all (is_clear t.now.a t.now.b t.now.c) (kept.now ++ left_segments at live.now)) }
+    ensures { IfOk result (λ clear. clear ≡ list_all (is_clear t.now.a t.now.b t.now.c) (kept.now ++ left_segments at.entry live.now)) }
 {
     if !kept.is_clear_of(t) {
         return Ok(false);
@@ -97,15 +101,16 @@ pub fn is_removable(
     alloc: Global,
     rule: Rule,
     corner: Corner,
-    at: Stand,
+    at: Stand<'_>,
     live: &Live,
     kept: &Kept,
 ) -> Result<bool, Memory>
     requires a { IsNearPoint corner.a }
     requires b { IsNearPoint corner.b }
     requires c { IsNearPoint corner.c }
+    requires keys { AllPairs (λ j k. j < k) at.keys.now }
     requires at { at.place + 1 < 2 ^ 32 }
-    ensures { IfOk result (λ removed. removed ≡ is_removable rule.ratio rule.area (kept.now ++ left_segments at live.now) corner.a corner.b corner.c) }
+    ensures { IfOk result (λ removed. removed ≡ is_removable rule.ratio rule.area (kept.now ++ left_segments at.entry live.now) corner.a corner.b corner.c) }
 {
     let area = area2(corner.a, corner.b, corner.c);
     if area == 0 {

@@ -1,30 +1,35 @@
 //! The sweep of one step.
 
-ghost use Rattle.std.specs.Prelude.{◌≡◌, ◌<◌, [], map, length, OnOk, IfOk};
+ghost use Rattle.std.specs.Prelude.{◌≡◌, ◌<◌, [], true, map, length, All, AllPairs, Contains, OnOk, IfOk};
 ghost use Rattle.tgap_model.specs.declared.slice.Edge.{Edge as Line};
-ghost use Rattle.tgap_model.specs.Removals.{sweep, sweep_edges};
-ghost use Rattle.vertex_drop.specs.Sweep.{IsEdgeSwept};
+ghost use Rattle.tgap_model.specs.Removals.{has_side, sweep};
+ghost use Rattle.vertex_drop.specs.Corners.{has_small_corner};
+ghost use Rattle.vertex_drop.specs.Left.{is_swept};
+ghost use Rattle.vertex_drop.specs.Sweep.{IsEdgeSwept, sweep_chosen};
 
+use crate::corners::small_keys;
 use crate::kept::Kept;
-use crate::near::Stand;
+use crate::near::{Stand, place_of};
 use crate::removable::{Corner, Rule, is_removable};
 use grid_index::Live;
 use std::alloc::Global;
 use tgap_model::{List, Memory, Point, Removal, Seg};
 
-/// Sweeps edge number `i` for the new face `made`. The segments that are left of it are put at the end of `kept`, and the
-/// points that are removed at the end of `gone`.
+/// Sweeps edge number `i` for the new face `made`, where the edges with these keys are swept. The segments that are
+/// left of it are put at the end of `kept`, and the points that are removed at the end of `gone`.
 fn sweep_edge(
     alloc: Global,
     rule: Rule,
     made: u32,
+    keys: &[u32],
     live: &Live,
     i: usize,
     kept: &mut Kept,
     gone: &mut Vec<Point>,
 ) -> Result<(), Memory>
-    requires { i < length live.now }
-    ensures { (d : Line) → OnOk result (IsEdgeSwept rule made live.now i d kept.old kept.new gone.old.items gone.new.items) }
+    requires keys { AllPairs (λ j k. j < k) keys.now }
+    requires place { i < length live.now }
+    ensures { (d : Line) → OnOk result (IsEdgeSwept rule (is_swept made keys.now) live.now i d kept.old kept.new gone.old.items gone.new.items) }
 {
     let edge = &live.edges().as_slice()[i];
     let points = edge.points.as_slice();
@@ -34,7 +39,12 @@ fn sweep_edge(
     for place in 1..last {
         let b = points[place];
         let c = points[place + 1];
-        let at = Stand { made, key, place };
+        let at = Stand {
+            made,
+            keys,
+            key,
+            place,
+        };
         if is_removable(alloc, rule, Corner { a, b, c }, at, live, kept)? {
             gone.push(b)?;
         } else {
@@ -47,17 +57,24 @@ fn sweep_edge(
     kept.close(alloc)
 }
 
-/// The vertices that are removed of the edges that border the face `made`, by this rule.
-fn sweep_edges(alloc: Global, rule: Rule, made: u32, live: &Live) -> Result<Vec<Point>, Memory>
-    ensures { IfOk result (λ gone. gone.items ≡ sweep_edges rule.ratio rule.area made [] live.now) }
+/// The vertices that are removed, by this rule, of the edges that have these keys and border the face `made`.
+fn sweep_keys(
+    alloc: Global,
+    rule: Rule,
+    made: u32,
+    keys: &[u32],
+    live: &Live,
+) -> Result<Vec<Point>, Memory>
+    requires ascending { AllPairs (λ j k. j < k) keys.now }
+    requires there { All (λ k. (e : Line) × Contains live.now e × (e.key ≡ k) × (has_side made e ≡ true)) keys.now }
+    ensures { IfOk result (λ gone. gone.items ≡ sweep_chosen rule.ratio rule.area (is_swept made keys.now) [] live.now) }
 {
     let edges = live.edges().as_slice();
     let mut kept = Kept::new(alloc);
     let mut gone = Vec::new(alloc);
-    for i in 0..edges.len() {
-        if edges[i].has_side(made) {
-            sweep_edge(alloc, rule, made, live, i, &mut kept, &mut gone)?;
-        }
+    for key in keys {
+        let i = place_of(edges, *key);
+        sweep_edge(alloc, rule, made, keys, live, i, &mut kept, &mut gone)?;
     }
     Ok(gone)
 }
@@ -76,16 +93,48 @@ fn removals_of(alloc: Global, points: &[Point], step: u32) -> Result<List<Remova
     Ok(removals)
 }
 
-/// What step number `step` removes, of which `made` is the new face and `loser_area` twice the area of the loser, in square
-/// grid units: of the live edges, in order of key, each one that has `made` at a side is swept once from its first point to
-/// its last. A vertex goes where it is on one line with the point before it that is left and the point after it, or where the
-/// triangle of the three, twice its area times `ratio`, is at most `loser_area` and clear of every live segment but its own
-/// two. With a ratio of 0 nothing goes, and nothing is read.
+/// What step number `step` removes, as `sweep` tells it, where `keys` are those of all the live edges that border the
+/// new face `made` and have three points in a row that are on one line, or of which twice the area of the triangle
+/// times `ratio` is at most `loser_area`. There may be keys of other edges among them that border that face. Only the
+/// edges with these keys are read and swept, since no vertex of another one goes.
 ///
-/// It takes a look at the faces of each edge, and reads the points of those that border the new face. Of a vertex whose
-/// triangle is too large, or has no area, no segment is looked at. For any other one it asks once for the segments whose boxes
-/// meet that of the triangle, finds the edge of each by halving the keys, and goes over the boxes of what is left of the edges
-/// swept so far, a box for every 32 segments of an edge or fewer.
+/// It finds each edge by halving the keys of the live edges. Of a vertex whose triangle is too large, or has no area,
+/// no segment is looked at. For any other one it asks once for the segments whose boxes meet that of the triangle,
+/// finds the edge of each by halving the keys, and goes over the boxes of what is left of the edges swept so far, a box
+/// for every 32 segments of an edge or fewer.
+pub fn sweep_some(
+    alloc: Global,
+    live: &Live,
+    keys: &[u32],
+    made: u32,
+    loser_area: i128,
+    ratio: u32,
+    step: u32,
+) -> Result<List<Removal>, Memory>
+    requires ascending { AllPairs (λ j k. j < k) keys.now }
+    requires there { All (λ k. (e : Line) × Contains live.now e × (e.key ≡ k) × (has_side made e ≡ true)) keys.now }
+    requires corners { (e : Line) → Contains live.now e → has_side made e ≡ true → has_small_corner ratio loser_area e.points ≡ true → Contains keys.now e.key }
+    ensures { IfOk result (λ removals. removals ≡ map (λ p. record { point = p; step = step }) (sweep ratio loser_area made live.now)) }
+{
+    if ratio == 0 {
+        return Ok(List::new(alloc));
+    }
+    let rule = Rule {
+        ratio,
+        area: loser_area,
+    };
+    let gone = sweep_keys(alloc, rule, made, keys, live)?;
+    removals_of(alloc, &gone, step)
+}
+
+/// What step number `step` removes, of which `made` is the new face and `loser_area` twice the area of the loser, in
+/// square grid units: of the live edges, in order of key, each one that has `made` at a side is swept once from its
+/// first point to its last. A vertex goes where it is on one line with the point before it that is left and the point
+/// after it, or where the triangle of the three, twice its area times `ratio`, is at most `loser_area` and clear of
+/// every live segment but its own two. With a ratio of 0 nothing goes.
+///
+/// It takes a look at the faces of each edge, and at the triangles of three points in a row of those that border the
+/// new face. Those of them with a small one it sweeps, in the time that `sweep_some` tells.
 pub fn sweep(
     alloc: Global,
     live: &Live,
@@ -96,13 +145,7 @@ pub fn sweep(
 ) -> Result<List<Removal>, Memory>
     ensures { IfOk result (λ removals. removals ≡ map (λ p. record { point = p; step = step }) (sweep ratio loser_area made live.now)) }
 {
-    if ratio == 0 {
-        return Ok(List::new(alloc));
-    }
-    let rule = Rule {
-        ratio,
-        area: loser_area,
-    };
-    let gone = sweep_edges(alloc, rule, made, live)?;
-    removals_of(alloc, &gone, step)
+    let edges = live.edges().as_slice();
+    let keys = small_keys(alloc, edges, made, loser_area, ratio)?;
+    sweep_some(alloc, live, &keys, made, loser_area, ratio, step)
 }

@@ -4,6 +4,7 @@ ghost use Rattle.std.specs.Prelude.{◌≡◌, ◌<◌, IfOk, All};
 ghost use Rattle.grid_index.specs.Live.{IsLiveEdge};
 ghost use Rattle.vertex_drop.specs.Held.{IsNearPoint};
 
+use crate::keys::swept_by_keys;
 use grid_index::Live;
 use std::alloc::Global;
 use std::test::Fail;
@@ -61,8 +62,8 @@ fn live_of(alloc: Global, first: Edge, second: Edge) -> Result<Live, Memory>
     Live::of(alloc, &edges)
 }
 
-/// What step 5 removes of two edges, of which the first has face `left` at its left and the second face 2. The step makes
-/// face 9.
+/// What step 5 removes of two edges, of which the first has face `left` at its left and the second face 2. The step
+/// makes face 9.
 fn removed(
     alloc: Global,
     left: u32,
@@ -75,6 +76,21 @@ fn removed(
     let other = edge_of(alloc, 1, 2, second)?;
     let live = live_of(alloc, one, other)?;
     sweep(alloc, &live, 9, loser_area, ratio, 5)
+}
+
+/// The same, by the keys of the edges with a small corner.
+fn removed_by_keys(
+    alloc: Global,
+    left: u32,
+    first: &[(u8, u8)],
+    second: &[(u8, u8)],
+    ratio: u32,
+    loser_area: i128,
+) -> Result<List<Removal>, Memory> {
+    let one = edge_of(alloc, 0, left, first)?;
+    let other = edge_of(alloc, 1, 2, second)?;
+    let live = live_of(alloc, one, other)?;
+    swept_by_keys(alloc, &live, 9, loser_area, ratio, 5)
 }
 
 #[test]
@@ -98,6 +114,12 @@ fn vertices_of_one_edge(rt: HostRuntime) -> Result<(), Fail> {
     ] {
         let removals = removed(alloc, left, first, second, ratio, loser_area)?;
         assert_eq!(rt; removals.len(), count, "at {left} {ratio} {loser_area}");
+        let by_keys = removed_by_keys(alloc, left, first, second, ratio, loser_area)?;
+        assert_eq!(rt;
+            by_keys.as_slice(),
+            removals.as_slice(),
+            "at {left} {ratio} {loser_area}"
+        );
     }
     Ok(())
 }

@@ -17,7 +17,7 @@ use Rattle.tgap_build.proofs.Lost.{no_step, lost_count, lost_is}
 use Rattle.tgap_build.proofs.sweep_all.Goals as goal
 
 pub loop-i-init : goal.loop-i-init
-loop-i-init c = record { base = refl; made = c.requires.made; unclosed = c.requires.open; removed = c.requires.removed; running = c.in_ok-live.ensures.running; sought = c.in_ok-live.ensures.sought; records = c.in_ok-records.ensures }
+loop-i-init c = record { base = refl; made = c.requires.made; unclosed = c.requires.open; removed = c.requires.removed; running = c.in_ok-live.ensures.running; sought = c.in_ok-live.ensures.sought; corners = c.in_ok-live.ensures.corners; records = c.in_ok-records.ensures }
 
 pub bounds-areas-i : goal.bounds-areas-i
 bounds-areas-i c =
@@ -52,6 +52,7 @@ loop-i-preserved c = record {
   running = subst (λ (m : BaseMap). AreRunning c.make_step.new.forest (c.loop-i.i + 1) (removals_to (merged m) (c.loop-i.i + 1)) c.make_step.new.live.edges)
       (sym c.in_ok-make_step.ensures.base) c.in_ok-make_step.ensures.running;
   sought = c.in_ok-make_step.ensures.sought;
+  corners = c.in_ok-make_step.ensures.corners;
   records = c.in_ok-push.ensures
       ∙ ap₂ (λ (rs : List StepRecord) (r : StepRecord). rs ++ r ∷ []) c.loop-i.invariant.records
       (c.in_ok-make_step.ensures.record ∙ ap (λ (m : BaseMap). step_record (merged m) (c.loop-i.i + 1)) c.loop-i.invariant.base)

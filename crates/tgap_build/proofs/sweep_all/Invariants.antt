@@ -1,10 +1,11 @@
-use Rattle.std.proofs.Common.{◌≡◌, false, map}
+use Rattle.std.proofs.Common.{◌≡◌, false, map, length}
 use Rattle.std.specs.List.{range_with_len}
 use Rattle.tgap_model.specs.Merged.{merged}
 use Rattle.tgap_model.specs.Removals.{removals_to}
 use Rattle.tgap_model.specs.Records.{step_record}
 use Rattle.tgap_build.specs.Built.{HasRemoved}
 use Rattle.tgap_build.specs.EdgeTable.{IsSought}
+use Rattle.tgap_build.specs.Queues.{IsCornered}
 use Rattle.tgap_build.specs.Running.{AreRunning}
 use Rattle.tgap_build.specs.Table.{labelled_edges}
 use Rattle.tgap_build.proofs.sweep_all.Given as goal
@@ -18,5 +19,6 @@ invariant-loop-i l = record {
   removed : HasRemoved l.forest l.i;
   running : AreRunning l.forest l.i (removals_to (merged l.forest.base) l.i) l.live.edges;
   sought : IsSought (labelled_edges l.live.edges) l.live.sought;
+  corners : IsCornered (length l.live.edges.beside.items) (labelled_edges l.live.edges) l.live.corners;
   records : l.records ≡ map (step_record (merged l.fn.forest.base)) (range_with_len 1 l.i);
 }

@@ -1,7 +1,10 @@
-use Rattle.std.proofs.Common.{◌≡◌, ◌++◌, filter}
+use Rattle.std.proofs.Common.{◌≡◌, filter, take}
+use Rattle.std.specs.Prelude.{option_to_list}
+use Rattle.std.specs.List.{flat_map}
+use Rattle.tgap_build.specs.EdgeTable.{edge_in}
 use Rattle.tgap_build.specs.Running.{has_any}
 use Rattle.tgap_build.proofs.removal.losing.Given as goal
 
--- the edges so far, and those of the rest
-abbrev pub invariant-loop-edge : goal.invariant-loop-edge
-invariant-loop-edge l = l.losing ++ filter (has_any l.gone) l.edge-iterator.rest.items ≡ filter (has_any l.gone) l.fn.edges
+-- those with the keys so far
+abbrev pub invariant-loop-key : goal.invariant-loop-key
+invariant-loop-key l = l.losing ≡ flat_map (λ k. filter (has_any l.gone) (option_to_list (edge_in l.edges.places.items k))) (take l.key-index l.keys)

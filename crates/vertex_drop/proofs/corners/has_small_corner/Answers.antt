@@ -1,22 +1,25 @@
-use Rattle.std.proofs.Common.{◌-◌, pos, drop, sym, ◌∙◌, arith, length-drop}
-use Rattle.tgap_model.specs.declared.geometry.Point.{Point}
-use Rattle.vertex_drop.proofs.CornerPlaces.{corner_passed, none_of_two}
+use Rattle.std.proofs.Common.{ℤ, sym, ap, ◌∙◌}
+use Rattle.std.specs.Int.{w128}
+use Rattle.std.proofs.lemmas.Int.{to_z-of_z}
+use Rattle.vertex_drop.specs.Corners.{small_area, least_corner}
+use Rattle.vertex_drop.proofs.Least.{is_small_least, least_decides, some_is, none_is}
+use Rattle.vertex_drop.proofs.Small.{wide_area}
 use Rattle.vertex_drop.proofs.corners.has_small_corner.Goals as goal
 
-pub loop-i-preserved : goal.loop-i-preserved
-loop-i-preserved c =
-    let rule = c.args.rule in
-    let o : Point = record { x = pos 0; y = pos 0 } in
-    record {
-      from = omega (arith, c.loop-i.invariant.from);
-      left =
-          corner_passed rule.ratio rule.area c.args.points.now c.loop-i.i o c.loop-i.invariant.from c.loop-i-test.true
-          (sym c.is_small_corner.ensures ∙ c.if-is_small_corner.false)
-          ∙ c.loop-i.invariant.left;
-    }
+pub returns-in-Some : goal.returns-in-Some
+returns-in-Some c =
+    let ratio = c.args.ratio in
+    let area = c.args.loser_area in
+    let points = c.args.points.now in
+    let least = some_is (least_corner points) c.in-Some.area c.in-Some.ensures.exact in
+    let n = least.0 in
+    c.is_small_area.ensures n (wide_area c.in-Some.area n least.1 (c.in-Some.ensures.small n least.2))
+    ∙ ap (λ (z : ℤ). small_area ratio z n) (to_z-of_z w128 area c.ranges.loser_area)
+    ∙ sym (least_decides ratio area points ∙ ap (is_small_least ratio area) least.2)
 
-pub returns : goal.returns
-returns c =
-    let rule = c.args.rule in
-    let left = drop (c.loop-i.i - 2) c.args.points.now in
-    sym (none_of_two rule.ratio rule.area left (omega (arith, c.loop-i-test.false, length-drop {A = Point}))) ∙ c.loop-i.invariant.left
+pub returns-in-None : goal.returns-in-None
+returns-in-None c =
+    let ratio = c.args.ratio in
+    let area = c.args.loser_area in
+    let points = c.args.points.now in
+    sym (least_decides ratio area points ∙ ap (is_small_least ratio area) (none_is (least_corner points) c.in-None.ensures.exact))

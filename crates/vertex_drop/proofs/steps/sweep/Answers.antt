@@ -1,26 +1,46 @@
-use Rattle.std.proofs.Common.{◌≡◌, ℤ, List, [], map, IfOk, sym, ap, ◌∙◌, subst}
-use Rattle.tgap_model.specs.declared.geometry.Point.{Point}
+-- The keys are those of all edges that border the face and have a small corner.
+use Rattle.std.proofs.Common.{◌≡◌, ◌<◌, ℕ, ℤ, true, List, All, AllPairs, Contains, to_z, of_z, sym, ap, ◌∙◌, subst}
 use Rattle.std.specs.Int.{w128}
 use Rattle.std.proofs.lemmas.Int.{to_z-of_z}
-use Rattle.tgap_model.specs.Removals.{sweep_edges}
-use Rattle.tgap_model.specs.declared.slice.Removal.{Removal}
-use Rattle.vertex_drop.proofs.Swept.{sweep_none, sweep_all}
+use Rattle.tgap_model.specs.declared.slice.Edge.{Edge}
+use Rattle.tgap_model.specs.Removals.{has_side}
+use Rattle.vertex_drop.specs.Corners.{has_small_corner}
+use Rattle.vertex_drop.proofs.Candidates.{some_keys_are, some_ascend, some_there, some_are_all}
 use Rattle.vertex_drop.proofs.steps.sweep.Goals as goal
 
-pub returns-then-ratio-eq0 : goal.returns-then-ratio-eq0
-returns-then-ratio-eq0 c =
-    c.new.ensures
-    ∙ ap (λ (l : List Point). map (λ (p : Point). record { point = p; step = c.args.step }) l)
-    (sym (sweep_none c.args.ratio c.args.loser_area c.args.made c.args.live.now c.if-ratio-eq0.true))
-
-pub returns : goal.returns
-returns c =
-    let area = to_z-of_z w128 c.args.loser_area c.ranges.loser_area in
+pub sweep_some-requires-clause-ascending : goal.sweep_some-requires-clause-ascending
+sweep_some-requires-clause-ascending c =
+    let ratio = c.args.ratio in
+    let bound = c.args.loser_area in
+    let made = c.args.made in
     let live = c.args.live.now in
-    let removed =
-    c.deref.ensures.value ∙ c.in_ok-gone.ensures
-    ∙ ap (λ (z : ℤ). sweep_edges c.args.ratio z c.args.made [] live) area
-    ∙ sym (sweep_all c.args.ratio c.args.loser_area c.args.made live c.if-ratio-eq0.false) in
-    subst (λ (l : List Point).
-    IfOk c.removals_of.result (λ (removals : List Removal). removals ≡ map (λ (p : Point). record { point = p; step = c.args.step }) l))
-    removed c.removals_of.ensures
+    let area = to_z-of_z w128 bound c.ranges.loser_area in
+    let is =
+    some_keys_are ratio bound (to_z w128 (of_z w128 bound)) made c.as_slice-edges.result.now live c.deref.result.now
+    (c.deref.ensures.value ∙ c.in_ok-keys.ensures) area (c.as_slice-edges.ensures ∙ c.edges.ensures.value) in
+    subst (λ (keys : List ℕ). AllPairs (λ j k. j < k) keys) (sym is) (some_ascend ratio bound made live c.edges.ensures.live.ascending)
+
+pub sweep_some-requires-clause-there : goal.sweep_some-requires-clause-there
+sweep_some-requires-clause-there c =
+    let ratio = c.args.ratio in
+    let bound = c.args.loser_area in
+    let made = c.args.made in
+    let live = c.args.live.now in
+    let area = to_z-of_z w128 bound c.ranges.loser_area in
+    let is =
+    some_keys_are ratio bound (to_z w128 (of_z w128 bound)) made c.as_slice-edges.result.now live c.deref.result.now
+    (c.deref.ensures.value ∙ c.in_ok-keys.ensures) area (c.as_slice-edges.ensures ∙ c.edges.ensures.value) in
+    subst (λ (keys : List ℕ). All (λ k. (e : Edge) × Contains live e × (e.key ≡ k) × (has_side made e ≡ true)) keys) (sym is) (some_there ratio bound made live)
+
+pub sweep_some-requires-clause-corners : goal.sweep_some-requires-clause-corners
+sweep_some-requires-clause-corners c e there side small =
+    let ratio = c.args.ratio in
+    let bound = c.args.loser_area in
+    let made = c.args.made in
+    let live = c.args.live.now in
+    let area = to_z-of_z w128 bound c.ranges.loser_area in
+    let is =
+    some_keys_are ratio bound (to_z w128 (of_z w128 bound)) made c.as_slice-edges.result.now live c.deref.result.now
+    (c.deref.ensures.value ∙ c.in_ok-keys.ensures) area (c.as_slice-edges.ensures ∙ c.edges.ensures.value) in
+    subst (λ (keys : List ℕ). Contains keys e.key) (sym is)
+    (some_are_all ratio bound made live e there side (ap (λ (z : ℤ). has_small_corner ratio z e.points) (sym area) ∙ small))

@@ -8,7 +8,7 @@ use Rattle.tgap_model.specs.Removals.{path, is_removable}
 use Rattle.grid_index.specs.Live.{IsLiveEdge}
 use Rattle.vertex_drop.specs.declared.near.Stand.{Stand}
 use Rattle.vertex_drop.specs.Held.{IsNearPoint}
-use Rattle.vertex_drop.specs.Left.{other_segments}
+use Rattle.vertex_drop.specs.Left.{is_swept, other_segments}
 use Rattle.vertex_drop.specs.Sweep.{sweep_after, IsEdgeSwept}
 use Rattle.vertex_drop.proofs.Swept.{sweep_begins, vertex_gone, vertex_kept, sweep_ends, stand_alike}
 use Rattle.vertex_drop.proofs.steps.sweep_edge.Goals as goal
@@ -23,15 +23,15 @@ loop-place-init c =
     let points = c.as_slice-points.result.now in
     let e = c.index-as_slice-i.result in
     let is : e ≡ get_or live i e = c.index-as_slice-i.is ∙ ap (λ (es : List Edge). get_or es i e) (c.as_slice.ensures ∙ c.edges.ensures.value) in
-    let edge : IsLiveEdge e = subst IsLiveEdge (sym is) (c.edges.ensures.live.each i e c.requires) in
+    let edge : IsLiveEdge e = subst IsLiveEdge (sym is) (c.edges.ensures.live.each i e c.requires.place) in
     let long : 0 < length points = omega (arith, edge.some, ap (λ (ps : List Point). length ps) c.as_slice-points.ensures) in
-    sweep_begins rule.ratio rule.area (other_segments c.args.made i live) points c.args.kept.now c.args.gone.now.items o long
+    sweep_begins rule.ratio rule.area (other_segments (is_swept c.args.made c.args.keys.now) i live) points c.args.kept.now c.args.gone.now.items o long
     (subst (All IsNearPoint) (sym c.as_slice-points.ensures) edge.limits)
 
 pub loop-place-preserved : goal.loop-place-preserved
 loop-place-preserved c =
     let rule = c.args.rule in
-    let made = c.args.made in
+    let swept = is_swept c.args.made c.args.keys.now in
     let live = c.args.live.now in
     let i = c.args.i in
     let l = c.loop-place in
@@ -40,16 +40,16 @@ loop-place-preserved c =
     let points = c.as_slice-points.result.now in
     let e = c.index-as_slice-i.result in
     let is : e ≡ get_or live i e = c.index-as_slice-i.is ∙ ap (λ (es : List Edge). get_or es i e) (c.as_slice.ensures ∙ c.edges.ensures.value) in
-    let edge : IsLiveEdge e = subst IsLiveEdge (sym is) (c.edges.ensures.live.each i e c.requires) in
+    let edge : IsLiveEdge e = subst IsLiveEdge (sym is) (c.edges.ensures.live.each i e c.requires.place) in
     let near = subst (All IsNearPoint) (sym c.as_slice-points.ensures) edge.limits in
-    let others = other_segments made i live in
+    let others = other_segments swept i live in
     let short : place + 1 < length points = omega (arith, c.loop-place-test.true) in
     let b = get_or points place o in
     let next = get_or points (place + 1) o in
-    let at : Stand = record { made = made; key = e.key; place = place } in
+    let at : Stand = record { made = c.args.made; keys = c.args.keys; key = e.key; place = place } in
     let test : c.in_ok-is_removable.field-0 ≡ is_removable rule.ratio rule.area (others ++ l.kept ++ path (drop (place + 1) points)) l.a b next =
     c.in_ok-is_removable.ensures
-    ∙ stand_alike rule.ratio rule.area at live i e l.kept l.a b next c.edges.ensures.live.ascending c.requires (sym (ap (λ (f : Edge). f.key) is))
+    ∙ stand_alike rule.ratio rule.area at live i e l.kept l.a b next c.edges.ensures.live.ascending c.requires.place (sym (ap (λ (f : Edge). f.key) is))
     ∙ ap (λ (ps : List Point). is_removable rule.ratio rule.area (others ++ l.kept ++ path (drop (place + 1) ps)) l.a b next)
     (sym (c.as_slice-points.ensures ∙ ap (λ (f : Edge). f.points) is)) in
     let first = c.args.kept.now in
@@ -66,7 +66,7 @@ loop-place-preserved c =
 pub returns : goal.returns
 returns c d =
     let rule = c.args.rule in
-    let made = c.args.made in
+    let swept = is_swept c.args.made c.args.keys.now in
     let live = c.args.live.now in
     let i = c.args.i in
     let l = c.loop-place in
@@ -74,19 +74,19 @@ returns c d =
     let points = c.as_slice-points.result.now in
     let e = c.index-as_slice-i.result in
     let is : e ≡ get_or live i e = c.index-as_slice-i.is ∙ ap (λ (es : List Edge). get_or es i e) (c.as_slice.ensures ∙ c.edges.ensures.value) in
-    let edge : IsLiveEdge e = subst IsLiveEdge (sym is) (c.edges.ensures.live.each i e c.requires) in
+    let edge : IsLiveEdge e = subst IsLiveEdge (sym is) (c.edges.ensures.live.each i e c.requires.place) in
     let long : 2 ≤ length points = omega (arith, edge.some, ap (λ (ps : List Point). length ps) c.as_slice-points.ensures) in
-    let others = other_segments made i live in
+    let others = other_segments swept i live in
     let first = c.args.kept.now in
     let before = c.args.gone.now.items in
     let last : l.place ≡ length points - 1 = omega (arith, c.loop-place-test.false, c.loop-place.auto.place-end, long) in
     let all : l.place + 1 ≡ length points = omega (arith, last, long) in
     let same : points ≡ (get_or live i d).points =
-    c.as_slice-points.ensures ∙ ap (λ (f : Edge). f.points) (is ∙ get_or_default live i e d c.requires) in
+    c.as_slice-points.ensures ∙ ap (λ (f : Edge). f.points) (is ∙ get_or_default live i e d c.requires.place) in
     let done = sweep_ends rule.ratio rule.area others points first before l.kept l.gone.items l.a l.place o all l.invariant in
     let kept : c.push-2.new.self ≡ first ++ path (sweep_after rule.ratio rule.area others first (get_or live i d).points).kept =
     c.in_ok-push-3.ensures ∙ ap (λ (k : ℕ). l.kept ++ record { a = l.a; b = get_or points k o } ∷ []) (sym last) ∙ done.0
     ∙ ap (λ (ps : List Point). first ++ path (sweep_after rule.ratio rule.area others first ps).kept) same in
     let gone = done.1 ∙ ap (λ (ps : List Point). before ++ (sweep_after rule.ratio rule.area others first ps).gone) same in
     IfOk-weaker c.close.result (λ _. c.close.new.self ≡ c.push-2.new.self)
-    (λ _. IsEdgeSwept rule made live i d first c.close.new.self before l.gone.items) (λ _ h. record { left = h ∙ kept; removed = gone }) c.close.ensures
+    (λ _. IsEdgeSwept rule swept live i d first c.close.new.self before l.gone.items) (λ _ h. record { left = h ∙ kept; removed = gone }) c.close.ensures

@@ -13,13 +13,13 @@ use Rattle.tgap_build.proofs.built.Built.record_of.Goals as goal
 pub bounds-as_slice-step : goal.bounds-as_slice-step
 bounds-as_slice-step c =
     let m = c.args.self.now in
-    let kept = c.as_slice.ensures ∙ c.self.invariant.records ∙ ap (λ (b : BaseMap). all_records (merged b)) c.self.view_is in
+    let kept = c.as_slice.ensures ∙ c.self.invariant.0.records ∙ ap (λ (b : BaseMap). all_records (merged b)) c.self.view_is in
     omega (arith, ap length kept, length-map-range_with_len (step_record (merged m)) 1 (length (history_of m)), c.requires.some, c.requires.within)
 
 pub returns : goal.returns
 returns c =
     let m = c.args.self.now in
-    let kept = c.as_slice.ensures ∙ c.self.invariant.records ∙ ap (λ (b : BaseMap). all_records (merged b)) c.self.view_is in
+    let kept = c.as_slice.ensures ∙ c.self.invariant.0.records ∙ ap (λ (b : BaseMap). all_records (merged b)) c.self.view_is in
     c.index-as_slice-step.is
     ∙ ap (λ (rs : List StepRecord). slice_index_or rs (c.args.step - 1) c.index-as_slice-step.result) kept
     ∙ get_or-map-range_with_len (step_record (merged m)) 1 (length (history_of m)) (c.args.step - 1) c.args.step c.index-as_slice-step.result

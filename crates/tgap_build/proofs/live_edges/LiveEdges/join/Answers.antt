@@ -16,7 +16,8 @@ use Rattle.tgap_build.specs.Changes.{part_pieces, count_at, side_with}
 use Rattle.tgap_build.proofs.Alive.{alive_chain}
 use Rattle.tgap_build.proofs.Born.{up_to, within}
 use Rattle.tgap_build.proofs.ChangedChains.{losing_order}
-use Rattle.tgap_build.proofs.EachLive.{before_live, few, kept_length}
+use Rattle.removal_laws.proofs.ChainLengths.{kept_length}
+use Rattle.tgap_build.proofs.EachLive.{before_live, few}
 use Rattle.tgap_build.proofs.Joining.{keys_there, keys_apart, key_there, keys_are, pieces_made, places_few, joined_next}
 use Rattle.tgap_build.proofs.TableLive.{keys_placed}
 use Rattle.tgap_build.proofs.live_edges.LiveEdges.join.Goals as goal

@@ -44,6 +44,7 @@ loop-id-preserved c =
             room = subst (λ (s : LiveEdges). HaveSameRoom c.args.self.now.edges s.edges) (sym w.self-is)
                 (record { places = one.room.places ∙ inv.room.places; lists = one.room.lists ∙ inv.room.lists });
             sought = ap (λ (s : LiveEdges). s.sought) w.self-is ∙ one.sought ∙ inv.sought;
+            corners = ap (λ (s : LiveEdges). s.corners) w.self-is ∙ one.corners ∙ inv.corners;
           })
       | else-is_alive w ↦
           (let more = born_more f k old c.requires.some c.requires.grown id from false (sym c.is_alive.ensures ∙ w.if-is_alive.false) ∙ append-nil bs in
@@ -56,5 +57,6 @@ loop-id-preserved c =
             labels = ap (λ (s : LiveEdges). s.edges.labels) w.self-is ∙ inv.labels;
             room = subst (λ (s : LiveEdges). HaveSameRoom c.args.self.now.edges s.edges) (sym w.self-is) inv.room;
             sought = ap (λ (s : LiveEdges). s.sought) w.self-is ∙ inv.sought;
+            corners = ap (λ (s : LiveEdges). s.corners) w.self-is ∙ inv.corners;
           })
     ]

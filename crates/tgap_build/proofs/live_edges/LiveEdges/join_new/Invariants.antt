@@ -15,4 +15,5 @@ invariant-loop-id l = record {
   labels : l.self.edges.labels ≡ l.initial.self.edges.labels;
   room : HaveSameRoom l.initial.self.edges l.self.edges;
   sought : l.self.sought ≡ l.initial.self.sought;
+  corners : l.self.corners ≡ l.initial.self.corners;
 }

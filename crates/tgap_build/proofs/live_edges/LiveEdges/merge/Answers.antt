@@ -8,17 +8,19 @@ use Rattle.tgap_model.specs.declared.merge.MergeStep.{MergeStep}
 use Rattle.tgap_model.specs.declared.slice.Edge.{Edge}
 use Rattle.tgap_model.specs.Merged.{merged}
 use Rattle.tgap_model.specs.Removals.{removals_to}
-use Rattle.grid_index.specs.Live.{keys}
+use Rattle.grid_index.specs.Live.{keys, AreLive}
 use Rattle.edge_forest.specs.declared.face_labels.FaceLabels.{FaceLabels}
 use Rattle.edge_forest.specs.FaceLabels.{HasLabel}
 use Rattle.tgap_build.specs.declared.edge_table.EdgeTable.{EdgeTable}
 use Rattle.tgap_build.specs.declared.live_edges.Made.{Made}
 use Rattle.tgap_build.specs.EdgeTable.{IsSought}
-use Rattle.tgap_build.specs.Table.{labelled_edges}
+use Rattle.tgap_build.specs.Table.{labelled_edges, IsTable}
+use Rattle.tgap_build.specs.Queues.{IsCornered, AreKeptBut}
 use Rattle.tgap_build.specs.Running.{AreRunning}
 use Rattle.tgap_build.specs.Changes.{born_chains, part_keys, whole_of, made_of, come_of, IsExchange}
 use Rattle.tgap_build.proofs.Born.{within}
 use Rattle.tgap_build.proofs.ChangedChains.{losing_order}
+use Rattle.tgap_build.proofs.KeptEdges.{kept_exchange}
 use Rattle.tgap_build.proofs.StepMerge.{losing_are, first_joined, edges_now, few_now, losing_room, made_are, made_room, exchange}
 use Rattle.tgap_build.proofs.StepTable.{merge_loser, merge_winner, merge_apart, merge_made, merge_fresh, running_next}
 use Rattle.tgap_build.proofs.live_edges.LiveEdges.merge.Goals as goal
@@ -345,3 +347,157 @@ returns-clause-running c =
     (edges_now f k old some grown t0 t1 r s is m.table m.edges m.labelled losing losing_told ended ended_told t state) (c.in_ok-made.ensures.room.places ∙ m.room.places) (c.in_ok-made.ensures.room.lists ∙ m.room.lists)
     (subst (λ (x : MergeStep). HasLabel t.labels x.made) is (has s.made m.made))
     (λ face p q n known. has face (m.others face (λ e. p (e ∙ ap (λ (x : MergeStep). x.loser) is)) (λ e. q (e ∙ ap (λ (x : MergeStep). x.winner) is)) (λ e. n (e ∙ ap (λ (x : MergeStep). x.made) is)) known)))
+
+pub requeue-requires-clause-table : goal.requeue-requires-clause-table
+requeue-requires-clause-table c =
+    let f = c.args.forest.now in
+    let k = c.args.k in
+    let old = c.args.old in
+    let some = c.requires.some in
+    let grown = c.requires.grown in
+    let t0 = c.args.self.now.edges in
+    let r = c.requires.running in
+    let s = c.args.step.now in
+    let is = c.requires.step in
+    let t1 = c.merge.new.self in
+    let m = c.in_ok-ended.ensures in
+    let losing = c.in_ok-ended.field-0.losing.items in
+    let losing_told = m.losing in
+    let ended = c.in_ok-ended.field-0.ended in
+    let ended_told = m.ended in
+    let t = c.join_new.new.self.edges in
+    let state = c.in_ok-made.ensures.table (labelled_edges t1) (first_joined f k old some grown t0 t1 r s is m.table m.edges m.labelled losing losing_told ended ended_told) in
+    let places = c.in_ok-made.ensures.room.places ∙ m.room.places ∙ r.places in
+    let joined = c.sort_unstable.new.self.items in
+    let told = c.in_ok-made.ensures.joined ∙ ap (λ (ks : List ℕ). ks ++ flat_map (part_keys (merged f.base) k) (born_chains f k old (length f.edges))) c.new-joined.ensures.items in
+    let joined_told = subst (λ (ks : List ℕ). IsPermutation ks joined) told c.sort_unstable.ensures.permutation in
+    let raw = c.push_whole.new.made.items in
+    let sorted = c.sort_unstable_by_key.new.self.items in
+    let others = λ (losing_side keys but : List ℕ). map (whole_of t.places.items s losing_side) (filter (λ i. not (list_any (λ j. j == i) but)) keys) in
+    let made_told = c.in_ok-push_whole.ensures
+    ∙ ap (λ (os : List Made). os ++ others c.deref-2.result.now c.deref-3.result.now c.deref-4.result.now) c.in_ok-made.ensures.made
+    ∙ ap₂ (λ (a b : List ℕ). map (made_of (merged f.base) k) (born_chains f k old (length f.edges)) ++ others a b c.deref-4.result.now) c.deref-2.ensures.value c.deref-3.ensures.value
+    ∙ ap (λ (ks : List ℕ). map (made_of (merged f.base) k) (born_chains f k old (length f.edges)) ++ others losing losing ks) c.deref-4.ensures.value in
+    let order = IsNonDecreasingBy-from_sort_by_key (λ (o : Made). o.key) sorted c.sort_unstable_by_key.ensures.sorted (λ a r q k. search rules) in
+    let ex = exchange f k old some grown t0 t1 r s is m.table m.edges m.labelled losing losing_told ended ended_told t state places joined joined_told raw sorted made_told c.sort_unstable_by_key.ensures.permutation order in
+    let u = c.seek.new.self.edges in
+    let now = c.in_ok-seek.ensures.edges in
+    subst IsTable (sym now) state.table
+
+pub requeue-requires-clause-live : goal.requeue-requires-clause-live
+requeue-requires-clause-live c =
+    let f = c.args.forest.now in
+    let k = c.args.k in
+    let old = c.args.old in
+    let some = c.requires.some in
+    let grown = c.requires.grown in
+    let t0 = c.args.self.now.edges in
+    let r = c.requires.running in
+    let s = c.args.step.now in
+    let is = c.requires.step in
+    let t1 = c.merge.new.self in
+    let m = c.in_ok-ended.ensures in
+    let losing = c.in_ok-ended.field-0.losing.items in
+    let losing_told = m.losing in
+    let ended = c.in_ok-ended.field-0.ended in
+    let ended_told = m.ended in
+    let t = c.join_new.new.self.edges in
+    let state = c.in_ok-made.ensures.table (labelled_edges t1) (first_joined f k old some grown t0 t1 r s is m.table m.edges m.labelled losing losing_told ended ended_told) in
+    let places = c.in_ok-made.ensures.room.places ∙ m.room.places ∙ r.places in
+    let joined = c.sort_unstable.new.self.items in
+    let told = c.in_ok-made.ensures.joined ∙ ap (λ (ks : List ℕ). ks ++ flat_map (part_keys (merged f.base) k) (born_chains f k old (length f.edges))) c.new-joined.ensures.items in
+    let joined_told = subst (λ (ks : List ℕ). IsPermutation ks joined) told c.sort_unstable.ensures.permutation in
+    let raw = c.push_whole.new.made.items in
+    let sorted = c.sort_unstable_by_key.new.self.items in
+    let others = λ (losing_side keys but : List ℕ). map (whole_of t.places.items s losing_side) (filter (λ i. not (list_any (λ j. j == i) but)) keys) in
+    let made_told = c.in_ok-push_whole.ensures
+    ∙ ap (λ (os : List Made). os ++ others c.deref-2.result.now c.deref-3.result.now c.deref-4.result.now) c.in_ok-made.ensures.made
+    ∙ ap₂ (λ (a b : List ℕ). map (made_of (merged f.base) k) (born_chains f k old (length f.edges)) ++ others a b c.deref-4.result.now) c.deref-2.ensures.value c.deref-3.ensures.value
+    ∙ ap (λ (ks : List ℕ). map (made_of (merged f.base) k) (born_chains f k old (length f.edges)) ++ others losing losing ks) c.deref-4.ensures.value in
+    let order = IsNonDecreasingBy-from_sort_by_key (λ (o : Made). o.key) sorted c.sort_unstable_by_key.ensures.sorted (λ a r q k. search rules) in
+    let ex = exchange f k old some grown t0 t1 r s is m.table m.edges m.labelled losing losing_told ended ended_told t state places joined joined_told raw sorted made_told c.sort_unstable_by_key.ensures.permutation order in
+    let u = c.seek.new.self.edges in
+    let now = c.in_ok-seek.ensures.edges in
+    subst (λ (v : EdgeTable). AreLive (labelled_edges v)) (sym now) ex.live
+
+pub requeue-requires-clause-corners : goal.requeue-requires-clause-corners
+requeue-requires-clause-corners c =
+    let f = c.args.forest.now in
+    let k = c.args.k in
+    let old = c.args.old in
+    let some = c.requires.some in
+    let grown = c.requires.grown in
+    let t0 = c.args.self.now.edges in
+    let r = c.requires.running in
+    let s = c.args.step.now in
+    let is = c.requires.step in
+    let t1 = c.merge.new.self in
+    let m = c.in_ok-ended.ensures in
+    let losing = c.in_ok-ended.field-0.losing.items in
+    let losing_told = m.losing in
+    let ended = c.in_ok-ended.field-0.ended in
+    let ended_told = m.ended in
+    let t = c.join_new.new.self.edges in
+    let state = c.in_ok-made.ensures.table (labelled_edges t1) (first_joined f k old some grown t0 t1 r s is m.table m.edges m.labelled losing losing_told ended ended_told) in
+    let places = c.in_ok-made.ensures.room.places ∙ m.room.places ∙ r.places in
+    let joined = c.sort_unstable.new.self.items in
+    let told = c.in_ok-made.ensures.joined ∙ ap (λ (ks : List ℕ). ks ++ flat_map (part_keys (merged f.base) k) (born_chains f k old (length f.edges))) c.new-joined.ensures.items in
+    let joined_told = subst (λ (ks : List ℕ). IsPermutation ks joined) told c.sort_unstable.ensures.permutation in
+    let raw = c.push_whole.new.made.items in
+    let sorted = c.sort_unstable_by_key.new.self.items in
+    let others = λ (losing_side keys but : List ℕ). map (whole_of t.places.items s losing_side) (filter (λ i. not (list_any (λ j. j == i) but)) keys) in
+    let made_told = c.in_ok-push_whole.ensures
+    ∙ ap (λ (os : List Made). os ++ others c.deref-2.result.now c.deref-3.result.now c.deref-4.result.now) c.in_ok-made.ensures.made
+    ∙ ap₂ (λ (a b : List ℕ). map (made_of (merged f.base) k) (born_chains f k old (length f.edges)) ++ others a b c.deref-4.result.now) c.deref-2.ensures.value c.deref-3.ensures.value
+    ∙ ap (λ (ks : List ℕ). map (made_of (merged f.base) k) (born_chains f k old (length f.edges)) ++ others losing losing ks) c.deref-4.ensures.value in
+    let order = IsNonDecreasingBy-from_sort_by_key (λ (o : Made). o.key) sorted c.sort_unstable_by_key.ensures.sorted (λ a r q k. search rules) in
+    let ex = exchange f k old some grown t0 t1 r s is m.table m.edges m.labelled losing losing_told ended ended_told t state places joined joined_told raw sorted made_told c.sort_unstable_by_key.ensures.permutation order in
+    let u = c.seek.new.self.edges in
+    let now = c.in_ok-seek.ensures.edges in
+    let lists = ap (λ (v : EdgeTable). length v.beside.items) now ∙ c.in_ok-made.ensures.room.lists ∙ m.room.lists in
+    let kept = subst (λ (n : ℕ). IsCornered n (labelled_edges t0) c.seek.new.self.corners) (sym lists)
+    (subst (IsCornered (length t0.beside.items) (labelled_edges t0)) (sym (c.in_ok-seek.ensures.corners ∙ c.in_ok-made.ensures.corners)) c.requires.corners) in
+    (labelled_edges t0, kept)
+
+pub returns-clause-corners : goal.returns-clause-corners
+returns-clause-corners c =
+    let f = c.args.forest.now in
+    let k = c.args.k in
+    let old = c.args.old in
+    let some = c.requires.some in
+    let grown = c.requires.grown in
+    let t0 = c.args.self.now.edges in
+    let r = c.requires.running in
+    let s = c.args.step.now in
+    let is = c.requires.step in
+    let t1 = c.merge.new.self in
+    let m = c.in_ok-ended.ensures in
+    let losing = c.in_ok-ended.field-0.losing.items in
+    let losing_told = m.losing in
+    let ended = c.in_ok-ended.field-0.ended in
+    let ended_told = m.ended in
+    let t = c.join_new.new.self.edges in
+    let state = c.in_ok-made.ensures.table (labelled_edges t1) (first_joined f k old some grown t0 t1 r s is m.table m.edges m.labelled losing losing_told ended ended_told) in
+    let places = c.in_ok-made.ensures.room.places ∙ m.room.places ∙ r.places in
+    let joined = c.sort_unstable.new.self.items in
+    let told = c.in_ok-made.ensures.joined ∙ ap (λ (ks : List ℕ). ks ++ flat_map (part_keys (merged f.base) k) (born_chains f k old (length f.edges))) c.new-joined.ensures.items in
+    let joined_told = subst (λ (ks : List ℕ). IsPermutation ks joined) told c.sort_unstable.ensures.permutation in
+    let raw = c.push_whole.new.made.items in
+    let sorted = c.sort_unstable_by_key.new.self.items in
+    let others = λ (losing_side keys but : List ℕ). map (whole_of t.places.items s losing_side) (filter (λ i. not (list_any (λ j. j == i) but)) keys) in
+    let made_told = c.in_ok-push_whole.ensures
+    ∙ ap (λ (os : List Made). os ++ others c.deref-2.result.now c.deref-3.result.now c.deref-4.result.now) c.in_ok-made.ensures.made
+    ∙ ap₂ (λ (a b : List ℕ). map (made_of (merged f.base) k) (born_chains f k old (length f.edges)) ++ others a b c.deref-4.result.now) c.deref-2.ensures.value c.deref-3.ensures.value
+    ∙ ap (λ (ks : List ℕ). map (made_of (merged f.base) k) (born_chains f k old (length f.edges)) ++ others losing losing ks) c.deref-4.ensures.value in
+    let order = IsNonDecreasingBy-from_sort_by_key (λ (o : Made). o.key) sorted c.sort_unstable_by_key.ensures.sorted (λ a r q k. search rules) in
+    let ex = exchange f k old some grown t0 t1 r s is m.table m.edges m.labelled losing losing_told ended ended_told t state places joined joined_told raw sorted made_told c.sort_unstable_by_key.ensures.permutation order in
+    let u = c.seek.new.self.edges in
+    let now = c.in_ok-seek.ensures.edges in
+    let lists = ap (λ (v : EdgeTable). length v.beside.items) now ∙ c.in_ok-made.ensures.room.lists ∙ m.room.lists in
+    let kept = subst (λ (n : ℕ). IsCornered n (labelled_edges t0) c.seek.new.self.corners) (sym lists)
+    (subst (IsCornered (length t0.beside.items) (labelled_edges t0)) (sym (c.in_ok-seek.ensures.corners ∙ c.in_ok-made.ensures.corners)) c.requires.corners) in
+    let keys_told = c.deref-9.ensures.value ∙ c.in_ok-keys.ensures ∙ ap (map (λ (o : Made). o.key)) c.deref-8.ensures.value in
+    c.in_ok-requeue.ensures (labelled_edges t0) kept
+    (subst (λ (ks : List ℕ). AreKeptBut ks (labelled_edges t0) (labelled_edges u)) (sym keys_told)
+    (subst (λ (v : EdgeTable). AreKeptBut (map (λ (o : Made). o.key) sorted) (labelled_edges t0) (labelled_edges v)) (sym now)
+    (kept_exchange t.places.items state.table.keyed (labelled_edges t0) (labelled_edges t) (joined ++ losing ++ keys ended) sorted ex)))
