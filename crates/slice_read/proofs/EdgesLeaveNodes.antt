@@ -31,7 +31,8 @@ use Rattle.slice_laws.proofs.Coverage.{number_among}
 use Rattle.step_laws.proofs.ChainPoints.{without_first, without_last}
 use Rattle.record_laws.proofs.MapFacts.{ends_stay}
 use Rattle.grid_index.specs.Live.{IsLiveEdge}
-use Rattle.tgap_build.proofs.EachLive.{after_live, few, kept_length}
+use Rattle.removal_laws.proofs.ChainLengths.{kept_length}
+use Rattle.tgap_build.proofs.EachLive.{after_live, few}
 use Rattle.ring_walk.specs.Spans.{IsSpan}
 use Rattle.slice_read.specs.Ends.{second_point, last_link, chain_ends, slice_ends, span_with, IsEdgeWithin, LeaveNodes}
 

@@ -1,6 +1,7 @@
 pub mod Slices
 pub mod WindowBoxes
 pub mod WindowEdges
+pub mod WindowIds
 pub mod WindowFaces
 pub mod EndsOfChains
 pub mod LiveFaces

@@ -1,11 +1,9 @@
 -- The edges of a window: looked up by their boxes and put in order of key, they are those of the slice that meet it.
-use Rattle.std.proofs.Common.{◌≡◌, ◌≢◌, ℕ, ◌<◌, ◌≤◌, Bool, true, false, cond, nat_lt, List, [], ◌∷◌, map, filter, length, get_or, All, AllPairs, IsPermutation, refl, sym, ap, ◌∙◌, subst, true≢false, arith}
+use Rattle.std.proofs.Common.{◌≡◌, ◌≢◌, ℕ, ◌<◌, ◌≤◌, Bool, true, false, cond, nat_lt, List, [], ◌∷◌, map, filter, length, get_or, AllPairs, IsPermutation, refl, sym, ap, ◌∙◌, subst, true≢false, arith}
 use Rattle.std.specs.List.{range_with_len}
 use Rattle.std.specs.List.Sorted.{IsNonDecreasingBy}
-use Rattle.std.proofs.lemmas.Bool.{and_parts, leb-true}
 use Rattle.std.proofs.lemmas.List.{length-map}
 use Rattle.std.proofs.lemmas.List.FromFn.{length-range_with_len, get_or-map-range_with_len}
-use Rattle.std.proofs.lemmas.List.Elements.{All-filter, filter_passes}
 use Rattle.std.proofs.lemmas.List.Kept.{AllPairs-filter}
 use Rattle.std.proofs.lemmas.List.Sorted.{IsPermutation-map, IsPermutation-sym, IsPermutation-trans}
 use Rattle.lemmas.proofs.Members.{filter_agree_on}
@@ -26,7 +24,7 @@ use Rattle.grid_index.specs.Boxes.{meets}
 use Rattle.grid_index.specs.Near.{near_boxes}
 use Rattle.grid_index.specs.Picked.{no_box}
 use Rattle.grid_index.specs.Tower.{meets_at}
-use Rattle.grid_index.proofs.Meeting.{near_filtered, near_below, meets_at-within}
+use Rattle.grid_index.proofs.Meeting.{near_filtered, meets_at-within}
 use Rattle.grid_index.proofs.Ordering.{map-filter}
 use Rattle.edge_forest.specs.Edges.{edge_at, chain_of, is_alive, alive_edges}
 use Rattle.edge_forest.specs.Forest.{EdgeForest}
@@ -50,7 +48,7 @@ filter_first {A} p q weaker (x ∷ xs) = by (filter_first p q weaker xs) (q x) r
     by rest false e false f = rest
 
 -- two tests in either order
-filter_both : {A : Type 0} (p q : A → Bool) (xs : List A) → filter p (filter q xs) ≡ filter q (filter p xs)
+pub filter_both : {A : Type 0} (p q : A → Bool) (xs : List A) → filter p (filter q xs) ≡ filter q (filter p xs)
 filter_both p q [] = refl
 filter_both {A} p q (x ∷ xs) = by (filter_both p q xs) (q x) refl (p x) refl
   where
@@ -128,13 +126,14 @@ edges_by f k removals [] = refl
 edges_by f k removals (i ∷ ids) = ap (λ (es : List Edge). edge_by f k removals no_box i ∷ es) (edges_by f k removals ids)
 
 pub window_edges : (f : EdgeForest) (m : BaseMap) → is_base m ≡ true → IsPartition (base_segments m) → f.base ≡ m → (k : ℕ) → k ≤ length (history_of m)
-    → (area : Window) (edges kept sorted : List Edge)
+    → (area : Window) (ids : List ℕ) (edges kept sorted : List Edge)
     → map (chain_of f.edges) (alive_edges f.edges k) ≡ chains_at (merged f.base) k
-    → edges ≡ edges_of (merged f.base) k (removals_to (merged f.base) k) (map (chain_of f.edges) (filter (λ i. is_alive k (edge_at f.edges i)) (near_boxes area (boxes_of f))))
+    → IsPermutation (filter (λ i. is_alive k (edge_at f.edges i)) (near_boxes area (boxes_of f))) ids
+    → edges ≡ edges_of (merged f.base) k (removals_to (merged f.base) k) (map (chain_of f.edges) ids)
     → kept ≡ filter (meets_window area) edges
     → IsPermutation kept sorted → IsNonDecreasingBy (λ e. e.key) sorted
     → sorted ≡ filter (meets_window area) (edges_of (merged m) k (removals_to (merged m) k) (chains_at (merged m) k))
-window_edges f m base planar same k within area edges kept sorted chains read left moved order =
+window_edges f m base planar same k within area ids edges kept sorted chains found read left moved order =
     put_in_order kept sorted (filter (meets_window area) whole) moved order permuted
     (AllPairs-filter (λ (e f : Edge). e.key < f.key) (meets_window area) whole (after_live m base planar k within).ascending)
   where
@@ -150,30 +149,29 @@ window_edges f m base planar same k within area edges kept sorted chains read le
     listed : List ℕ
     listed = filter (λ i. is_alive k (edge_at f.edges i)) (range_with_len 0 (length f.edges))
 
-    kept_are : kept ≡ filter (meets_window area) (map by listed)
-    kept_are = left ∙ ap (filter (meets_window area)) (read ∙ sym (edges_by f k removals _)) ∙ looked_up f k removals area
+    near : List ℕ
+    near = filter (λ i. is_alive k (edge_at f.edges i)) (near_boxes area (boxes_of f))
+
+    passing : List ℕ → List Edge
+    passing is = filter (meets_window area) (map by is)
+
+    kept_are : kept ≡ passing ids
+    kept_are = left ∙ ap (filter (meets_window area)) (read ∙ sym (edges_by f k removals ids))
+
+    -- in whatever order they are looked up, the same are left
+    reordered : IsPermutation (passing ids) (passing near)
+    reordered = IsPermutation-filter (meets_window area) (map by ids) (map by near) (IsPermutation-map by ids near (IsPermutation-sym near ids found))
 
     whole_are : map by (alive_edges f.edges k) ≡ whole
     whole_are =
         edges_by f k removals (alive_edges f.edges k) ∙ ap (edges_of (merged f.base) k removals) chains
         ∙ ap (λ (b : BaseMap). edges_of (merged b) k (removals_to (merged b) k) (chains_at (merged b) k)) same
 
-    permuted : IsPermutation kept (filter (meets_window area) whole)
-    permuted = rw (kept_are, ← whole_are) (IsPermutation-filter (meets_window area) (map by listed) (map by (alive_edges f.edges k))
+    listed_are : IsPermutation (filter (meets_window area) (map by listed)) (filter (meets_window area) whole)
+    listed_are = rw (← whole_are) (IsPermutation-filter (meets_window area) (map by listed) (map by (alive_edges f.edges k))
         (IsPermutation-map by listed (alive_edges f.edges k)
         (sort_by-permutation (λ i j. nat_lt (edge_at f.edges i).key (edge_at f.edges j).key) listed)))
 
--- what is looked up are numbers of edges
-pub near_within : (f : EdgeForest) (area : Window) → All (λ i. i < length f.edges) (near_boxes area (boxes_of f))
-near_within f area =
-    let count : length (boxes_of f) ≡ length f.edges = length-map (range_with_len 0 (length f.edges)) (edge_box f) ∙ length-range_with_len 0 (length f.edges) in
-    subst (λ (n : ℕ). All (λ i. i < n) (near_boxes area (boxes_of f))) count (near_below area (boxes_of f))
-
-pub alive_within : (f : EdgeForest) (k : ℕ) (ids : List ℕ) → All (λ i. i < length f.edges) ids
-    → All (λ i. i < length f.edges) (filter (λ i. is_alive k (edge_at f.edges i)) ids)
-alive_within f k ids h = All-filter (λ i. is_alive k (edge_at f.edges i)) (λ i. i < length f.edges) ids h
-
-pub alive_low : (f : EdgeForest) (k : ℕ) (ids : List ℕ) → All (λ i. (edge_at f.edges i).low ≤ k) (filter (λ i. is_alive k (edge_at f.edges i)) ids)
-alive_low f k ids i d l =
-    let a = and_parts _ _ (filter_passes (λ i. is_alive k (edge_at f.edges i)) ids i d l) in
-    leb-true _ _ a.0
+    permuted : IsPermutation kept (filter (meets_window area) whole)
+    permuted = rw kept_are (IsPermutation-trans (passing ids) (passing near) (filter (meets_window area) whole) reordered
+        (subst (λ (es : List Edge). IsPermutation es (filter (meets_window area) whole)) (sym (looked_up f k removals area)) listed_are))

@@ -5,7 +5,7 @@ ghost use Rattle.tgap_model.specs.Chains.{link_points, chains_at};
 ghost use Rattle.tgap_model.specs.History.{history_of};
 ghost use Rattle.tgap_model.specs.Merged.{merged};
 ghost use Rattle.tgap_model.specs.Slice.{slice};
-ghost use Rattle.edge_forest.specs.Edges.{chain_of};
+ghost use Rattle.edge_forest.specs.Edges.{chain_of, alive_edges};
 ghost use Rattle.edge_forest.specs.Forest.{last_step};
 ghost use Rattle.edge_forest.specs.Walks.{chain_link};
 ghost use Rattle.slice_read.specs.declared.fail.ReadFail.TheVariants.{StepTooHigh};
@@ -61,7 +61,7 @@ fn ends_of(arcs: &[BaseArc], links: &[Link]) -> EdgeEnds
 }
 
 /// The numbers of the edges that are there after k steps, where nobody counts the looks that it takes.
-fn ids_at<L: Ledger>(
+pub fn ids_at<L: Ledger>(
     alloc: Global,
     forest: &Forest,
     k: u32,
@@ -72,6 +72,7 @@ fn ids_at<L: Ledger>(
     requires name { blank.name ≡ L.name }
     requires parts { blank.parts ≡ L.parts }
     requires some { 0 < blank.parts }
+    ensures value { IfOk result (λ ids. ids ≡ alive_edges forest.now.edges k) }
     ensures within { IfOk result (λ ids. All (λ id. id < length forest.now.edges) ids) }
     ensures chains { IfOk result (λ ids. map (chain_of forest.now.edges) ids ≡ chains_at (merged forest.now.base) k) }
 {

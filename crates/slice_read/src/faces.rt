@@ -14,7 +14,7 @@ pub fn rows_of(alloc: Global, tree: &FaceTree, faces: &[u32]) -> Result<List<Fac
     requires { All (IsFace tree.now) faces.now }
     ensures { IfOk result (λ rows. rows ≡ map (row_of tree.now) faces.now) }
 {
-    let mut rows = List::new(alloc);
+    let mut rows = List::with_capacity(alloc, faces.len())?;
     for face in faces {
         rows.push(FaceRow {
             face: *face,

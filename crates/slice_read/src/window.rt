@@ -5,31 +5,16 @@ ghost use Rattle.std.specs.List.{list_any};
 ghost use Rattle.tgap_model.specs.History.{history_of};
 ghost use Rattle.tgap_model.specs.Slice.{meets_window, slice, window_of};
 ghost use Rattle.face_tree.specs.Tree.{IsFace};
-ghost use Rattle.edge_forest.specs.Edges.{edge_at, is_alive};
 ghost use Rattle.slice_read.specs.declared.fail.ReadFail.TheVariants.{StepTooHigh};
 ghost use Rattle.slice_read.specs.Windows.{AreBeside, all_sides, sides_of};
 
 use crate::faces::rows_of;
 use crate::fail::ReadFail;
-use edge_forest::Forest;
+use crate::near::ids_near;
 use face_tree::FaceTree;
 use std::alloc::Global;
 use tgap_build::{Built, edges_of};
 use tgap_model::{Edge, FaceRow, List, Memory, Point, Slice, Window};
-
-/// Those of these edges of the forest whose range holds k.
-fn alive_of(alloc: Global, forest: &Forest, ids: &[u32], k: u32) -> Result<List<u32>, Memory>
-    requires { All (λ id. id < length forest.now.edges) ids.now }
-    ensures { IfOk result (λ alive. alive ≡ filter (λ i. is_alive k (edge_at forest.now.edges i)) ids.now) }
-{
-    let mut alive = List::new(alloc);
-    for id in ids {
-        if forest.is_alive(*id, k) {
-            alive.push(*id)?;
-        }
-    }
-    Ok(alive)
-}
 
 /// Whether some point is at the right side of the window or to its left.
 fn is_left_of(area: &Window, points: &[Point]) -> bool
@@ -82,8 +67,15 @@ fn meets_window(area: &Window, edge: &Edge) -> bool
     meets_from_below(area, points) && is_above(area, points)
 }
 
-/// The edges after k steps whose bounding box meets the window, by key. Looked at are those edges of all steps of which the
-/// box of all points meets it.
+/// About as many as there are faces after k steps, the outside among them. There are at most three edges for each, as
+/// three or more meet at each node but that of a ring. Only time depends on it.
+fn face_count(built: &Built, k: u32) -> usize {
+    let faces = built.base().classes().len().saturating_add(1);
+    faces.saturating_sub(k as usize)
+}
+
+/// The edges after k steps whose bounding box meets the window, by key. The points of an edge are read only where the
+/// box of all points of its arcs meets it.
 fn edges_near(alloc: Global, built: &Built, area: &Window, k: u32) -> Result<List<Edge>, Memory>
     requires { k ≤ length (history_of built.now) }
     ensures { IfOk result (λ edges. edges ≡ filter (meets_window area.now) (slice built.now k).edges) }
@@ -92,8 +84,7 @@ fn edges_near(alloc: Global, built: &Built, area: &Window, k: u32) -> Result<Lis
     let forest = boxed.forest();
     // What is known of the forest is read off its map.
     let _ = forest.base();
-    let near = boxed.boxes().near(alloc, *area)?;
-    let ids = alive_of(alloc, forest, near.as_slice(), k)?;
+    let ids = ids_near(alloc, boxed, area, k, face_count(built, k))?;
     let mut edges = edges_of(alloc, built.tree(), forest, ids.as_slice(), k)?.into_vec();
     edges.retain(|edge| meets_window(area, edge));
     edges.sort_unstable_by_key(|edge| edge.key);
@@ -124,9 +115,10 @@ fn faces_beside(alloc: Global, tree: &FaceTree, edges: &[Edge]) -> Result<List<F
     rows_of(alloc, tree, &faces)
 }
 
-/// The window of the slice after k steps: the edges, by key, whose bounding box overlaps or touches the window, and the faces
-/// that stand beside one of them, without the outside, by number. It is made of what the boxes of all edges tell and not of
-/// the whole slice. Where the ends of the window are out of order it is what the same tests leave.
+/// The window of the slice after k steps: the edges, by key, whose bounding box overlaps or touches the window, and the
+/// faces that stand beside one of them, without the outside, by number. The time is that of the edges of all steps
+/// whose boxes meet the window, or that of the edges of the slice where these are fewer, and of what is given. Where
+/// the ends of the window are out of order it is what the same tests leave.
 pub fn window_at(alloc: Global, built: &Built, k: u32, area: Window) -> Result<Slice, ReadFail>
     // It is the window of the slice by the definition.
     ensures exact { IfOk result (λ s. s ≡ window_of area (slice built.now k)) }

@@ -1,5 +1,5 @@
 -- What is read is the slice; the looks are those of the forest, whether memory was wanting or not.
-use Rattle.std.proofs.Common.{◌∙◌, ap, map, arith, length}
+use Rattle.std.proofs.Common.{◌∙◌, ap, map, arith}
 use Rattle.edge_forest.specs.Edges.{chain_of}
 use Rattle.slice_read.proofs.Slices.{edges_are, is_slice, relation, planar_edges, partition, adjacent, unions, looks_most, looks_least}
 use Rattle.slice_read.proofs.slice_at.Goals as goal

@@ -1,6 +1,6 @@
 use Rattle.std.proofs.Common.{◌≡◌, filter, take}
 use Rattle.edge_forest.specs.Edges.{edge_at, is_alive}
-use Rattle.slice_read.proofs.window.alive_of.Given as goal
+use Rattle.slice_read.proofs.near.alive_of.Given as goal
 
 -- those of the numbers so far
 abbrev pub invariant-loop-id : goal.invariant-loop-id
