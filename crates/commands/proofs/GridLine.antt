@@ -28,13 +28,13 @@ use Rattle.tgap_model.proofs.BaseFacts.{base_facts}
 use Rattle.map_laws.proofs.ChainsExist.{chains_exist}
 use Rattle.map_laws.proofs.Lists.{sum_less}
 use Rattle.slice_laws.proofs.CountedSums.{sum_of_chains}
+use Rattle.removal_laws.proofs.ChainLengths.{chain_length, kept_length}
 use Rattle.face_merge.proofs.Steps.{history_is}
 use Rattle.grid_geo.specs.Evidence.{IsShownBy}
 use Rattle.slice_forms.specs.SliceForms.{has_room, is_packet_row, is_slice_row, record_load, segment_count}
 use Rattle.client_replay.specs.Replaying.{outcome}
 use Rattle.client_replay.proofs.Form.{slice_parts}
 use Rattle.client_replay.proofs.Replays.{own_step}
-use Rattle.tgap_build.proofs.EachLive.{kept_length}
 use Rattle.generator.specs.GridMap.{grid_base}
 use Rattle.commands.specs.declared.outcome.Outcome.{Outcome}
 use Rattle.commands.specs.declared.outcome.Outcome.TheVariants.{Done, Usage}
@@ -55,28 +55,6 @@ use Rattle.commands.proofs.PutCounts.{all_puts}
 use Rattle.commands.proofs.ReplayRoom.{replay_segments}
 
 -- ---- the points of a slice
-
-link_length : (arcs : List BaseArc) (d : Link) → length (link_points arcs d) ≡ length (arc_number arcs d.arc).points
-link_length arcs d = by d.turned
-  where
-    points : List Point
-    points = (arc_number arcs d.arc).points
-
-    by : (t : Bool) → length (cond t (reverse points) points) ≡ length points
-    by true = length-reverse points
-    by false = refl
-
-chain_length : (arcs : List BaseArc) (c : Chain) → length (chain_points arcs c) ≤ sum_by (λ d. length (arc_number arcs d.arc).points) c
-chain_length arcs [] = omega arith
-chain_length arcs (d ∷ []) = omega (arith, link_length arcs d, sum_by-cons (λ (d : Link). length (arc_number arcs d.arc).points) d [])
-chain_length arcs (d ∷ e ∷ c) = omega (
-  arith,
-  length-append (link_points arcs d) (drop 1 (chain_points arcs (e ∷ c))),
-  length-drop 1 (chain_points arcs (e ∷ c)),
-  link_length arcs d,
-  chain_length arcs (e ∷ c),
-  sum_by-cons (λ (d : Link). length (arc_number arcs d.arc).points) d (e ∷ c),
-)
 
 module _ (m : BaseMap) (base : is_base m ≡ true) where
   -- a slice has no more points than the map

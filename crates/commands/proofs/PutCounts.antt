@@ -27,7 +27,7 @@ use Rattle.removal_laws.proofs.StandOnce.{partition_has_removals}
 use Rattle.removal_laws.proofs.Tracing.{at_step}
 use Rattle.step_laws.proofs.StepRemovals.{listed_next, step_list}
 use Rattle.record_laws.proofs.PutsBack.{listed_at, without_step}
-use Rattle.tgap_build.proofs.Taken.{others_stay}
+use Rattle.tgap_build.proofs.WideEdges.{others_stay}
 use Rattle.commands.specs.Grid.{point_count, put_count}
 
 -- ---- sums

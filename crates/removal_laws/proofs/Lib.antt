@@ -25,3 +25,4 @@ pub mod StandOnce
 pub mod Opposite
 pub mod OnePlace
 pub mod WedgeEmpty
+pub mod ChainLengths

@@ -36,6 +36,7 @@ use Rattle.grid_index.specs.Live.{AreLive}
 use Rattle.slice_laws.proofs.CountedSums.{sum_of_chains}
 use Rattle.slice_laws.proofs.Outside.{outside_label}
 use Rattle.removal_laws.proofs.ChainEnds.{among_contained}
+use Rattle.removal_laws.proofs.ChainLengths.{chain_length, kept_length}
 use Rattle.step_laws.specs.StepLaws.{ArePlanar}
 use Rattle.step_laws.proofs.EachSlice.{slices_stay_planar}
 use Rattle.record_laws.proofs.MapFacts.{based}
@@ -76,30 +77,6 @@ few_below n ks up below = length-le_from_distinct_below ks n
     let same = eqb-true q a.1 a.4 in
     let l = subst (λ k. k < n) a.3 (below a.0 a.1 a.2) in
     omega (arith, same, l))
-
--- ---- the points of a chain
-
-link_length : (arcs : List BaseArc) (d : Link) → length (link_points arcs d) ≡ length (arc_number arcs d.arc).points
-link_length arcs d = by d.turned
-  where
-    by : (t : Bool) → length (cond t (reverse (arc_number arcs d.arc).points) (arc_number arcs d.arc).points) ≡ length (arc_number arcs d.arc).points
-    by true = length-reverse (arc_number arcs d.arc).points
-    by false = refl
-
-chain_short : (arcs : List BaseArc) (c : Chain) → length (chain_points arcs c) ≤ sum_by (λ d. length (arc_number arcs d.arc).points) c
-chain_short arcs [] = omega arith
-chain_short arcs (d ∷ []) = omega (arith, link_length arcs d, sum_by-cons (λ (d : Link). length (arc_number arcs d.arc).points) d [])
-chain_short arcs (d ∷ e ∷ c) = omega (
-  arith,
-  length-append (link_points arcs d) (drop 1 (chain_points arcs (e ∷ c))),
-  length-drop 1 (chain_points arcs (e ∷ c)),
-  link_length arcs d,
-  chain_short arcs (e ∷ c),
-  sum_by-cons (λ (d : Link). length (arc_number arcs d.arc).points) d (e ∷ c),
-)
-
-kept_short : (p : Point → Bool) (points : List Point) → length (filter p points) ≤ length points
-kept_short p points = omega (arith, length-filter p points, count_by-le-length p points)
 
 -- ---- classes
 
@@ -241,7 +218,7 @@ module _ (m : BaseMap) (base : is_base m ≡ true) (planar : IsPartition (base_s
       let by_edge = sum_by-map length (λ (e : Edge). e.points) edges in
       let by_chain = sum_by-map (λ (e : Edge). length e.points) (edge_of h k gone) chains in
       let less = sum_less (λ (c : Chain). length (without gone (chain_points m.arcs c))) (λ c. sum_by (λ d. length (arc_number m.arcs d.arc).points) c) chains
-      (λ c n. omega (arith, kept_short (λ p. not (is_removed gone p)) (chain_points m.arcs c), chain_short m.arcs c)) in
+      (λ c n. omega (arith, kept_length (λ p. not (is_removed gone p)) (chain_points m.arcs c), chain_length m.arcs c)) in
       let along = sum_of_chains h k chains (chains_exist h k) (λ a. length a.points) in
       let all = sum_less (λ (a : BaseArc). cond (is_border h k a) (length a.points) 0) (λ a. length a.points) m.arcs (λ a n. at_most (is_border h k a) (length a.points)) in
       omega (arith, points, by_edge, by_chain, less, along, all)
