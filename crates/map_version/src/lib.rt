@@ -15,4 +15,4 @@ mod version;
 
 pub use batch::edited;
 pub use fault::EditFault;
-pub use version::{RebuildFail, Version, rebuild};
+pub use version::{RebuildFail, Version, rebuild, revised, successor};

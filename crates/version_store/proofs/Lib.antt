@@ -4,3 +4,4 @@ pub mod Prefixes
 pub mod RuleKept
 pub mod Holders
 pub mod Lists
+pub mod Refusals

@@ -48,10 +48,13 @@ pub fn version(alloc: Global, number: u64) -> Result<Arc<Numbered>, Memory>
 /// What came of the calls, in their order.
 #[derive(Drop)]
 struct Outcomes {
+    free: Result<(), PublishFail>,
     published: Result<u64, PublishFail>,
+    older: Result<(), PublishFail>,
     stale: Result<u64, PublishFail>,
     pinned: u64,
     full: Result<u64, PublishFail>,
+    no_room: Result<(), PublishFail>,
     newest: u64,
     untold: u64,
 }
@@ -68,11 +71,15 @@ fn row<N: StoreName, R: Wait>(
     let mut untold = seats.pop().ok_or("a seat")?;
     let mut second = seats.pop().ok_or("a seat")?;
     let mut first = seats.pop().ok_or("a seat")?;
+    let free = press.ready(&mut first, 0);
     let published = press.publish(rt, alloc, &mut first, 0, version(alloc, 1)?);
+    let older = press.ready(&mut first, 0);
     let stale = press.publish(rt, alloc, &mut second, 0, version(alloc, 1)?);
     let pinned = second.pin(alloc)?.number;
     let next = version(alloc, pinned + 1)?;
     let full = press.publish(rt, alloc, &mut second, pinned, next);
+    let again = second.pin(alloc)?.number;
+    let no_room = press.ready(&mut second, again);
     let newest = press.newest(alloc, &mut first)?;
     let pin = untold.pin(alloc)?;
     let untold_number = pin.number;
@@ -80,10 +87,13 @@ fn row<N: StoreName, R: Wait>(
     press.gather(second);
     press.end(rt);
     Ok(Outcomes {
+        free,
         published,
+        older,
         stale,
         pinned,
         full,
+        no_room,
         newest,
         untold: untold_number,
     })
@@ -94,10 +104,13 @@ fn three_seats_on_one_thread(rt: HostRuntime) -> Result<(), Fail> {
     let alloc = rt.alloc();
     let store = start(alloc, version(alloc, 0)?, 2, 3)?;
     let row = row::<Brand, HostRuntime>(&rt, alloc, store)?;
+    assert_eq!(rt; row.free, Ok(()));
     assert_eq!(rt; row.published, Ok(1));
+    assert_eq!(rt; row.older, Err(PublishFail::Stale { newest: 1 }));
     assert_eq!(rt; row.stale, Err(PublishFail::Stale { newest: 1 }));
     assert_eq!(rt; row.pinned, 1);
     assert_eq!(rt; row.full, Err(PublishFail::VersionsFull { limit: 2 }));
+    assert_eq!(rt; row.no_room, Err(PublishFail::VersionsFull { limit: 2 }));
     assert_eq!(rt; row.newest, 1);
     // A pin without a step would give 0.
     assert_eq!(rt; row.untold, 1);

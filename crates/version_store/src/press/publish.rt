@@ -1,10 +1,10 @@
 //! The press publishes a version.
 
-ghost use Rattle.std.specs.Prelude.{◌≡◌, ◌<◌, ◌+◌, ◌*◌, ◌++◌, ℕ, [], ◌∷◌, length, vec_len, Err, IfOk, OnOk, OnErr, ◌↔◌};
+ghost use Rattle.std.specs.Prelude.{◌≡◌, ◌≢◌, ◌<◌, ◌+◌, ◌*◌, ◌++◌, ℕ, [], ◌∷◌, length, vec_len, Err, IfOk, OnOk, OnErr, ◌↔◌};
 ghost use Rattle.std.specs.Arc.{arc_value};
-ghost use Rattle.version_store.specs.declared.press.fail.PublishFail.TheVariants.{Stale, VersionsFull};
+ghost use Rattle.version_store.specs.declared.press.fail.PublishFail.TheVariants.{Stale, VersionsFull, Memory as WantOfMemory};
 ghost use Rattle.version_store.specs.Growth.{IsPrefix, IsList};
-ghost use Rattle.version_store.specs.Store.{press_versions, press_limit, seat_versions, seat_limit, published_count, tellings};
+ghost use Rattle.version_store.specs.Store.{press_versions, press_limit, seat_versions, seat_limit, published_count, tellings, KeepsCounts};
 ghost use Rattle.version_store.specs.Rule.{AreOwners};
 
 use super::{PressOf, PublishFail};
@@ -37,6 +37,39 @@ impl<V: Holds + Drop, N: StoreName> PressOf<V, N, Growing> {
         );
         raise(&table.shared, place, version, self.count + 1);
         self.count += 1;
+    }
+
+    /// Whether a version that is made from the version `named` would be published now. It tells the published versions to the seat,
+    /// takes no memory and waits for nobody.
+    ///
+    /// It refuses as `publish` does, a stale version first, and then one for which there is no room. What it allows may yet be refused,
+    /// where others publish before.
+    pub fn ready(&mut self, seat: &mut Seat<V, N>, named: u64) -> Result<(), PublishFail>
+        requires named { named < length (seat_versions seat.old) }
+        // The list stays, and the seat has seen it.
+        ensures same { press_versions self.new ≡ press_versions self.old }
+        ensures seen { seat_versions seat.new ≡ press_versions self.old }
+        ensures front { IsPrefix (seat_versions seat.old) (press_versions self.old) }
+        ensures grows { IsPrefix (seat_versions seat.old) (seat_versions seat.new) }
+        // `named` is the newest version and there is room for one more, or which of both does not hold.
+        ensures newest { OnOk result (named + 1 ≡ length (press_versions self.old)) }
+        ensures room { OnOk result (length (press_versions self.old) < press_limit self.old) }
+        ensures stale { (newest : ℕ) → (result ≡ Err (Stale newest)) ↔ ((named < newest) × (newest + 1 ≡ length (press_versions self.old))) }
+        ensures full { (limit : ℕ) → (result ≡ Err (VersionsFull limit)) ↔ ((named + 1 ≡ length (press_versions self.old)) × (length (press_versions self.old) ≡ press_limit self.old) × (limit ≡ press_limit self.old)) }
+        ensures taken { result ≢ Err WantOfMemory }
+        // The store has one limit, which stays, as the counts do.
+        ensures limited { (press_limit self.new ≡ press_limit self.old) × (press_limit self.new ≡ seat_limit seat.new) × (press_limit self.new ≡ N.limit) }
+        ensures counts { KeepsCounts seat.old seat.new }
+    {
+        self.tell(seat);
+        let newest = self.count - 1;
+        if named < newest {
+            return Err(PublishFail::Stale { newest });
+        }
+        if self.count == self.limit {
+            return Err(PublishFail::VersionsFull { limit: self.limit });
+        }
+        Ok(())
     }
 
     /// Publishes a version that was made from the version `named`, where that is the newest.
@@ -74,14 +107,7 @@ impl<V: Holds + Drop, N: StoreName> PressOf<V, N, Growing> {
         ensures kept { OnErr result ((press_versions self.new ≡ press_versions self.old) × (published_count seat.new ≡ published_count seat.old)) }
         ensures others { (seat_limit seat.new ≡ seat_limit seat.old) × (tellings seat.new ≡ tellings seat.old) }
     {
-        self.tell(seat);
-        let newest = self.count - 1;
-        if named < newest {
-            return Err(PublishFail::Stale { newest });
-        }
-        if self.count == self.limit {
-            return Err(PublishFail::VersionsFull { limit: self.limit });
-        }
+        self.ready(seat, named)?;
         let owners = owners(alloc, &next, self.seats as usize)?;
         self.append(&*next, owners);
         self.tell(seat);
