@@ -3,6 +3,7 @@
 ghost use Rattle.std.specs.Prelude.{◌≡◌};
 ghost use Rattle.http_face.specs.declared.head.TheConstants.{MAX_BODY_BYTES, MAX_HEADERS, MAX_HEAD_BYTES};
 
+use crate::request::Route;
 use tgap_model::Text;
 
 /// The greatest length of a head, in bytes.
@@ -27,8 +28,8 @@ pub const BAD_REQUEST: u16 = 400;
 /// The status of a head that announces a body over the limit.
 pub const CONTENT_TOO_LARGE: u16 = 413;
 
-/// The head of a request: how many bytes it has, its method and its target, how many bytes its body has, and whether the
-/// connection is to end after the reply.
+/// The head of a request: how many bytes it has, its method and its target, how many bytes its body has, and whether
+/// the connection is to end after the reply.
 #[derive(Debug, Drop)]
 pub struct Head {
     pub length: u32,
@@ -58,4 +59,23 @@ pub enum HeadEnds {
     More,
     /// The head is at fault; the reply has this status, 400 or 413.
     Bad { status: u16 },
+}
+
+/// What the bytes of a request so far tell of where its head and its body end, of whether the connection ends too, and
+/// of what it asks for.
+#[derive(Clone, Copy, Debug, PartialEq, Eq)]
+pub enum HeadAsks {
+    /// The head is whole and good.
+    Whole {
+        length: u32,
+        body: u32,
+        close: bool,
+        asked: Route,
+    },
+    /// The head is unfinished.
+    More,
+    /// The head is at fault; the reply has this status, 400 or 413.
+    Bad {
+        status: u16,
+    },
 }

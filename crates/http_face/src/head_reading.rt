@@ -5,10 +5,13 @@ ghost use Rattle.httparse.specs.Grammar.{RequestHead, HasNoRequest, MayBecomeReq
 ghost use Rattle.httparse.specs.Spans.{IsRequestAt, IsRequestWithin};
 ghost use Rattle.http_face.specs.declared.head.HeadEnds.TheVariants.{Whole, More};
 ghost use Rattle.http_face.specs.Heads.{TellsHead, TellsState, state_ends, IsGoodHead, IsOpen, IsWithinLimits};
+ghost use Rattle.http_face.specs.Asks.{TellsAsks, asks_ends};
 ghost use Rattle.http_face.specs.Found.{TellsFound, TellsWhole};
 
 use crate::framing::{body_of, bytes_of, closes};
-use crate::head::{BAD_REQUEST, Head, HeadEnds, HeadState, MAX_HEAD_BYTES, MAX_HEADERS};
+use crate::head::{BAD_REQUEST, Head, HeadAsks, HeadEnds, HeadState, MAX_HEAD_BYTES, MAX_HEADERS};
+use crate::routing::route;
+use crate::table::Routes;
 use httparse::Status;
 use httparse::spans::{EMPTY_HEADER_SPAN, HeaderSpan, RequestSpans, parse_request};
 use std::alloc::Global;
@@ -30,10 +33,11 @@ enum Found<'a> {
     },
 }
 
-/// What the bytes of a request so far tell of its head (RFC 9112): that it is whole, that it is unfinished, or the status
-/// of its fault. A head has at most 8,192 bytes and 64 headers. The bytes that stand after a whole head are passed over. In two
-/// cases it is open whether fewer bytes without a head are unfinished or at fault with 400: where they end in a target and
-/// no head can follow any more, and where more than 64 header lines are whole. Memory is taken for a whole head alone.
+/// What the bytes of a request so far tell of its head (RFC 9112): that it is whole, that it is unfinished, or the
+/// status of its fault. A head has at most 8,192 bytes and 64 headers. The bytes that stand after a whole head are
+/// passed over. In two cases it is open whether fewer bytes without a head are unfinished or at fault with 400: where
+/// they end in a target and no head can follow any more, and where more than 64 header lines are whole. Memory is taken
+/// for a whole head alone.
 pub fn read_head(alloc: Global, bytes: &[u8]) -> Result<HeadState, Memory>
     ensures state { IfOk result (TellsState bytes.now) }
     ensures told { IfOk result (λ state. TellsHead bytes.now (state_ends state)) }
@@ -79,6 +83,30 @@ pub fn head_ends(bytes: &[u8]) -> HeadEnds
         },
         Found::More => HeadEnds::More,
         Found::Bad { status } => HeadEnds::Bad { status },
+    }
+}
+
+/// What the bytes tell of the head, and what a whole one asks for: what `head_ends` and `route` tell, by one look at
+/// the head. It takes no memory.
+pub fn head_asks(routes: &Routes, bytes: &[u8]) -> HeadAsks
+    ensures told { TellsAsks bytes.now result }
+    ensures limits { IsWithinLimits bytes.now (asks_ends result) }
+{
+    match find_head(bytes) {
+        Found::Whole {
+            length,
+            body,
+            close,
+            method,
+            target,
+        } => HeadAsks::Whole {
+            length,
+            body,
+            close,
+            asked: route(routes, method, target),
+        },
+        Found::More => HeadAsks::More,
+        Found::Bad { status } => HeadAsks::Bad { status },
     }
 }
 

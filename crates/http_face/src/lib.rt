@@ -13,11 +13,11 @@ mod routing;
 mod table;
 
 pub use head::{
-    BAD_REQUEST, CONTENT_TOO_LARGE, Head, HeadEnds, HeadState, MAX_BODY_BYTES, MAX_HEAD_BYTES,
-    MAX_HEADERS, limits_as_numbers,
+    BAD_REQUEST, CONTENT_TOO_LARGE, Head, HeadAsks, HeadEnds, HeadState, MAX_BODY_BYTES,
+    MAX_HEAD_BYTES, MAX_HEADERS, limits_as_numbers,
 };
-pub use head_reading::{head_ends, read_head};
-pub use reply::{Reply, ShortReply, reply_bytes, short_reply};
+pub use head_reading::{head_asks, head_ends, read_head};
+pub use reply::{Reply, ShortReply, head_bytes, reply_bytes, short_reply};
 pub use request::{Allow, Route};
 pub use routing::{route, routes};
 pub use table::Routes;

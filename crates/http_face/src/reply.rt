@@ -26,16 +26,31 @@ pub fn reply_bytes(alloc: Global, reply: &Reply) -> Result<Text, Memory>
     requires { IsReply reply.now }
     ensures { IfOk result (λ text. text ≡ reply_text reply.now) }
 {
-    let head = reply_head(
+    let mut text = head_bytes(
+        alloc,
         reply.status,
         reply.pin,
         reply.allow,
         reply.close,
         reply.body.len(),
-    );
-    let mut text = Text::from_slice(alloc, head.as_slice())?;
+    )?;
     text.push_slice(reply.body.as_slice())?;
     Ok(text)
+}
+
+/// The head of a reply to a body of `size` bytes, with the empty line after it, for a body that is sent by itself.
+pub fn head_bytes(
+    alloc: Global,
+    status: u16,
+    pin: u64,
+    allow: Option<Allow>,
+    close: bool,
+    size: usize,
+) -> Result<Text, Memory>
+    ensures { IfOk result (λ text. text ≡ reply_head status pin allow close size) }
+{
+    let head = reply_head(status, pin, allow, close, size);
+    Text::from_slice(alloc, head.as_slice())
 }
 
 /// A reply of status 503, kept in an array so that it takes no memory.

@@ -1,6 +1,6 @@
 //! How the head of a request is read.
 
-use http_face::{HeadEnds, HeadState, head_ends, read_head};
+use http_face::{HeadAsks, HeadEnds, HeadState, Route, head_asks, head_ends, read_head, routes};
 use std::test::Fail;
 
 /// What is told of these heads.
@@ -26,6 +26,28 @@ fn heads(rt: HostRuntime) -> Result<(), Fail> {
     );
     let long = b"POST /edit HTTP/1.1\r\nContent-Length: 1048577\r\n\r\n";
     assert_eq!(rt; head_ends(long), HeadEnds::Bad { status: 413 });
+    Ok(())
+}
+
+/// What these heads ask for.
+#[test]
+fn asks(rt: HostRuntime) -> Result<(), Fail> {
+    let routes = routes(rt.alloc())?;
+    let slice = HeadAsks::Whole {
+        length: 31,
+        body: 0,
+        close: false,
+        asked: Route::Slice(7),
+    };
+    assert_eq!(rt;
+        head_asks(&routes, b"GET /slice/7 HTTP/1.1\r\nA: b\r\n\r\nGET"),
+        slice
+    );
+    assert_eq!(rt; head_asks(&routes, b"GET /slice/7 HTT"), HeadAsks::More);
+    assert_eq!(rt;
+        head_asks(&routes, b"GET\n/ HTTP/1.1"),
+        HeadAsks::Bad { status: 400 }
+    );
     Ok(())
 }
 

@@ -1,6 +1,5 @@
 -- One connection more at a seat.
 use Rattle.std.proofs.Common.{◌≡◌, ℕ, ◌+◌, ◌-◌, ◌^◌, ◌<◌, ◌≤◌, min, List, [], ◌∷◌, ◌++◌, length, sum_by, count_by, refl, sym, ap, ◌∙◌, subst, arith, inl, inr, append_assoc, length-append, map, All, Option, Some, None}
-use Rattle.std.proofs.lemmas.List.{map-append}
 use Rattle.std.proofs.lemmas.List.Elements.{All-cons, All-nil, All-head, All-tail}
 use Rattle.std.proofs.lemmas.List.Sums.{sum_by-append, sum_by-cons}
 use Rattle.plain_io.specs.declared.connection.EndKind.TheVariants as kind

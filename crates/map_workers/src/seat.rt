@@ -10,7 +10,7 @@ ghost use Rattle.map_workers.specs.Seats.{Served};
 
 use map_version::Version;
 use plain_io::{ConnectionEnd, Door, Link};
-use session::serve_connection;
+use session::{Desk, serve_connection_at};
 use std::alloc::Global;
 use std::sync::{Mutex, Wait};
 use std::thread::Threads;
@@ -25,18 +25,30 @@ struct Shared<'a, N: StoreName> {
 }
 
 impl<N: StoreName> Attend<Shared<'_, N>> for Seat<Version, N> {
+    ghost use Rattle.session.specs.Keeping.{IsDeskOf};
     ghost use Rattle.session.specs.Versions.{seen_of};
     ghost use Rattle.map_workers.specs.Seats.{Served, served_none};
 
+    type Desk = Desk;
+
     ghost served = { λ before now talks. Served (seen_of before) (seen_of now) talks };
+
+    ghost ready = { λ now desk. IsDeskOf (seen_of now) desk };
+
+    fn desk(&self, shared: &Shared<'_, N>) -> Desk {
+        Desk::new(shared.alloc)
+    }
+
+    fn leave(&self, _desk: Desk) {}
 
     fn attend<L: Link, R: Threads + Wait + Sync>(
         &mut self,
         rt: &R,
         shared: &Shared<'_, N>,
         link: &mut L,
+        desk: &mut Desk,
     ) -> ConnectionEnd {
-        serve_connection(rt, shared.alloc, link, self, shared.press)
+        serve_connection_at(rt, shared.alloc, link, self, shared.press, desk)
     }
 
     ghost served_none = { λ now. served_none (seen_of now) };

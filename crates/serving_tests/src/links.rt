@@ -19,7 +19,7 @@ pub const INFO: &[u8] = b"GET /info HTTP/1.1\r\nHost: t\r\n\r\n";
 pub const INFO_TEXT: &str = "version 0 steps 1 faces 2 arcs 3 points 10\n";
 
 /// Moves a corner of the second square.
-const EDIT: &[u8] =
+pub const EDIT: &[u8] =
     b"POST /edit HTTP/1.1\r\nHost: t\r\nContent-Length: 17\r\n\r\nmove 20 10 24 10\n";
 
 /// A door through which this link comes. The listed calls fail.

@@ -7,7 +7,7 @@ use std::test::Fail;
 use tgap_model::{List, Memory};
 
 /// The two squares as a topology.
-const TOPOLOGY: &str =
+pub const TOPOLOGY: &str =
     "{\"arcs\":[[[10,10],[-10,0],[0,-10],[10,0]],[[10,0],[10,0],[0,10],[-10,0]],[[10,0],[0,10]]],\"objects\":{\"map\":{\"geometries\":[{\"arcs\":[[0,2]],\"properties\":{\"class\":0,\"face\":1},\"type\":\"Polygon\"},{\"arcs\":[[1,-3]],\"properties\":{\"class\":0,\"face\":2},\"type\":\"Polygon\"}],\"type\":\"GeometryCollection\"}},\"transform\":{\"scale\":[1,1],\"translate\":[0,0]},\"type\":\"Topology\"}";
 
 /// So many bytes of a head whose header line has no end.
@@ -28,7 +28,7 @@ fn last_reply(alloc: Global, status: &str, body: &str) -> Result<String, Memory>
 }
 
 /// A request that is whole.
-fn request(alloc: Global, line: &str) -> Result<String, Memory> {
+pub fn request(alloc: Global, line: &str) -> Result<String, Memory> {
     Ok(format!(in alloc; "{line} HTTP/1.1\r\nHost: t\r\n\r\n")?)
 }
 

@@ -76,14 +76,14 @@ full_turn before now pin made batch close reply n p c e f limit next is = record
 }
 
 -- what the press answered
-abbrev fail_of : PublishFail → Result ℕ PublishFail
+abbrev fail_of : {T : Type 0} → PublishFail → Result T PublishFail
 fail_of fail = Err fail
 
 -- what becomes of a version that is not published, by what the press answered
-pub refused_commit : (before now : Seen) (pin : Pin Version) (made : BaseMap) (batch : List ℕ) (close : Bool) (fail : PublishFail) (t : Turned)
+pub refused_commit : {T : Type 0} (before now : Seen) (pin : Pin Version) (made : BaseMap) (batch : List ℕ) (close : Bool) (fail : PublishFail) (t : Turned)
     → IsPin before.history pin → Continues before now → edited (arc_value pin.held).built batch ≡ Ok made → map_fault made ≡ None
-    → ((n : ℕ) → fail_of fail ≡ Err (press.Stale n) → (pin.number < n) × (n + 1 ≡ length now.history))
-    → ((n : ℕ) → fail_of fail ≡ Err (press.VersionsFull n) → (n ≡ now.limit) × (n ≡ pin.number + 1))
+    → ((n : ℕ) → fail_of {T = T} fail ≡ Err (press.Stale n) → (pin.number < n) × (n + 1 ≡ length now.history))
+    → ((n : ℕ) → fail_of {T = T} fail ≡ Err (press.VersionsFull n) → (n ≡ now.limit) × (n ≡ pin.number + 1))
     → IsCommitRefused pin.number close fail t → IsTurned before now pin.number pin.number (RouteAsked EditRoute batch) close t
 refused_commit before now pin made batch close (press.Stale n) t p c e f stale full is =
     let P : Turned → Type 0 = IsTurned before now pin.number pin.number (RouteAsked EditRoute batch) close in

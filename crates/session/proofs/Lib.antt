@@ -1,6 +1,7 @@
 pub mod Ranges
 pub mod Fronts
 pub mod Kept
+pub mod Later
 pub mod Edits
 pub mod Steps
 pub mod Talks
@@ -12,3 +13,6 @@ pub mod Last
 pub mod Connections
 pub mod Stores
 pub mod Topologies
+pub mod Sendings
+pub mod KeptLists
+pub mod Known

@@ -23,10 +23,6 @@ pub record IsRequest (head : RequestHead) (body : List ℕ) : Type 0 where
   pub short : length (print_request head) ≤ MAX_HEAD_BYTES
   pub whole : body_of (headers_of head) ≡ Ok (length body)
 
--- the bytes are those of one such head
-abbrev pub IsOneHead : List ℕ → Type 0
-IsOneHead bytes = (head : RequestHead) × (body : List ℕ) × IsRequest head body × (bytes ≡ print_request head)
-
 -- a request, or a head at fault that is what the rest of the bytes begins with
 abbrev pub IsItem : List ℕ → Item → Type 0
 IsItem rest (Request head body) = IsRequest head body

@@ -1,9 +1,12 @@
 pub mod Reading
 pub mod Items
 pub mod Coming
+pub mod Bodies
 pub mod Answers
+pub mod KeptTexts
 pub mod Outcomes
 pub mod Versions
+pub mod Keeping
 pub mod Turns
 pub mod Progress
 pub mod Conversation

@@ -6,7 +6,9 @@ ghost use Rattle.http_face.specs.declared.head.TheConstants.{CONTENT_TOO_LARGE};
 ghost use Rattle.session.specs.Answers.{IsAnswer, plain, numbered, fault_answer};
 ghost use Rattle.session.specs.Outcomes.{sent};
 
-use http_face::{Allow, CONTENT_TOO_LARGE, Reply, reply_bytes};
+use crate::body::Body;
+use crate::sending::Sending;
+use http_face::{Allow, CONTENT_TOO_LARGE, head_bytes};
 use plain_io::put_field;
 use std::alloc::Global;
 use tgap_model::{Memory, Text};
@@ -16,7 +18,7 @@ use tgap_model::{Memory, Text};
 pub(crate) struct Answer {
     pub status: u16,
     pub allow: Option<Allow>,
-    pub body: Text,
+    pub body: Body,
 }
 
 /// An answer that names no method.
@@ -26,7 +28,7 @@ pub(crate) fn plain(status: u16, body: Text) -> Answer
     Answer {
         status,
         allow: None,
-        body,
+        body: Body::made(body),
     }
 }
 
@@ -61,22 +63,16 @@ pub(crate) fn fault_answer(alloc: Global, status: u16) -> Result<Answer, Memory>
     }
 }
 
-/// The bytes of a reply.
-pub(crate) fn sent(alloc: Global, answer: Answer, pin: u64, close: bool) -> Result<Text, Memory>
+/// The bytes of a reply. A long body is not copied.
+pub(crate) fn sent(alloc: Global, answer: Answer, pin: u64, close: bool) -> Result<Sending, Memory>
     requires { IsAnswer answer }
-    ensures { IfOk result (λ text. text ≡ sent pin close answer) }
+    ensures { IfOk result (λ sending. sending ≡ sent pin close answer) }
 {
     let Answer {
         status,
         allow,
         body,
     } = answer;
-    let reply = Reply {
-        status,
-        pin,
-        allow,
-        close,
-        body,
-    };
-    reply_bytes(alloc, &reply)
+    let head = head_bytes(alloc, status, pin, allow, close, body.len())?;
+    Sending::new(alloc, head, body)
 }

@@ -6,22 +6,26 @@ ghost use Rattle.session.specs.Coming.{IsComing, IsArrival, is_end, CountsArriva
 ghost use Rattle.session.specs.declared.room.TheConstants.{ROOM};
 
 use crate::room::Room;
-use http_face::{HeadEnds, head_ends};
+use http_face::{HeadAsks, Route, Routes, head_asks};
 use plain_io::Link;
+
+/// A request at the front of the bytes that are held: the sizes of its head and of its body, whether it asks to close
+/// the connection, and what it asks for.
+#[derive(Clone, Copy)]
+pub(crate) struct NextRequest {
+    pub head: usize,
+    pub body: usize,
+    pub close: bool,
+    pub asked: Route,
+}
 
 /// What the bytes that are held begin with.
 #[derive(Clone, Copy)]
 pub(crate) enum Coming {
-    /// A request: the sizes of its head and of its body, and whether it asks to close the connection.
-    Request {
-        head: usize,
-        body: usize,
-        close: bool,
-    },
+    /// A request.
+    Request(NextRequest),
     /// A head at fault, with the status of the reply.
-    Fault {
-        status: u16,
-    },
+    Fault { status: u16 },
     /// Less than a request.
     Part,
 }
@@ -29,16 +33,10 @@ pub(crate) enum Coming {
 /// What comes next on a connection.
 #[derive(Clone, Copy)]
 pub(crate) enum Arrival {
-    /// A request: the sizes of its head and of its body, and whether it asks to close the connection.
-    Request {
-        head: usize,
-        body: usize,
-        close: bool,
-    },
+    /// A request.
+    Request(NextRequest),
     /// A head at fault, with the status of the reply.
-    Fault {
-        status: u16,
-    },
+    Fault { status: u16 },
     /// Nothing: the input is at its end.
     End,
     /// Nothing: the input failed.
@@ -46,31 +44,37 @@ pub(crate) enum Arrival {
 }
 
 /// What the bytes begin with.
-fn look(held: &[u8]) -> Coming
+fn look(routes: &Routes, held: &[u8]) -> Coming
     ensures exact { IsComing held.now result }
     ensures room { result ≡ Coming.Part → length held.now < ROOM }
 {
-    match head_ends(held) {
-        HeadEnds::Whole {
+    match head_asks(routes, held) {
+        HeadAsks::Whole {
             length,
             body,
             close,
+            asked,
         } => {
             let head = length as usize;
             let body = body as usize;
             if held.len() < head + body {
                 Coming::Part
             } else {
-                Coming::Request { head, body, close }
+                Coming::Request(NextRequest {
+                    head,
+                    body,
+                    close,
+                    asked,
+                })
             }
         }
-        HeadEnds::More => Coming::Part,
-        HeadEnds::Bad { status } => Coming::Fault { status },
+        HeadAsks::More => Coming::Part,
+        HeadAsks::Bad { status } => Coming::Fault { status },
     }
 }
 
 /// Takes bytes from the link until it is known what comes next.
-pub(crate) fn next_item<L: Link>(link: &mut L, room: &mut Room) -> Arrival
+pub(crate) fn next_item<L: Link>(link: &mut L, routes: &Routes, room: &mut Room) -> Arrival
     requires { L.ended link.old ≡ false }
     ensures bytes { Received (L.taken link.old) (L.taken link.new) room.old room.new }
     ensures exact { IsArrival room.new result }
@@ -80,10 +84,8 @@ pub(crate) fn next_item<L: Link>(link: &mut L, room: &mut Room) -> Arrival
     ensures put_faults { L.put_faults link.new ≡ L.put_faults link.old }
 {
     'reading: loop {
-        match look(room.bytes()) {
-            Coming::Request { head, body, close } => {
-                return Arrival::Request { head, body, close };
-            }
+        match look(routes, room.bytes()) {
+            Coming::Request(request) => return Arrival::Request(request),
             Coming::Fault { status } => return Arrival::Fault { status },
             Coming::Part => {}
         }

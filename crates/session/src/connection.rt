@@ -1,46 +1,24 @@
 //! A connection from its first pin to its end.
 
-ghost use Rattle.std.specs.Prelude.{◌≡◌, ◌<◌, ◌+◌, [], false, IfOk};
+ghost use Rattle.std.specs.Prelude.{◌≡◌, ◌<◌, ◌+◌, [], false};
 ghost use Rattle.plain_io.specs.Faults.{Rose};
 ghost use Rattle.plain_io.specs.declared.connection.EndKind.TheVariants.{ReadFault, WriteFault, Memory as WantOfMemory};
 ghost use Rattle.session.specs.Conversation.{IsConnection};
+ghost use Rattle.session.specs.Keeping.{AreKept, IsDeskOf};
 ghost use Rattle.session.specs.Versions.{seen_of};
 
+use crate::desk::{Desk, Fittings};
+use crate::kept_texts::KeptTexts;
 use crate::log::Log;
-use crate::room::Room;
 use crate::serve::serve;
 use crate::versions::Versions;
-use http_face::{Routes, routes};
 use map_version::Version;
 use plain_io::{ConnectionEnd, EndKind, Link};
 use std::alloc::Global;
 use std::sync::{Mutex, Wait};
 use std::thread::Threads;
-use tgap_model::{List, Memory};
+use tgap_model::List;
 use version_store::{Press, Seat, StoreName};
-
-/// What a connection wants to have before it begins: room for what comes in and for what is noted, and the table of routes.
-#[derive(Drop)]
-struct Desk {
-    room: Room,
-    log: Log,
-    routes: Routes,
-}
-
-impl Desk {
-    /// A desk at which nothing came in and nothing was noted.
-    fn new(alloc: Global) -> Result<Desk, Memory>
-        ensures room { IfOk result (λ desk. desk.room ≡ []) }
-        ensures numbers { IfOk result (λ desk. desk.log.numbers ≡ []) }
-        ensures rows { IfOk result (λ desk. desk.log.rows ≡ []) }
-    {
-        Ok(Desk {
-            room: Room::new(alloc)?,
-            log: Log::new(alloc)?,
-            routes: routes(alloc)?,
-        })
-    }
-}
 
 /// The end of a connection that had no memory to begin with.
 fn unserved(alloc: Global) -> ConnectionEnd
@@ -55,35 +33,43 @@ fn unserved(alloc: Global) -> ConnectionEnd
     }
 }
 
-/// Pins the newest version, and serves the requests of a connection from then on.
+/// Pins the newest version, and serves the requests of a connection from then on. What is kept is that of the versions.
 fn converse<R: Threads + Wait + Sync, L: Link, P, V: Versions<P>>(
     rt: &R,
     alloc: Global,
     link: &mut L,
     versions: &mut V,
     press: &P,
-    desk: Desk,
+    fittings: &mut Fittings,
+    kept: &mut KeptTexts,
+    mut log: Log,
 ) -> ConnectionEnd
-    requires room { desk.room ≡ [] }
-    requires numbers { desk.log.numbers ≡ [] }
-    requires rows { desk.log.rows ≡ [] }
+    requires numbers { log.numbers ≡ [] }
+    requires rows { log.rows ≡ [] }
+    requires texts { AreKept (V.seen versions.old).history kept.old }
     requires open { L.ended link.old ≡ false }
     ensures connection { IsConnection (V.seen versions.old) (V.seen versions.new) (L.taken link.old) (L.taken link.new)
         (L.told link.old) (L.told link.new) (L.ended link.new) result }
     ensures read_fault { result.how ≡ ReadFault → Rose (L.take_faults link.old) (L.take_faults link.new) }
     ensures write_fault { result.how ≡ WriteFault → Rose (L.put_faults link.old) (L.put_faults link.new) }
+    ensures texts { AreKept (V.seen versions.new).history kept.new }
 {
     let Ok(mut pin) = versions.pin(alloc) else {
         return unserved(alloc);
     };
-    let Desk {
-        mut room,
-        mut log,
-        routes,
-    } = desk;
+    fittings.room.clear();
     let first = pin.number;
     let how = serve(
-        rt, alloc, link, versions, press, &mut pin, &routes, &mut log, &mut room,
+        rt,
+        alloc,
+        link,
+        versions,
+        press,
+        &mut pin,
+        &fittings.routes,
+        kept,
+        &mut log,
+        &mut fittings.room,
     );
     let last = pin.number;
     let (numbers, rows) = log.into_lists();
@@ -96,13 +82,15 @@ fn converse<R: Threads + Wait + Sync, L: Link, P, V: Versions<P>>(
     }
 }
 
-/// Serves the requests of a connection over the versions of a store, and tells how it ended. It pins the newest version and answers each
-/// request in order from the version that is pinned then, until the client ends or asks to end, a head is at fault, 10,000 requests are
-/// answered, or the link fails.
+/// Serves the requests of a connection over the versions of a store, and tells how it ended. It pins the newest version
+/// and answers each request in order from the version that is pinned then, until the client ends or asks to end, a head
+/// is at fault, 10,000 requests are answered, or the link fails.
 ///
-/// All that it holds (room for 1,056,768 bytes, the two lists of 10,000 entries and the table of routes) is taken before the first pin;
-/// without that memory, or that of the pin, the end is `Memory`. The press is locked for a moment for each edit that is good and for each
-/// `/pin/{seen}` above the newest version that the seat sees; an edit is applied, checked and built before that.
+/// All that it holds (room for 1,056,768 bytes, the two lists of 10,000 entries and the table of routes) is taken
+/// before the first pin; without that memory, or that of the pin, the end is `Memory`. What it keeps of the texts that
+/// were asked for takes memory as they come, and is given up where there is none. The press is locked for a moment for
+/// each edit that is good and for each `/pin/{seen}` above the newest version that the seat sees; an edit is applied,
+/// checked and built before that.
 pub fn serve_connection<L: Link, N: StoreName, R: Threads + Wait + Sync>(
     rt: &R,
     alloc: Global,
@@ -111,16 +99,50 @@ pub fn serve_connection<L: Link, N: StoreName, R: Threads + Wait + Sync>(
     press: &Mutex<Press<Version, N>>,
 ) -> ConnectionEnd
     requires { L.ended link.old ≡ false }
-    // Each request has an outcome over the versions that the seat has seen at the end, the replies to them were written, and how the
-    // connection ended follows from what was read; or there was no memory to begin with. The seat has seen all that it had seen before.
+    // Each request has an outcome over the versions that the seat has seen at the end, the replies to them were
+    // written, and how the connection ended follows from what was read; or there was no memory to begin with. The seat
+    // has seen all that it had seen before.
     ensures connection { IsConnection (seen_of seat.old) (seen_of seat.new) (L.taken link.old) (L.taken link.new)
         (L.told link.old) (L.told link.new) (L.ended link.new) result }
     // A fault is told only where the link has failed in this call.
     ensures read_fault { result.how ≡ ReadFault → Rose (L.take_faults link.old) (L.take_faults link.new) }
     ensures write_fault { result.how ≡ WriteFault → Rose (L.put_faults link.old) (L.put_faults link.new) }
 {
-    let Ok(desk) = Desk::new(alloc) else {
+    let mut desk = Desk::new(alloc);
+    serve_connection_at(rt, alloc, link, seat, press, &mut desk)
+}
+
+/// Serves the requests of a connection as `serve_connection` does, at a desk. The room for what comes in and the table
+/// of routes are taken at the desk's first connection and stay there; the two lists of 10,000 entries are taken for
+/// each. Where that memory is wanting, the end is `Memory`, and the next connection tries again. A text that was asked
+/// for at this desk before, in the same version, is sent again as it was made then.
+pub fn serve_connection_at<L: Link, N: StoreName, R: Threads + Wait + Sync>(
+    rt: &R,
+    alloc: Global,
+    link: &mut L,
+    seat: &mut Seat<Version, N>,
+    press: &Mutex<Press<Version, N>>,
+    desk: &mut Desk,
+) -> ConnectionEnd
+    requires open { L.ended link.old ≡ false }
+    requires desk { IsDeskOf (seen_of seat.old) desk.old }
+    // Each request has an outcome over the versions that the seat has seen at the end, the replies to them were
+    // written, and how the connection ended follows from what was read; or there was no memory to begin with. The seat
+    // has seen all that it had seen before.
+    ensures connection { IsConnection (seen_of seat.old) (seen_of seat.new) (L.taken link.old) (L.taken link.new)
+        (L.told link.old) (L.told link.new) (L.ended link.new) result }
+    // A fault is told only where the link has failed in this call.
+    ensures read_fault { result.how ≡ ReadFault → Rose (L.take_faults link.old) (L.take_faults link.new) }
+    ensures write_fault { result.how ≡ WriteFault → Rose (L.put_faults link.old) (L.put_faults link.new) }
+    // The texts at the desk are those of the versions that the seat has seen.
+    ensures desk { IsDeskOf (seen_of seat.new) desk.new }
+{
+    desk.furnish(alloc);
+    let Some(fittings) = &mut desk.fittings else {
         return unserved(alloc);
     };
-    converse(rt, alloc, link, seat, press, desk)
+    let Ok(log) = Log::new(alloc) else {
+        return unserved(alloc);
+    };
+    converse(rt, alloc, link, seat, press, fittings, &mut desk.kept, log)
 }

@@ -18,12 +18,12 @@ use crate::answer::{numbered_line, plain, sent};
 use crate::row::Row;
 use crate::turn::Turned;
 use crate::versions::Versions;
-use map_version::{EditFault, RebuildFail, Version, rebuild};
+use map_version::{EditFault, RebuildFail, Version, revised, successor};
 use plain_io::{put_count, put_field};
 use std::alloc::Global;
 use std::sync::{Arc, Wait};
 use std::thread::Threads;
-use tgap_model::{MapFault, Memory, Text};
+use tgap_model::{Checked, MapFault, Memory, Text};
 use version_store::{Pin, PublishFail};
 use wire_text::fault_text;
 
@@ -156,8 +156,61 @@ fn commit<R: Wait, P, V: Versions<P>>(
     }
 }
 
-/// Edits the version that is pinned by a batch, and publishes what comes of it. It is edited, checked and built before the press is
-/// asked.
+/// Builds the version of a checked map that a batch made of the one that is pinned, and publishes it.
+fn publish_built<R: Threads + Wait + Sync, P, V: Versions<P>>(
+    rt: &R,
+    alloc: Global,
+    versions: &mut V,
+    press: &P,
+    pin: &mut Pin<Version>,
+    checked: Checked,
+    batch: &[u8],
+    close: bool,
+) -> Result<Turned, Memory>
+    requires pin { IsPin (V.seen versions.old).history pin.old }
+    requires sound { map_fault checked ≡ None }
+    ensures turned { IfOk result (λ t. edited (arc_value pin.old.held).built batch.now ≡ Ok checked
+        → IsTurned (V.seen versions.old) (V.seen versions.new) pin.old.number pin.new.number (RouteAsked EditRoute batch.now) close t) }
+    ensures pin { IsPin (V.seen versions.new).history pin.new }
+    ensures kept { OnErr result (pin.new ≡ pin.old) }
+    ensures continues { Continues (V.seen versions.old) (V.seen versions.new) }
+    ensures published { CountsPublished (V.seen versions.old) (V.seen versions.new) result }
+    ensures told { CountsTold (V.seen versions.old) (V.seen versions.new) result }
+{
+    let next = successor(rt, alloc, &pin.held, checked, batch)?;
+    commit(rt, alloc, versions, press, pin, next, close)
+}
+
+/// Publishes what is built of a checked map that a batch made of the version that is pinned. The press is asked before, so that
+/// nothing is built for a version that is stale by then or for which there is no room.
+fn advance<R: Threads + Wait + Sync, P, V: Versions<P>>(
+    rt: &R,
+    alloc: Global,
+    versions: &mut V,
+    press: &P,
+    pin: &mut Pin<Version>,
+    checked: Checked,
+    batch: &[u8],
+    close: bool,
+) -> Result<Turned, Memory>
+    requires pin { IsPin (V.seen versions.old).history pin.old }
+    requires sound { map_fault checked ≡ None }
+    ensures turned { IfOk result (λ t. edited (arc_value pin.old.held).built batch.now ≡ Ok checked
+        → IsTurned (V.seen versions.old) (V.seen versions.new) pin.old.number pin.new.number (RouteAsked EditRoute batch.now) close t) }
+    ensures pin { IsPin (V.seen versions.new).history pin.new }
+    ensures kept { OnErr result (pin.new ≡ pin.old) }
+    ensures continues { Continues (V.seen versions.old) (V.seen versions.new) }
+    ensures published { CountsPublished (V.seen versions.old) (V.seen versions.new) result }
+    ensures told { CountsTold (V.seen versions.old) (V.seen versions.new) result }
+{
+    match versions.ready(rt, press, pin.number) {
+        Ok(()) => publish_built(rt, alloc, versions, press, pin, checked, batch, close),
+        Err(fail) => refuse_commit(alloc, pin, fail, close),
+    }
+}
+
+/// Edits the version that is pinned by a batch, and publishes what comes of it. It is edited and checked before the press is asked
+/// whether there is room for it, and built after that.
 pub(crate) fn edit<R: Threads + Wait + Sync, P, V: Versions<P>>(
     rt: &R,
     alloc: Global,
@@ -176,8 +229,8 @@ pub(crate) fn edit<R: Threads + Wait + Sync, P, V: Versions<P>>(
     ensures published { CountsPublished (V.seen versions.old) (V.seen versions.new) result }
     ensures told { CountsTold (V.seen versions.old) (V.seen versions.new) result }
 {
-    match rebuild(rt, alloc, &pin.held, batch) {
-        Ok(next) => commit(rt, alloc, versions, press, pin, next, close),
+    match revised(rt, alloc, &pin.held, batch) {
+        Ok(checked) => advance(rt, alloc, versions, press, pin, checked, batch, close),
         Err(RebuildFail::Edit(fault)) => refuse_batch(alloc, pin, &fault, close),
         Err(RebuildFail::Map(fault)) => refuse_map(alloc, pin, &fault, close),
         Err(RebuildFail::Memory) => Err(Memory),

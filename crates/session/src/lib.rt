@@ -2,19 +2,24 @@
 #![tactic(auto)]
 
 mod answer;
+mod body;
 mod coming;
 mod connection;
+mod desk;
 mod edit;
+mod kept_texts;
 mod log;
 mod read;
 mod room;
 mod row;
+mod sending;
 mod serve;
 mod store;
 mod topology;
 mod turn;
 mod versions;
 
-pub use connection::serve_connection;
+pub use connection::{serve_connection, serve_connection_at};
+pub use desk::Desk;
 pub use row::Row;
 pub use serve::{MAX_REQUESTS, limit_as_number};

@@ -1,7 +1,9 @@
 //! What is read from a version.
 
-ghost use Rattle.std.specs.Prelude.{◌≡◌, ◌<◌, ◌≤◌, ◌≤ℤ◌, ◌↔◌, ◌++◌, ◌∷◌, ℕ, [], Some, Err, IfOk, OnOk, decimal, codes, length};
-ghost use Rattle.tgap_model.specs.Base.{count_points};
+ghost use Rattle.std.specs.Prelude.{◌≡◌, ◌⊎◌, ◌<◌, ◌≤ℤ◌, ◌↔◌, ◌++◌, ◌∷◌, ℕ, [], List, All, Some, Err, IfSome, IfOk, OnOk, decimal, codes, length};
+ghost use Rattle.std.specs.List.{Contains};
+ghost use Rattle.std.specs.Arc.{arc_value};
+ghost use Rattle.tgap_model.specs.Base.{BaseMap, count_points};
 ghost use Rattle.line_forms.specs.Texts.{line};
 ghost use Rattle.tgap_model.specs.History.{history_of};
 ghost use Rattle.tgap_model.specs.Slice.{slice, window_of};
@@ -9,14 +11,18 @@ ghost use Rattle.slice_read.specs.declared.fail.ReadFail.TheVariants.{StepTooHig
 ghost use Rattle.tgap_model.specs.Merged.{merged};
 ghost use Rattle.tgap_model.specs.Records.{packet_of};
 ghost use Rattle.wire_text.specs.SliceTexts.{slice_text, window_text, packet_text};
-ghost use Rattle.tgap_model.specs.declared.limits.TheConstants.{MAX_POINTS};
 ghost use Rattle.plain_io.specs.Fields.{fields};
-ghost use Rattle.session.specs.Answers.{IsAnswer, info_words, not_coarser_words, route_answer, packet_answer, window_answer, at_step};
+ghost use Rattle.session.specs.Keeping.{AreKept};
+ghost use Rattle.session.specs.Versions.{IsPin};
+ghost use Rattle.session.specs.Answers.{IsAnswer, plain, info_words, not_coarser_words, route_answer, packet_answer, window_answer, at_step};
 ghost use Rattle.session.specs.Turns.{Reads};
 
 use crate::answer::{Answer, line, plain};
+use crate::body::Body;
+use crate::kept_texts::KeptTexts;
 use crate::topology::topology_answer;
 use http_face::{Allow, Route};
+use map_version::Version;
 use plain_io::{put_count, put_field, put_size};
 use refine_packets::{PacketFail, packet};
 use slice_read::{ReadFail, slice_at, window_at};
@@ -24,33 +30,22 @@ use std::alloc::Global;
 use std::marker::Brand;
 use std::sync::ledger::{Blank, Ledger};
 use tgap_build::Built;
-use tgap_model::{Base, BaseArc, MAX_POINTS, Memory, Slice, Steps, Text, Window};
+use tgap_model::{Memory, Slice, Steps, Text, Window};
+use version_store::Pin;
 use wire_text::{packet_text, slice_text, step_too_high_text, window_text};
 
-/// How many points all arcs have.
-fn count_points(arcs: &[BaseArc]) -> usize
-    requires { count_points arcs.now ≤ MAX_POINTS }
-    ensures { result ≡ count_points arcs.now }
+/// Appends how many faces, arcs and points the base map of a version has.
+fn put_counts(alloc: Global, out: &mut Text, built: &Built) -> Result<(), Memory>
+    ensures { OnOk result (out.new ≡ out.old ++ fields (codes "faces" ∷ decimal (length built.now.classes)
+        ∷ codes "arcs" ∷ decimal (length built.now.arcs) ∷ codes "points" ∷ decimal (count_points built.now.arcs) ∷ [])) }
 {
-    let mut count = 0;
-    for arc in arcs {
-        count += arc.points.len();
-    }
-    count
-}
-
-/// Appends how many faces, arcs and points a base map has.
-fn put_counts(alloc: Global, out: &mut Text, base: &Base) -> Result<(), Memory>
-    requires { count_points base.now.arcs ≤ MAX_POINTS }
-    ensures { OnOk result (out.new ≡ out.old ++ fields (codes "faces" ∷ decimal (length base.now.classes)
-        ∷ codes "arcs" ∷ decimal (length base.now.arcs) ∷ codes "points" ∷ decimal (count_points base.now.arcs) ∷ [])) }
-{
+    let base = built.base();
     out.push_slice(b" faces")?;
     put_size(alloc, out, base.classes().len())?;
     out.push_slice(b" arcs")?;
     put_size(alloc, out, base.arcs().len())?;
     out.push_slice(b" points")?;
-    put_size(alloc, out, count_points(base.arcs().as_slice()))
+    put_size(alloc, out, built.points())
 }
 
 /// The line of the numbers of a version.
@@ -61,7 +56,7 @@ fn info_line(alloc: Global, number: u64, built: &Built) -> Result<Text, Memory>
     put_field(alloc, &mut text, i128::from(number))?;
     text.push_slice(b" steps")?;
     put_count(alloc, &mut text, built.steps())?;
-    put_counts(alloc, &mut text, built.base())?;
+    put_counts(alloc, &mut text, built)?;
     text.push_slice(b"\n")?;
     Ok(text)
 }
@@ -177,9 +172,88 @@ pub(crate) fn route_answer(
         Route::WrongMethod(allow) => Ok(Answer {
             status: 405,
             allow: Some(allow),
-            body: line(alloc, b"wrong method")?,
+            body: Body::made(line(alloc, b"wrong method")?),
         }),
         Route::NoRoute => Ok(plain(404, line(alloc, b"no route")?)),
         Route::Pin | Route::PinSeen(_) | Route::Edit => unreachable!(),
     }
+}
+
+/// Whether the answers to this are kept for who asks again: slices, packets and topologies.
+fn is_kept(asked: Route) -> bool {
+    match asked {
+        Route::Slice(_) | Route::Packet(_, _) | Route::Topo(_) => true,
+        _ => false,
+    }
+}
+
+/// The answer of the version of this number that is kept, if one is.
+fn find_answer(kept: &mut KeptTexts, number: u64, asked: Route) -> Option<Answer>
+    ensures text { IfSome result (λ a. a ≡ plain 200 a.body) }
+    ensures found { IfSome result (λ a. Contains kept.old (record { number = number; asked = asked; text = a.body })) }
+    ensures sendable { IfSome result IsAnswer }
+    ensures texts { All (Contains kept.old) kept.new }
+{
+    if !is_kept(asked) {
+        return None;
+    }
+    let body = kept.find(number, asked)?;
+    Some(Answer {
+        status: 200,
+        allow: None,
+        body,
+    })
+}
+
+/// Keeps the text of an answer of the version of this number, where it is one that is kept, and gives the same answer.
+fn keep_answer(
+    alloc: Global,
+    kept: &mut KeptTexts,
+    number: u64,
+    asked: Route,
+    answer: Answer,
+) -> Answer
+    ensures answer { result ≡ answer }
+    ensures texts { All (λ text. Contains kept.old text
+        ⊎ ((text ≡ record { number = number; asked = asked; text = answer.body }) × (answer ≡ plain 200 answer.body))) kept.new }
+{
+    let Answer {
+        status,
+        allow,
+        body,
+    } = answer;
+    if is_kept(asked) && status == 200 && allow.is_none() {
+        Answer {
+            status,
+            allow,
+            body: kept.keep(alloc, number, asked, body),
+        }
+    } else {
+        Answer {
+            status,
+            allow,
+            body,
+        }
+    }
+}
+
+/// The answer to what only reads the version that is pinned. A slice, a packet or a topology that is kept is not made again, and one that
+/// is made is kept.
+pub(crate) fn pinned_answer(
+    alloc: Global,
+    pin: &Pin<Version>,
+    kept: &mut KeptTexts,
+    asked: Route,
+) -> Result<Answer, Memory>
+    requires { Reads asked }
+    ensures exact { IfOk result (λ a. (history : List BaseMap) → IsPin history pin.now → AreKept history kept.old
+        → route_answer pin.now.number (arc_value pin.now.held).built asked ≡ Some a) }
+    ensures sendable { IfOk result IsAnswer }
+    ensures texts { (history : List BaseMap) → IsPin history pin.now → AreKept history kept.old → AreKept history kept.new }
+{
+    if let Some(answer) = find_answer(kept, pin.number, asked) {
+        return Ok(answer);
+    }
+    let answer = route_answer(alloc, pin.number, &pin.held.built, asked)?;
+    Ok(keep_answer(alloc, kept, pin.number, asked, answer))
 }

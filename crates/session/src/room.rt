@@ -89,6 +89,14 @@ impl Room {
         self.start += n;
     }
 
+    /// Holds no byte from then on.
+    pub fn clear(&mut self)
+        ensures { self.new ≡ [] }
+    {
+        self.start = 0;
+        self.end = 0;
+    }
+
     /// Takes more bytes from the link, and gives their number: at least one, or 0 at the end of the input.
     pub fn fill<L: Link>(&mut self, link: &mut L) -> Result<usize, Failed>
         requires { length self.old < ROOM }

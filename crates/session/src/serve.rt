@@ -7,12 +7,14 @@ ghost use Rattle.plain_io.specs.declared.connection.EndKind.TheVariants as kind;
 ghost use Rattle.session.specs.declared.serve.TheConstants.{MAX_REQUESTS};
 ghost use Rattle.session.specs.Coming.{BeginsWith, BeginsAtFault};
 ghost use Rattle.session.specs.Conversation.{Conversation, is_empty};
+ghost use Rattle.session.specs.Keeping.{AreKept};
 ghost use Rattle.session.specs.Outcomes.{place_of};
 ghost use Rattle.session.specs.Progress.{Exchange};
 ghost use Rattle.session.specs.Turns.{settled};
 ghost use Rattle.session.specs.Versions.{Seen, IsPin};
 
-use crate::coming::{Arrival, next_item};
+use crate::coming::{Arrival, NextRequest, next_item};
+use crate::kept_texts::KeptTexts;
 use crate::log::Log;
 use crate::room::Room;
 use crate::row::Row;
@@ -62,7 +64,7 @@ fn respond<L: Link>(
     match turned {
         Ok(Turned { number, row, reply }) => {
             log.note(number, row);
-            link.put(reply.as_slice())
+            reply.put(link)
         }
         Err(_) => {
             log.note(pin, Row::NoMemory);
@@ -71,13 +73,12 @@ fn respond<L: Link>(
     }
 }
 
-/// The bytes of a head and of a body of these sizes.
-fn split_request(held: &[u8], head: usize, body: usize) -> (&[u8], &[u8])
+/// The bytes of a body of this size, behind a head of that size.
+fn body_of(held: &[u8], head: usize, body: usize) -> &[u8]
     requires { head + body ≤ length held.now }
-    ensures head { result.0.now ≡ take head held.now }
-    ensures body { result.1.now ≡ take body (drop head held.now) }
+    ensures { result.now ≡ take body (drop head held.now) }
 {
-    (&held[..head], &held[head..head + body])
+    &held[head..head + body]
 }
 
 /// Whether the connection ends after the reply to the request of this number, from 1, which asks to close or not.
@@ -87,8 +88,7 @@ fn is_final(count: usize, close: bool) -> bool
     close || count == MAX_REQUESTS
 }
 
-/// Answers the request that the bytes that are held begin with, with a head and a body of these sizes, and passes over it. The reply says
-/// whether the connection ends.
+/// Answers the request that the bytes that are held begin with, and passes over it. The reply says whether the connection ends.
 fn serve_request<R: Threads + Wait + Sync, L: Link, P, V: Versions<P>>(
     rt: &R,
     alloc: Global,
@@ -96,29 +96,33 @@ fn serve_request<R: Threads + Wait + Sync, L: Link, P, V: Versions<P>>(
     versions: &mut V,
     press: &P,
     pin: &mut Pin<Version>,
-    routes: &Routes,
+    kept: &mut KeptTexts,
     log: &mut Log,
     room: &mut Room,
-    head: usize,
-    body: usize,
+    request: NextRequest,
     ends: bool,
 ) -> Result<(), Failed>
     requires pin { IsPin (V.seen versions.old).history pin.old }
     requires log { length log.old.numbers < MAX_REQUESTS }
-    requires sizes { head + body ≤ length room.old }
-    requires request { (close : Bool) × BeginsWith room.old head body close }
-    ensures exchange { (close : Bool) → BeginsWith room.old head body close
-        → Exchange (V.seen versions.old) (V.seen versions.new) pin.old pin.new room.old room.new log.old log.new
-        (L.told link.old) (L.told link.new) false close ends result }
+    requires sizes { request.head + request.body ≤ length room.old }
+    requires request { BeginsWith room.old request }
+    requires texts { AreKept (V.seen versions.old).history kept.old }
+    ensures exchange { Exchange (V.seen versions.old) (V.seen versions.new) pin.old pin.new room.old room.new log.old log.new
+        (L.told link.old) (L.told link.new) false request.close ends result }
     ensures put_faults { CountsPut result (L.put_faults link.old) (L.put_faults link.new) }
     ensures taken { L.taken link.new ≡ L.taken link.old }
     ensures take_faults { L.take_faults link.new ≡ L.take_faults link.old }
     ensures end { L.ended link.new ≡ L.ended link.old }
+    ensures texts { AreKept (V.seen versions.new).history kept.new }
 {
-    let (head_bytes, body_bytes) = split_request(room.bytes(), head, body);
-    let turned = answer(
-        rt, alloc, versions, press, pin, routes, head_bytes, body_bytes, ends,
-    );
+    let NextRequest {
+        head,
+        body,
+        asked,
+        ..
+    } = request;
+    let bytes = body_of(room.bytes(), head, body);
+    let turned = answer(rt, alloc, versions, press, pin, kept, asked, bytes, ends);
     room.pass(head + body);
     respond(link, log, pin.number, turned, ends)
 }
@@ -152,6 +156,7 @@ pub(crate) fn serve<R: Threads + Wait + Sync, L: Link, P, V: Versions<P>>(
     press: &P,
     pin: &mut Pin<Version>,
     routes: &Routes,
+    kept: &mut KeptTexts,
     log: &mut Log,
     room: &mut Room,
 ) -> EndKind
@@ -159,15 +164,17 @@ pub(crate) fn serve<R: Threads + Wait + Sync, L: Link, P, V: Versions<P>>(
     requires numbers { log.old.numbers ≡ [] }
     requires rows { log.old.rows ≡ [] }
     requires room { room.old ≡ [] }
+    requires texts { AreKept (V.seen versions.old).history kept.old }
     requires open { L.ended link.old ≡ false }
     ensures conversation { Conversation (V.seen versions.old) (V.seen versions.new) (L.taken link.old) (L.taken link.new)
         (L.told link.old) (L.told link.new) (L.ended link.new)
         (record { how = result; first = pin.old.number; last = pin.new.number; numbers = log.new.numbers; rows = log.new.rows }) }
     ensures read_fault { result ≡ kind.ReadFault → Rose (L.take_faults link.old) (L.take_faults link.new) }
     ensures write_fault { result ≡ kind.WriteFault → Rose (L.put_faults link.old) (L.put_faults link.new) }
+    ensures texts { AreKept (V.seen versions.new).history kept.new }
 {
     for count in 0..MAX_REQUESTS {
-        match next_item(link, room) {
+        match next_item(link, routes, room) {
             Arrival::End => return ended(room),
             Arrival::Failed => return EndKind::ReadFault,
             Arrival::Fault { status } => {
@@ -176,10 +183,10 @@ pub(crate) fn serve<R: Threads + Wait + Sync, L: Link, P, V: Versions<P>>(
                     Err(_) => EndKind::WriteFault,
                 };
             }
-            Arrival::Request { head, body, close } => {
-                let ends = is_final(count + 1, close);
+            Arrival::Request(request) => {
+                let ends = is_final(count + 1, request.close);
                 let Ok(()) = serve_request(
-                    rt, alloc, link, versions, press, pin, routes, log, room, head, body, ends,
+                    rt, alloc, link, versions, press, pin, kept, log, room, request, ends,
                 ) else {
                     return EndKind::WriteFault;
                 };

@@ -28,6 +28,16 @@ impl<N: StoreName> Versions<Mutex<Press<Version, N>>> for Seat<Version, N> {
         press.newest(alloc, self)
     }
 
+    fn ready<R: Wait>(
+        &mut self,
+        rt: &R,
+        press: &Mutex<Press<Version, N>>,
+        named: u64,
+    ) -> Result<(), PublishFail> {
+        let mut press = press.lock(rt);
+        press.ready(self, named)
+    }
+
     fn publish<R: Wait>(
         &mut self,
         rt: &R,

@@ -2,24 +2,26 @@
 
 ghost use Rattle.std.specs.Prelude.{◌≡◌, true, ◌<◌, ◌+◌, ℕ, List, Ok, Err, IfOk, OnErr};
 ghost use Rattle.http_face.specs.declared.request.Route.TheVariants.{Pin as PinRoute, PinSeen as PinSeenRoute};
-ghost use Rattle.session.specs.Items.{IsOneHead, Route as RouteAsked, FaultyHead};
+ghost use Rattle.session.specs.Items.{Route as RouteAsked, FaultyHead};
+ghost use Rattle.tgap_model.specs.Base.{BaseMap};
+ghost use Rattle.session.specs.Keeping.{AreKept};
 ghost use Rattle.session.specs.Versions.{Seen, Continues, IsPin};
 ghost use Rattle.session.specs.declared.row.Row.TheVariants.{Read as RowRead};
 ghost use Rattle.session.specs.Turns.{IsTurned, CountsPublished, CountsTold, IsSought, Reads};
-ghost use Rattle.httparse.specs.Grammar.{RequestHead, IsRequestHead, print_request};
-ghost use Rattle.http_face.specs.Routes.{route_of};
 
 use crate::answer::{fault_answer, numbered_line, plain, sent};
 use crate::edit::edit;
-use crate::read::route_answer;
+use crate::kept_texts::KeptTexts;
+use crate::read::pinned_answer;
 use crate::row::Row;
+use crate::sending::Sending;
 use crate::versions::Versions;
-use http_face::{HeadState, Route, Routes, read_head, route};
+use http_face::Route;
 use map_version::Version;
 use std::alloc::Global;
 use std::sync::Wait;
 use std::thread::Threads;
-use tgap_model::{Memory, Text};
+use tgap_model::Memory;
 use version_store::Pin;
 
 /// What became of a request: the number that the reply rests on, the outcome, and the bytes of the reply.
@@ -27,7 +29,7 @@ use version_store::Pin;
 pub(crate) struct Turned {
     pub number: u64,
     pub row: Row,
-    pub reply: Text,
+    pub reply: Sending,
 }
 
 /// Pins the newest version. Without memory the old pin stays.
@@ -133,19 +135,22 @@ pub(crate) fn pin_seen<R: Wait, P, V: Versions<P>>(
 pub(crate) fn read(
     alloc: Global,
     pin: &Pin<Version>,
+    kept: &mut KeptTexts,
     asked: Route,
     close: bool,
 ) -> Result<Turned, Memory>
     requires { Reads asked }
-    ensures turned { IfOk result (λ t. (body : List ℕ) (seen : Seen) → IsPin seen.history pin.now
+    ensures turned { IfOk result (λ t. (body : List ℕ) (seen : Seen) → IsPin seen.history pin.now → AreKept seen.history kept.old
         → IsTurned seen seen pin.now.number pin.now.number (RouteAsked asked body) close t) }
     ensures row { IfOk result (λ t. t.row ≡ RowRead) }
+    ensures texts { (history : List BaseMap) → IsPin history pin.now → AreKept history kept.old → AreKept history kept.new }
 {
-    let answer = route_answer(alloc, pin.number, &pin.held.built, asked)?;
+    let answer = pinned_answer(alloc, pin, kept, asked)?;
+    let reply = sent(alloc, answer, pin.number, close)?;
     Ok(Turned {
         number: pin.number,
         row: Row::Read,
-        reply: sent(alloc, answer, pin.number, close)?,
+        reply,
     })
 }
 
@@ -163,18 +168,20 @@ pub(crate) fn refuse_head(alloc: Global, pin: &Pin<Version>, status: u16) -> Res
     })
 }
 
-/// Does what a request asks for.
-fn do_asked<R: Threads + Wait + Sync, P, V: Versions<P>>(
+/// Answers a request, by what its head asks for and the bytes of its body.
+pub(crate) fn answer<R: Threads + Wait + Sync, P, V: Versions<P>>(
     rt: &R,
     alloc: Global,
     versions: &mut V,
     press: &P,
     pin: &mut Pin<Version>,
+    kept: &mut KeptTexts,
     asked: Route,
     body: &[u8],
     close: bool,
 ) -> Result<Turned, Memory>
     requires pin { IsPin (V.seen versions.old).history pin.old }
+    requires texts { AreKept (V.seen versions.old).history kept.old }
     ensures turned { IfOk result
         (IsTurned (V.seen versions.old) (V.seen versions.new) pin.old.number pin.new.number (RouteAsked asked body.now) close) }
     ensures pin { IsPin (V.seen versions.new).history pin.new }
@@ -182,52 +189,12 @@ fn do_asked<R: Threads + Wait + Sync, P, V: Versions<P>>(
     ensures continues { Continues (V.seen versions.old) (V.seen versions.new) }
     ensures published { CountsPublished (V.seen versions.old) (V.seen versions.new) result }
     ensures told { CountsTold (V.seen versions.old) (V.seen versions.new) result }
+    ensures texts { AreKept (V.seen versions.new).history kept.new }
 {
     match asked {
         Route::Pin => pin_newest(alloc, versions, pin, close),
         Route::PinSeen(seen) => pin_seen(rt, alloc, versions, press, pin, seen, close),
         Route::Edit => edit(rt, alloc, versions, press, pin, body, close),
-        reading => read(alloc, pin, reading, close),
+        reading => read(alloc, pin, kept, reading, close),
     }
-}
-
-/// What a request asks for, by the bytes of its head.
-fn asked_by(alloc: Global, routes: &Routes, head: &[u8]) -> Result<Route, Memory>
-    requires { IsOneHead head.now }
-    ensures { IfOk result (λ asked. (h : RequestHead) → IsRequestHead h → head.now ≡ print_request h → asked ≡ route_of h.method h.target) }
-{
-    match read_head(alloc, head)? {
-        HeadState::Whole(found) => Ok(route(
-            routes,
-            found.method.as_slice(),
-            found.target.as_slice(),
-        )),
-        HeadState::More | HeadState::Bad { .. } => unreachable!(),
-    }
-}
-
-/// Answers a request, by the bytes of its head and of its body.
-pub(crate) fn answer<R: Threads + Wait + Sync, P, V: Versions<P>>(
-    rt: &R,
-    alloc: Global,
-    versions: &mut V,
-    press: &P,
-    pin: &mut Pin<Version>,
-    routes: &Routes,
-    head: &[u8],
-    body: &[u8],
-    close: bool,
-) -> Result<Turned, Memory>
-    requires pin { IsPin (V.seen versions.old).history pin.old }
-    requires head { IsOneHead head.now }
-    ensures turned { IfOk result (λ t. (h : RequestHead) → IsRequestHead h → head.now ≡ print_request h
-        → IsTurned (V.seen versions.old) (V.seen versions.new) pin.old.number pin.new.number (RouteAsked (route_of h.method h.target) body.now) close t) }
-    ensures pin { IsPin (V.seen versions.new).history pin.new }
-    ensures kept { OnErr result (pin.new ≡ pin.old) }
-    ensures continues { Continues (V.seen versions.old) (V.seen versions.new) }
-    ensures published { CountsPublished (V.seen versions.old) (V.seen versions.new) result }
-    ensures told { CountsTold (V.seen versions.old) (V.seen versions.new) result }
-{
-    let asked = asked_by(alloc, routes, head)?;
-    do_asked(rt, alloc, versions, press, pin, asked, body, close)
 }

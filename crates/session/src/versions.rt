@@ -31,6 +31,15 @@ pub(crate) trait Versions<P> {
         ensures continues { Continues (seen self.old) (seen self.new) }
         ensures published { (seen self.new).published ≡ (seen self.old).published };
 
+    /// Whether a version that is made of the one of this number would be published now, as the press tells it.
+    fn ready<R: Wait>(&mut self, rt: &R, press: &P, named: u64) -> Result<(), PublishFail>
+        requires named { named < length (seen self.old).history }
+        ensures stale { (newest : ℕ) → result ≡ Err (Stale newest)
+            → (named < newest) × (newest + 1 ≡ length (seen self.new).history) }
+        ensures full { (limit : ℕ) → result ≡ Err (VersionsFull limit) → (limit ≡ (seen self.new).limit) × (limit ≡ named + 1) }
+        ensures continues { Continues (seen self.old) (seen self.new) }
+        ensures published { (seen self.new).published ≡ (seen self.old).published };
+
     /// Publishes a version that was made of the one of this number.
     fn publish<R: Wait>(
         &mut self,

@@ -1,6 +1,6 @@
--- One connection more.
+-- No connection yet, and one connection more.
 use Rattle.std.proofs.Common.{◌≡◌, ◌+◌, ◌++◌, refl, List, [], ◌∷◌, length, Option, Some, None, ap, ap₂, ◌∙◌, arith, append_assoc, length-append, map, subst, sym}
-use Rattle.std.proofs.lemmas.List.{map-append}
+use Rattle.std.proofs.lemmas.List.{map-append, append-nil}
 use Rattle.std.specs.Prelude.{option_map}
 use Rattle.plain_io.specs.declared.link.Link as OfLink
 use Rattle.plain_io.specs.Doors.{Connections, HandsBack}
@@ -21,6 +21,13 @@ told_more {L} (Some all) visits visit =
     append_assoc all.back (map handed_back visits) (handed_back visit ∷ [])
     ∙ ap (λ xs. all.back ++ xs) (sym (map-append handed_back visits (visit ∷ []))) in
     ap₂ (λ n xs. Some (record { came = n; back = xs })) came back
+
+-- no link came yet
+pub none_yet : {L : Type 0} (link : OfLink.Ghosts L) (told : Option (Connections L)) (P : List Talk → Type 0) → P [] → ServesDoor link told told P
+none_yet link None P none = record { visits = []; back = refl; right = none }
+none_yet {L} link (Some all) P none =
+    let came : all.came ≡ all.came + length {A = Visit L} [] = omega arith in
+    record { visits = []; back = ap₂ (λ n xs. Some (record { came = n; back = xs })) came (sym (append-nil all.back)); right = none }
 
 -- a link came, was served and is back
 pub one_more : {L : Type 0} (link : OfLink.Ghosts L) (told before came now : Option (Connections L)) (P Q : List Talk → Type 0) (visit : Visit L)

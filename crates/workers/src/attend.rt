@@ -14,8 +14,21 @@ use std::thread::Threads;
 
 /// What serves one connection after the other, with what all workers share.
 pub trait Attend<B> {
+    /// What it keeps from one connection to the next while it serves those of a door.
+    type Desk;
+
     /// It has served these connections since it was as it was before.
     ghost served: { Self → Self → List Talk → Type 0 };
+
+    /// The desk is one at which it may serve as it is now.
+    ghost ready: { Self → Self.Desk → Type 0 };
+
+    /// A desk at which nothing was kept yet.
+    fn desk(&self, shared: &B) -> Self::Desk
+        ensures { ready self.now result };
+
+    /// Leaves the desk, where no more links come.
+    fn leave(&self, desk: Self::Desk);
 
     /// Serves the connection of a link that has just come, and so one connection more.
     fn attend<L: Link, R: Threads + Wait + Sync>(
@@ -23,14 +36,16 @@ pub trait Attend<B> {
         rt: &R,
         shared: &B,
         link: &mut L,
+        desk: &mut Self::Desk,
     ) -> ConnectionEnd
+        requires ready { ready self.old desk.old }
         requires runtime { IsSync R.row }
         requires untaken { HasNone (L.taken link.old) }
         requires unput { HasNone (L.told link.old) }
         requires take_faults { L.take_faults link.old ≡ 0 }
         requires put_faults { L.put_faults link.old ≡ 0 }
         requires unended { L.ended link.old ≡ false }
-        ensures { (before : Self) (talks : List Talk) → served before self.old talks
+        ensures served { (before : Self) (talks : List Talk) → served before self.old talks
             → served before self.new (talks ++ record {
               taken_before = L.taken link.old;
               told_before = L.told link.old;
@@ -40,7 +55,8 @@ pub trait Attend<B> {
               take_faults = L.take_faults link.new;
               put_faults = L.put_faults link.new;
               end = result;
-            } ∷ []) };
+            } ∷ []) }
+        ensures ready { ready self.new desk.new };
 
     /// At first it has served none.
     ghost served_none: { (now : Self) → served now now [] };
@@ -65,7 +81,7 @@ pub fn serve_door<B, D: Door, A: Attend<B>, R: Threads + Wait + Sync>(
     end_by_counts(before, door.faults())
 }
 
-/// Serves the connections of a door until it gives no more.
+/// Serves the connections of a door until it gives no more, all at one desk.
 fn serve_links<B, D: Door, A: Attend<B>, R: Threads + Wait + Sync>(
     rt: &R,
     shared: &B,
@@ -75,11 +91,13 @@ fn serve_links<B, D: Door, A: Attend<B>, R: Threads + Wait + Sync>(
     ensures served { ServesDoor D.Line.Link (D.told door.old) (D.told door.new) (A.served attendant.old attendant.new) }
     ensures stopped { ((D.closed door.new ≡ true) × (D.faults door.new ≡ D.faults door.old)) ⊎ Rises (D.faults door.old) (D.faults door.new) }
 {
+    let mut desk = attendant.desk(shared);
     for _ in rt.forever() {
         let Arrival::Came(mut link) = door.next() else {
-            return;
+            break;
         };
-        let end = attendant.attend(rt, shared, &mut link);
+        let end = attendant.attend(rt, shared, &mut link, &mut desk);
         door.done(link, end);
     }
+    attendant.leave(desk);
 }

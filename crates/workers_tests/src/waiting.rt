@@ -17,13 +17,22 @@ struct Echo;
 impl Attend<Global> for Echo {
     ghost use Rattle.std.specs.Prelude.{⊤};
 
+    type Desk = ();
+
     ghost served = { λ before now talks. ⊤ };
+
+    ghost ready = { λ now desk. ⊤ };
+
+    fn desk(&self, _alloc: &Global) {}
+
+    fn leave(&self, _desk: ()) {}
 
     fn attend<L: Link, R: Threads + Wait + Sync>(
         &mut self,
         _rt: &R,
         alloc: &Global,
         link: &mut L,
+        _desk: &mut (),
     ) -> ConnectionEnd {
         ConnectionEnd {
             how: give_back(link),

@@ -2,7 +2,18 @@
 use Rattle.std.proofs.Common.{List, ℕ, sym, subst}
 use Rattle.session.specs.Conversation.{Conversation}
 use Rattle.session.proofs.Connections.{served_from}
+use Rattle.session.proofs.Known.{are_kept_longer}
 use Rattle.session.proofs.connection.converse.Goals as goal
+
+pub serve-how-requires-clause-texts : goal.serve-how-requires-clause-texts
+serve-how-requires-clause-texts g c κs within =
+    let S = g.V.Versions.seen in
+    are_kept_longer (S c.args.versions.now) (S c.pin.new.self) c.args.kept.now c.pin.ensures.continues c.requires.texts
+
+pub returns-in_default-clause-texts : goal.returns-in_default-clause-texts
+returns-in_default-clause-texts g c =
+    let S = g.V.Versions.seen in
+    are_kept_longer (S c.args.versions.now) (S c.pin.new.self) c.args.kept.now c.pin.ensures.continues c.requires.texts
 
 pub returns-clause-connection : goal.returns-clause-connection
 returns-clause-connection g c =

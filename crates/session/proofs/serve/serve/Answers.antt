@@ -15,11 +15,12 @@ loop-count-init g c = record {
       c.requires.pin c.requires.room c.requires.numbers c.requires.rows;
   unended = c.requires.«open»;
   take_faults = refl;
+  texts = c.requires.texts;
   put_faults = refl;
 }
 
 pub serve_request-requires-clause-request : goal.serve_request-requires-clause-request
-serve_request-requires-clause-request g c κs within = (c.in-Request.close, c.in-Request.ensures.exact)
+serve_request-requires-clause-request g c κs within = c.in-Request.ensures.exact
 
 pub returns-in-End-clause-conversation : goal.returns-in-End-clause-conversation
 returns-in-End-clause-conversation g c =
@@ -85,13 +86,13 @@ returns-in_default-clause-conversation g c =
     let P : Option (List ℕ) → Type 0 = λ o. Progress c.args.pin.now.number (S c.args.versions.now) (S c.loop-count.versions) (taken c.args.link.now) (taken c.loop-count.link)
     (told c.args.link.now) o c.loop-count.pin c.loop-count.room noted c.loop-count.count in
     let p = subst P (sym c.in-Request.ensures.told) c.loop-count.invariant.progress in
-    let e = c.serve_request.ensures.exchange c.in-Request.close c.in-Request.ensures.exact in
+    let e = c.serve_request.ensures.exchange in
     let front = front_any (told c.next_item.new.link) (told c.serve_request.new.link) e.turned.reply c.serve_request.result e.put_is in
     last_conversation c.args.pin.now.number (S c.args.versions.now) (S c.loop-count.versions) (S c.serve_request.new.versions)
     (taken c.args.link.now) (taken c.loop-count.link) (taken c.serve_request.new.link) (told c.args.link.now) (told c.next_item.new.link) (told c.serve_request.new.link)
     c.loop-count.pin c.serve_request.new.pin c.loop-count.room c.next_item.new.room c.serve_request.new.room noted c.serve_request.new.log c.loop-count.count
-    false c.in-Request.close c.is_final-ends.result c.serve_request.result p more e
-    (c.is_final-ends.ensures ∙ ap (λ n. c.in-Request.close || (n == MAX_REQUESTS)) (add-one c.loop-count.count) ∙ ap (λ b. b || (suc c.loop-count.count == MAX_REQUESTS)) e.closing_is)
+    false c.in-Request.request.close c.is_final-ends.result c.serve_request.result p more e
+    (c.is_final-ends.ensures ∙ ap (λ n. c.in-Request.request.close || (n == MAX_REQUESTS)) (add-one c.loop-count.count) ∙ ap (λ b. b || (suc c.loop-count.count == MAX_REQUESTS)) e.closing_is)
     c.loop-count-test.true (take front.0 e.turned.reply) front.1 WriteFault _ (front_more p.written e.turned.reply front.0)
 
 pub returns-then-count-eq-MAX_REQUESTS-clause-conversation : goal.returns-then-count-eq-MAX_REQUESTS-clause-conversation
@@ -105,12 +106,12 @@ returns-then-count-eq-MAX_REQUESTS-clause-conversation g c =
     let P : Option (List ℕ) → Type 0 = λ o. Progress c.args.pin.now.number (S c.args.versions.now) (S c.loop-count.versions) (taken c.args.link.now) (taken c.loop-count.link)
     (told c.args.link.now) o c.loop-count.pin c.loop-count.room noted c.loop-count.count in
     let p = subst P (sym c.in-Request.ensures.told) c.loop-count.invariant.progress in
-    let e = c.in-Ok-serve_request.ensures.exchange c.in-Request.close c.in-Request.ensures.exact in
+    let e = c.in-Ok-serve_request.ensures.exchange in
     last_conversation c.args.pin.now.number (S c.args.versions.now) (S c.loop-count.versions) (S c.serve_request.new.versions)
     (taken c.args.link.now) (taken c.loop-count.link) (taken c.serve_request.new.link) (told c.args.link.now) (told c.next_item.new.link) (told c.serve_request.new.link)
     c.loop-count.pin c.serve_request.new.pin c.loop-count.room c.next_item.new.room c.serve_request.new.room noted c.serve_request.new.log c.loop-count.count
-    false c.in-Request.close c.is_final-ends.result _ p more e
-    (c.is_final-ends.ensures ∙ ap (λ n. c.in-Request.close || (n == MAX_REQUESTS)) (add-one c.loop-count.count) ∙ ap (λ b. b || (suc c.loop-count.count == MAX_REQUESTS)) e.closing_is)
+    false c.in-Request.request.close c.is_final-ends.result _ p more e
+    (c.is_final-ends.ensures ∙ ap (λ n. c.in-Request.request.close || (n == MAX_REQUESTS)) (add-one c.loop-count.count) ∙ ap (λ b. b || (suc c.loop-count.count == MAX_REQUESTS)) e.closing_is)
     c.loop-count-test.true e.turned.reply e.put_is Spent _
     (at_spent (items_of p.turns) e.item _ (p.written ++ e.turned.reply) _ p.going e.faulty_is (len_more p.turns e.item c.loop-count.count p.counted ∙ c.if-count-eq-MAX_REQUESTS.true))
 
@@ -125,15 +126,15 @@ returns-else-count-eq-MAX_REQUESTS-clause-conversation g c =
     let P : Option (List ℕ) → Type 0 = λ o. Progress c.args.pin.now.number (S c.args.versions.now) (S c.loop-count.versions) (taken c.args.link.now) (taken c.loop-count.link)
     (told c.args.link.now) o c.loop-count.pin c.loop-count.room noted c.loop-count.count in
     let p = subst P (sym c.in-Request.ensures.told) c.loop-count.invariant.progress in
-    let e = c.in-Ok-serve_request.ensures.exchange c.in-Request.close c.in-Request.ensures.exact in
+    let e = c.in-Ok-serve_request.ensures.exchange in
     last_conversation c.args.pin.now.number (S c.args.versions.now) (S c.loop-count.versions) (S c.serve_request.new.versions)
     (taken c.args.link.now) (taken c.loop-count.link) (taken c.serve_request.new.link) (told c.args.link.now) (told c.next_item.new.link) (told c.serve_request.new.link)
     c.loop-count.pin c.serve_request.new.pin c.loop-count.room c.next_item.new.room c.serve_request.new.room noted c.serve_request.new.log c.loop-count.count
-    false c.in-Request.close c.is_final-ends.result _ p more e
-    (c.is_final-ends.ensures ∙ ap (λ n. c.in-Request.close || (n == MAX_REQUESTS)) (add-one c.loop-count.count) ∙ ap (λ b. b || (suc c.loop-count.count == MAX_REQUESTS)) e.closing_is)
+    false c.in-Request.request.close c.is_final-ends.result _ p more e
+    (c.is_final-ends.ensures ∙ ap (λ n. c.in-Request.request.close || (n == MAX_REQUESTS)) (add-one c.loop-count.count) ∙ ap (λ b. b || (suc c.loop-count.count == MAX_REQUESTS)) e.closing_is)
     c.loop-count-test.true e.turned.reply e.put_is Closed _
     (at_closed (items_of p.turns) e.item _ (p.written ++ e.turned.reply) _ p.going e.faulty_is
-    (sym e.closing_is ∙ or_first c.in-Request.close ((c.loop-count.count + 1) == MAX_REQUESTS) (sym c.is_final-ends.ensures ∙ c.if-ends.true) (not_full (c.loop-count.count + 1) c.if-count-eq-MAX_REQUESTS.false))
+    (sym e.closing_is ∙ or_first c.in-Request.request.close ((c.loop-count.count + 1) == MAX_REQUESTS) (sym c.is_final-ends.ensures ∙ c.if-ends.true) (not_full (c.loop-count.count + 1) c.if-count-eq-MAX_REQUESTS.false))
     (ap (λ n. n == MAX_REQUESTS) (len_more p.turns e.item c.loop-count.count p.counted) ∙ (not_full (c.loop-count.count + 1) c.if-count-eq-MAX_REQUESTS.false)))
 
 pub loop-count-preserved : goal.loop-count-preserved
@@ -148,11 +149,12 @@ loop-count-preserved g c =
           (taken c.args.link.now) (taken c.loop-count.link) (taken c.serve_request.new.link)
           (told c.args.link.now) (told c.loop-count.link) (told c.next_item.new.link) (told c.serve_request.new.link)
           c.loop-count.pin c.serve_request.new.pin c.loop-count.room c.next_item.new.room c.serve_request.new.room c.loop-count.log c.serve_request.new.log
-          c.loop-count.count c.in-Request.close c.is_final-ends.result _
+          c.loop-count.count c.in-Request.request.close c.is_final-ends.result _
           c.loop-count.invariant.progress more c.in-Request.ensures.told
-          (c.in-Ok-serve_request.ensures.exchange c.in-Request.close c.in-Request.ensures.exact) c.is_final-ends.ensures c.if-ends.false;
+          (c.in-Ok-serve_request.ensures.exchange) c.is_final-ends.ensures c.if-ends.false;
       unended = c.in-Ok-serve_request.ensures.end ∙ c.in-Request.ensures.end;
       take_faults = c.in-Ok-serve_request.ensures.take_faults ∙ c.in-Request.ensures.faults ∙ c.loop-count.invariant.take_faults;
+      texts = c.in-Ok-serve_request.ensures.texts;
       put_faults = c.in-Ok-serve_request.ensures.put_faults ∙ c.in-Request.ensures.put_faults ∙ c.loop-count.invariant.put_faults;
     }
 

@@ -1,5 +1,6 @@
 -- So many requests were answered, and neither the end of the input nor a failure came.
 use Rattle.std.proofs.Common.{◌≡◌, false}
+use Rattle.session.specs.Keeping.{AreKept}
 use Rattle.session.specs.Progress.{Progress}
 use Rattle.session.proofs.serve.serve.Given as goal
 
@@ -9,5 +10,6 @@ invariant-loop-count g l = record {
       (g.L.Link.taken l.initial.link) (g.L.Link.taken l.link) (g.L.Link.told l.initial.link) (g.L.Link.told l.link) l.pin l.room l.log l.count;
   unended : g.L.Link.ended l.link ≡ false;
   take_faults : g.L.Link.take_faults l.link ≡ g.L.Link.take_faults l.initial.link;
+  texts : AreKept (g.V.Versions.seen l.versions).history l.kept;
   put_faults : g.L.Link.put_faults l.link ≡ g.L.Link.put_faults l.initial.link;
 }

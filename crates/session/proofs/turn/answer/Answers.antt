@@ -1,15 +1,18 @@
--- What is done is what the head asks for.
-use Rattle.std.proofs.Common.{subst}
-use Rattle.http_face.specs.declared.request.Route.{Route}
-use Rattle.session.specs.Items.{Route as RouteAsked}
-use Rattle.session.specs.Turns.{IsTurned}
-use Rattle.session.proofs.Edits.{if_ok}
+-- What is kept stays right where versions come.
+use Rattle.session.proofs.Known.{are_kept_longer}
 use Rattle.session.proofs.turn.answer.Goals as goal
 
-pub returns-clause-turned : goal.returns-clause-turned
-returns-clause-turned g c =
+pub returns-in-Pin-clause-texts : goal.returns-in-Pin-clause-texts
+returns-in-Pin-clause-texts g c =
     let S = g.V.Versions.seen in
-    if_ok c.do_asked.result _ _
-    (λ t is h valid whole. let P : Route → Type 0 = λ r. IsTurned (S c.args.versions.now) (S c.do_asked.new.versions) c.args.pin.now.number c.do_asked.new.pin.number (RouteAsked r c.args.body.now) c.args.close t in
-    subst P (c.in_ok-asked.ensures h valid whole) is)
-    c.do_asked.ensures.turned
+    are_kept_longer (S c.args.versions.now) (S c.pin_newest.new.versions) c.args.kept.now c.pin_newest.ensures.continues c.requires.texts
+
+pub returns-in-PinSeen-clause-texts : goal.returns-in-PinSeen-clause-texts
+returns-in-PinSeen-clause-texts g c =
+    let S = g.V.Versions.seen in
+    are_kept_longer (S c.args.versions.now) (S c.pin_seen.new.versions) c.args.kept.now c.pin_seen.ensures.continues c.requires.texts
+
+pub returns-in-Edit-clause-texts : goal.returns-in-Edit-clause-texts
+returns-in-Edit-clause-texts g c =
+    let S = g.V.Versions.seen in
+    are_kept_longer (S c.args.versions.now) (S c.edit.new.versions) c.args.kept.now c.edit.ensures.continues c.requires.texts

@@ -1,0 +1,33 @@
+-- What becomes of an item, where more of the versions was seen before that.
+use Rattle.std.proofs.Common.{◌≡◌, ◌∙◌, ℕ, ◌≤◌, Bool, Result, Ok, Err, arith}
+use Rattle.tgap_model.specs.declared.failure.Memory.{Memory}
+use Rattle.plain_io.specs.Faults.{Rose}
+use Rattle.session.specs.declared.turn.Turned.{Turned}
+use Rattle.session.specs.Items.{Asked}
+use Rattle.session.specs.Versions.{Seen, Continues}
+use Rattle.session.specs.Turns.{IsTurned, CountsPublished, CountsTold}
+use Rattle.session.proofs.Kept.{no_shorter}
+
+module _ (before later now : Seen) where
+  -- the outcome holds whatever was known before
+  pub turned_later : (pin pin' : ℕ) (asked : Asked) (close : Bool) (t : Turned) → Continues before later
+      → IsTurned later now pin pin' asked close t → IsTurned before now pin pin' asked close t
+  turned_later pin pin' asked close t c is = record {
+    holds = λ known below. (let longer = no_shorter before later c in is.holds known (omega (arith, below, longer)));
+    answer = is.answer;
+    answered = is.answered;
+    reply = is.reply;
+    moved = is.moved;
+  }
+
+  -- the counts rise by as much
+  pub published_later : (r : Result Turned Memory) → later.published ≡ before.published → CountsPublished later now r → CountsPublished before now r
+  published_later (Ok t) same counts = omega (arith, same, counts)
+  published_later (Err e) same counts = counts ∙ same
+
+  rose_later : (a b n : ℕ) → a ≤ b → Rose b n → Rose a n
+  rose_later a b n le rose = grind arith
+
+  pub told_later : (r : Result Turned Memory) → Continues before later → CountsTold later now r → CountsTold before now r
+  told_later (Ok t) c told = λ behind. rose_later (before.tellings t.number) (later.tellings t.number) (now.tellings t.number) (c.tellings t.number) (told behind)
+  told_later (Err e) c told = tt
