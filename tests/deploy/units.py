@@ -23,6 +23,7 @@ def settings(tests):
         tests.same(f"settings of {name}", {key: told.get(key) for key in SETTINGS}, SETTINGS)
     told = settings_of("tgap.service")
     tests.same("when the map server is not started again", told.get("RestartPreventExitStatus"), "2 3 4")
+    tests.same("the memory of large replies goes back", told.get("Environment"), "MALLOC_MMAP_THRESHOLD_=131072 MALLOC_TRIM_THRESHOLD_=131072")
     tests.holds("the address space ends before the memory does", gigabytes(told["LimitAS"]) < gigabytes(told["MemoryMax"]))
 
 
