@@ -96,6 +96,17 @@ def connections_to(port):
     return sum(row[2].endswith(f":{port:04X}") and row[3] == "01" for row in rows)
 
 
+def edited(connection):
+    """The answer to an edit. For a moment after the reply to an edit the front server still counts its editor, and tells
+    the next one to try again."""
+    for _ in range(3):
+        answer = answer_of(connection, "POST", "/map/edit", OWN_BATCH, PASSWORD, close=False)
+        if answer.status != 503:
+            break
+        time.sleep(0.1)
+    return answer
+
+
 def crowd(tests, program, front):
     """Four clients, twice as many as workers, each on a connection that it keeps, read and edit in turn."""
     turn = threading.Lock()
@@ -106,7 +117,7 @@ def crowd(tests, program, front):
             for path in ["/map/info", "/map/slice/0", "/map/packet/48/0", "/map/window/0/0/0/50000/50000"]:
                 told.append(timed(lambda path=path: answer_of(connection, "GET", path, close=False)))
             with turn:
-                told.append(timed(lambda: answer_of(connection, "POST", "/map/edit", OWN_BATCH, PASSWORD, close=False)))
+                told.append(timed(lambda: edited(connection)))
         # It stays while the others read, as a browser's would.
         return connection, told
 
