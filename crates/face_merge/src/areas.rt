@@ -7,10 +7,10 @@ ghost use Rattle.tgap_model.specs.Bounds.{max_area};
 ghost use Rattle.tgap_model.specs.History.{history_of, labelled};
 ghost use Rattle.tgap_model.specs.Merged.{merged};
 ghost use Rattle.face_merge.specs.Areas.{added, joined_area, lost_areas};
-ghost use Rattle.face_merge.specs.Measures.{IsMeasured};
+ghost use Rattle.face_merge.specs.Measures.{IsMeasured, measure_of};
 ghost use Rattle.face_merge.specs.Merging.{AreAreas, IsLabelled};
 
-use crate::measures::{labelled_arcs, measures_of};
+use crate::measures::{Measure, labelled_arcs};
 use std::alloc::Global;
 use tgap_model::{Base, LabelledArc, List, Memory, MergeStep};
 
@@ -51,29 +51,35 @@ fn joined(areas: &[i128], step: &MergeStep) -> i128
     areas[step.loser as usize] + areas[step.winner as usize]
 }
 
-/// Twice the area of each face of a base map, by its number.
-fn base_areas(alloc: Global, base: &Base) -> Result<Vec<i128>, Memory>
+/// Twice the area of each face of a base map, by its number, from the measures of its arcs.
+fn base_areas(alloc: Global, base: &Base, measures: &[Measure]) -> Result<Vec<i128>, Memory>
+    requires { measures.now ≡ map measure_of base.now.arcs }
     ensures areas { IfOk result (λ areas. AreAreas (length base.now.classes) (map labelled base.now.arcs) areas.items) }
     ensures base { IfOk result (λ _. IsTrue (is_base base.now)) }
 {
     let arcs = base.arcs().as_slice();
-    let measures = measures_of(alloc, arcs)?;
-    let labelled = labelled_arcs(alloc, arcs, measures.as_slice())?;
+    let labelled = labelled_arcs(alloc, arcs, measures)?;
     areas_of(alloc, base.classes().len(), &labelled)
 }
 
 /// Twice the area of the face that each step takes, in the order of the steps: of its loser, as that face is just
 /// before the step.
 ///
-/// The steps are the whole history of the base map. The areas of the base faces are summed once, and the area of a new
-/// face is that of the two that it is made of, so the cost is the number of points and the number of steps. It fails on
-/// want of memory alone.
-pub fn lost_areas(alloc: Global, base: &Base, steps: &[MergeStep]) -> Result<List<i128>, Memory>
-    requires { steps.now ≡ history_of base.now }
+/// The measures are those of the arcs of the base map, and the steps are its whole history. The areas of the base faces
+/// are summed once, and the area of a new face is that of the two that it is made of, so the cost is the number of arcs
+/// and the number of steps: no point is read. It fails on want of memory alone.
+pub fn lost_areas(
+    alloc: Global,
+    base: &Base,
+    measures: &List<Measure>,
+    steps: &[MergeStep],
+) -> Result<List<i128>, Memory>
+    requires measures { measures.now ≡ map measure_of base.now.arcs }
+    requires steps { steps.now ≡ history_of base.now }
     ensures exact { IfOk result (λ areas. areas ≡ lost_areas (merged base.now)) }
     ensures small { IfOk result (λ areas. All (λ area. unsigned_abs area ≤ max_area) areas) }
 {
-    let mut areas = base_areas(alloc, base)?;
+    let mut areas = base_areas(alloc, base, measures.as_slice())?;
     let mut lost = List::with_capacity(alloc, steps.len())?;
     for step in steps {
         lost.push(areas[step.loser as usize])?;

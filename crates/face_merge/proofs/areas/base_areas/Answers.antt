@@ -1,25 +1,15 @@
 -- What a base map keeps to: its points are within the limits, its labels are faces, and its measures fit.
-use Rattle.std.proofs.Common.{arith, ◌≤◌, ◌∙◌, ap, sym, subst, ℕ, List, map, length}
+use Rattle.std.proofs.Common.{arith, ◌∙◌, ap, sym, subst, ℕ, List, map, length}
 use Rattle.std.specs.List.{All}
 use Rattle.tgap_model.specs.declared.base.BaseArc.{BaseArc}
-use Rattle.tgap_model.specs.declared.limits.TheConstants.{MAX_POINTS}
-use Rattle.tgap_model.specs.Bounds.{IsNear}
 use Rattle.tgap_model.specs.History.{labelled}
 use Rattle.std.proofs.lemmas.Result.{IfOk-weaker}
 use Rattle.tgap_model.specs.declared.merge.LabelledArc.{LabelledArc}
 use Rattle.tgap_model.proofs.BaseFacts.{base_facts}
 use Rattle.face_merge.specs.Measures.{IsMeasured}
 use Rattle.face_merge.specs.Merging.{AreAreas, IsLabelled}
-use Rattle.face_merge.proofs.Start.{base_measured, base_near, base_short, merging_start}
+use Rattle.face_merge.proofs.Start.{base_measured, merging_start}
 use Rattle.face_merge.proofs.areas.base_areas.Goals as goal
-
-pub measures_of-requires-clause-near : goal.measures_of-requires-clause-near
-measures_of-requires-clause-near c =
-    subst (λ (arcs : List BaseArc). All (λ a. All IsNear a.points) arcs) (sym (c.as_slice-arcs.ensures ∙ c.arcs.ensures.value)) (base_near c.args.base.now c.arcs.ensures.base)
-
-pub measures_of-requires-clause-short : goal.measures_of-requires-clause-short
-measures_of-requires-clause-short c =
-    subst (λ (arcs : List BaseArc). All (λ a. length a.points ≤ MAX_POINTS) arcs) (sym (c.as_slice-arcs.ensures ∙ c.arcs.ensures.value)) (base_short c.args.base.now c.arcs.ensures.base)
 
 pub labelled_arcs-requires-clause-sizes : goal.labelled_arcs-requires-clause-sizes
 labelled_arcs-requires-clause-sizes c =

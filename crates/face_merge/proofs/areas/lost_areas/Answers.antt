@@ -20,7 +20,7 @@ loop-step-init c =
     record {
       told = c.in_ok-lost.ensures;
       small = subst (All (λ area. unsigned_abs area ≤ max_area)) (sym c.in_ok-lost.ensures) (All-nil (λ (area : ℤ). unsigned_abs area ≤ max_area));
-      reached = subst (IsReached (begin m) c.in_ok-areas.areas.items) (sym c.requires) (reached_begin m c.in_ok-areas.areas.items known areas);
+      reached = subst (IsReached (begin m) c.in_ok-areas.areas.items) (sym c.requires.steps) (reached_begin m c.in_ok-areas.areas.items known areas);
     }
 
 pub index-requires : goal.index-requires
