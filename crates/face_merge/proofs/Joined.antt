@@ -90,13 +90,21 @@ plus_none None = refl
 plus_none (Some m) = refl
 
 -- a slot that has no such link passes none
-pub passed_none : (w : Lengths) (from to other : ℕ) → ArePaired w → w from other ≡ None → IsPassed from to other w w
-passed_none w from to other paired e = record {
-  paired = paired;
-  together = λ s t. refl;
-  gone = e;
-  left = λ t. chosen t (cases_eq t other);
+pub passed_none : (w v : Lengths) (from to other : ℕ) → ArePaired w → w from other ≡ None → ((s t : ℕ) → v s t ≡ without w from other s t) → IsPassed from to other w v
+passed_none w v from to other paired e new = record {
+  paired = record { turned = λ s t. same s t ∙ (paired.turned s t ∙ sym (same t s)); itself = λ s. same s s ∙ paired.itself s };
+  together = λ s t. rw (same to t, same from t, same s to, same s from, same s t) refl;
+  gone = same from other ∙ e;
+  left = λ t. same from t ∙ chosen t (cases_eq t other);
 } where
+  same : (s t : ℕ) → v s t ≡ w s t
+  same s t = new s t ∙ at (cases_eq s from) (cases_eq t other)
+    where
+      at : (s ≡ from) ⊎ (s ≡ from → ⊥) → (t ≡ other) ⊎ (t ≡ other → ⊥) → without w from other s t ≡ w s t
+      at (inl a) (inl b) = rw (a, b) (changed_here w from other None ∙ sym e)
+      at (inl a) (inr b) = changed_other w from other None s t (λ _. b)
+      at (inr a) _ = changed_other w from other None s t (λ h. absurd (a h))
+
   chosen : (t : ℕ) → (t ≡ other) ⊎ (t ≡ other → ⊥) → w from t ≡ cond (t == other) None (w from t)
   chosen t (inl a) = rw (cond-true (t == other) None (w from t) (eq-eqb t other a), a) e
   chosen t (inr a) = sym (cond-false (t == other) None (w from t) (ne_eqb t other a))

@@ -1,11 +1,13 @@
 //! The links between faces in slots: which are neighbours, and the length that they share.
 
-ghost use Rattle.std.specs.Prelude.{◌≡◌, ◌≢◌, ◌≤◌, ◌+◌, ◌<◌, ◌^◌, ℕ, None, unwrap_or, IfOk, OnOk, is_some};
+ghost use Rattle.std.specs.Prelude.{◌≡◌, ◌≢◌, ◌≤◌, ◌+◌, ◌<◌, ◌^◌, ℕ, Some, None, unwrap_or, if◌then◌else◌, IfOk, OnOk, is_some};
+ghost use Rattle.std.specs.BTreeMap.{get};
+ghost use Rattle.std.specs.Ordering.{is_eq};
 ghost use Rattle.tgap_model.specs.Bounds.{max_arc_length};
 ghost use Rattle.tgap_model.specs.History.{is_shared};
 ghost use Rattle.face_merge.specs.Linking.{link_of};
 ghost use Rattle.face_merge.specs.Measures.{total_length};
-ghost use Rattle.face_merge.specs.Links.{AreLinksOf, AreOnce, length_at, has_pair, with_length, without, with_arc, with_more, joined, ArePaired, Fit, IsPassed};
+ghost use Rattle.face_merge.specs.Links.{AreLinksOf, AreOnce, pair_cmp, length_at, has_pair, with_length, without, with_arc, with_more, joined, ArePaired, Fit, IsPassed};
 
 use std::alloc::Global;
 use std::collections::BTreeMap;
@@ -23,6 +25,19 @@ fn shared(arc: &LabelledArc) -> bool
 pub struct Link {
     pub slot: u32,
     pub length: u64,
+}
+
+/// Adds to the length at two slots, by one search.
+fn add_at(
+    lengths: &mut BTreeMap<(u32, u32), u64>,
+    slots: (u32, u32),
+    length: u64,
+) -> Result<(), Memory>
+    requires { unwrap_or (get pair_cmp lengths.old slots) 0 + length < 2 ^ 64 }
+    ensures { OnOk result ((s : ℕ × ℕ) → get pair_cmp lengths.new s ≡ (if is_eq (pair_cmp slots s) then Some (unwrap_or (get pair_cmp lengths.old slots) 0 + length) else get pair_cmp lengths.old s)) }
+{
+    *lengths.entry(slots)?.or_insert(0) += length;
+    Ok(())
 }
 
 /// The length that each face shares with each neighbour, by the slots of both.
@@ -71,16 +86,15 @@ impl Links {
         requires { unwrap_or (length_at self.old slot other) 0 + length < 2 ^ 64 }
         ensures { OnOk result ((s t : ℕ) → length_at self.new s t ≡ with_more (length_at self.old) slot other length s t) }
     {
-        let old = self.lengths.get(&(slot, other)).copied().unwrap_or(0);
-        self.lengths.insert((slot, other), old + length)?;
-        Ok(())
+        add_at(&mut self.lengths, (slot, other), length)
     }
 
-    /// Takes away the link of a face with another, at the side of the first.
-    fn remove(&mut self, slot: u32, other: u32)
-        ensures { (s t : ℕ) → length_at self.new s t ≡ without (length_at self.old) slot other s t }
+    /// Takes away the link of a face with another, at the side of the first, and gives its length, where there is one.
+    fn remove(&mut self, slot: u32, other: u32) -> Option<u64>
+        ensures length { result ≡ length_at self.old slot other }
+        ensures others { (s t : ℕ) → length_at self.new s t ≡ without (length_at self.old) slot other s t }
     {
-        self.lengths.remove(&(slot, other));
+        self.lengths.remove(&(slot, other))
     }
 
     /// Moves the link of a face with this neighbour to another face, where it has one. A link of the two is lost.
@@ -90,10 +104,9 @@ impl Links {
         requires fit { Fit (joined (length_at self.old) from to) }
         ensures { OnOk result (IsPassed from to other (length_at self.old) (length_at self.new)) }
     {
-        let Some(length) = self.lengths.get(&(from, other)).copied() else {
+        let Some(length) = self.remove(from, other) else {
             return Ok(());
         };
-        self.remove(from, other);
         self.remove(other, from);
         if other != to {
             self.add(to, other, length)?;
