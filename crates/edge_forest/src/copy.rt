@@ -3,10 +3,10 @@
 ghost use Rattle.std.specs.Prelude.{◌≡◌, IfOk};
 
 use std::alloc::Global;
-use tgap_model::{Base, Memory, copied_arcs, copied_numbers, copied_rules};
+use tgap_model::{Base, Checked, Memory, copied_arcs, copied_numbers, copied_rules};
 
 /// A copy of a base map.
-pub fn copy_base(alloc: Global, base: &Base) -> Result<Base, Memory>
+fn copy_base(alloc: Global, base: &Base) -> Result<Base, Memory>
     ensures { IfOk result (λ copy. copy ≡ base.now) }
 {
     let rules = copied_rules(alloc, base.rules())?;
@@ -16,4 +16,12 @@ pub fn copy_base(alloc: Global, base: &Base) -> Result<Base, Memory>
         unreachable!()
     };
     Ok(copy)
+}
+
+/// A copy of a base map that was checked.
+pub fn copy_checked(alloc: Global, checked: &Checked) -> Result<Checked, Memory>
+    ensures { IfOk result (λ copy. copy ≡ checked.now) }
+{
+    let copy = copy_base(alloc, checked.base())?;
+    Ok(Checked::of(copy))
 }

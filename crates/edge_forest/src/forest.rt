@@ -14,15 +14,16 @@ ghost use Rattle.edge_forest.specs.Removed.{arc_points};
 ghost use Rattle.edge_forest.specs.Walks.{chain_link};
 
 use crate::alive::alive_at;
+use crate::copy::copy_checked;
 use crate::edge::ForestEdge;
 use crate::face_labels::FaceLabels;
-use crate::growth::{Growth, closed_high};
+use crate::growth::{Growth, arcs_of, closed_high};
 use crate::index::{RangeIndex, index_of};
-use crate::left::left_of_edge;
 use crate::net::Net;
 use crate::nodes::Nodes;
 use crate::present::numbers_of;
 use crate::removed::Removed;
+use crate::room::PointRoom;
 use crate::spent::Spent;
 use crate::step::{grown, make_step};
 use crate::walk::{Link, links_of, points_of};
@@ -91,8 +92,18 @@ impl Forest {
         ensures open { IfOk result (λ forest. forest.closed ≡ false) }
         ensures nothing { IfOk result (λ forest. (k : ℕ) (p : Point) → is_gone forest k p ≡ false) }
     {
+        Forest::of_checked(alloc, copy_checked(alloc, checked)?)
+    }
+
+    /// The edges of a map before its first step, as `of_base`, of a map that is given and not copied.
+    pub fn of_checked(alloc: Global, checked: Checked) -> Result<Forest, Memory>
+        ensures base { IfOk result (λ forest. forest.base ≡ checked) }
+        ensures made { IfOk result (λ forest. forest.made ≡ 0) }
+        ensures open { IfOk result (λ forest. forest.closed ≡ false) }
+        ensures nothing { IfOk result (λ forest. (k : ℕ) (p : Point) → is_gone forest k p ≡ false) }
+    {
         let growth = grown(alloc, checked)?;
-        let removed = Removed::of(alloc, growth.base.arcs().as_slice())?;
+        let removed = Removed::of(alloc, arcs_of(&growth.base))?;
         Ok(Forest {
             growth,
             removed,
@@ -108,7 +119,7 @@ impl Forest {
         ensures value { result.now ≡ self.now.base }
         ensures forest { IsForest self.now }
     {
-        &self.growth.base
+        self.growth.base.base()
     }
 
     /// The next step of the history: the edges between its loser and its winner end, and the others are joined at the
@@ -164,7 +175,7 @@ impl Forest {
     {
         let edges = self.growth.edges.as_slice();
         let index = index_of(alloc, edges, self.made)?;
-        let arcs = self.growth.base.arcs().as_slice();
+        let arcs = arcs_of(&self.growth.base);
         let spent = Spent::of(alloc, arcs, edges, &self.removed)?;
         close_edges(&mut self.growth.edges, self.made + 1);
         give_up(alloc, &mut self.growth);
@@ -225,13 +236,32 @@ impl Forest {
         ensures { IfOk result (λ points. points
             ≡ filter (λ p. not (is_gone self.now k p)) (chain_points self.now.base.arcs (chain_of self.now.edges id))) }
     {
-        let arcs = self.growth.base.arcs().as_slice();
+        let mut room = PointRoom::new(alloc);
+        self.read_points(alloc, id, k, &mut room)?;
+        Ok(room.into_points())
+    }
+
+    /// Puts the points of an edge after k steps into the room, in place of what it held; otherwise as `points_at`. Once the
+    /// history is closed it takes memory only where the room has to grow. On want of memory the room holds any points.
+    pub fn read_points(
+        &self,
+        alloc: Global,
+        id: u32,
+        k: u32,
+        room: &mut PointRoom,
+    ) -> Result<(), Memory>
+        requires { id < length self.now.edges }
+        ensures { OnOk result (room.new
+            ≡ filter (λ p. not (is_gone self.now k p)) (chain_points self.now.base.arcs (chain_of self.now.edges id))) }
+    {
+        let arcs = arcs_of(&self.growth.base);
         let edges = self.growth.edges.as_slice();
         if self.closed {
-            return left_of_edge(alloc, arcs, edges, &self.spent, id, k);
+            return room.read_left(arcs, edges, &self.spent, id, k);
         }
         let points = points_of(alloc, arcs, edges, id)?;
-        Ok(self.removed.left_of(points, k))
+        room.put(self.removed.left_of(points, k));
+        Ok(())
     }
 
     /// The numbers of the edges that are there after the steps made so far, in the order of their keys.

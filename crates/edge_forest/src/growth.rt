@@ -7,7 +7,7 @@ use crate::edge::ForestEdge;
 use crate::face_labels::FaceLabels;
 use crate::net::Net;
 use crate::nodes::Nodes;
-use tgap_model::{Base, List};
+use tgap_model::{BaseArc, Checked, List};
 
 /// What stands for the high step of an edge that goes on.
 pub const NEVER: u32 = u32::MAX;
@@ -24,10 +24,17 @@ pub fn closed_high(high: u32, last: u32) -> u32
 /// listed when its edge has ended.)
 #[derive(Debug, Drop)]
 pub struct Growth {
-    pub base: Base,
+    pub base: Checked,
     pub edges: Vec<ForestEdge>,
     pub nodes: Nodes,
     pub net: Net,
     pub labels: FaceLabels,
     pub keys: Vec<List<u32>>,
+}
+
+/// The arcs of a base map.
+pub fn arcs_of(base: &Checked) -> &[BaseArc]
+    ensures { result.now ≡ base.now.arcs }
+{
+    base.base().arcs().as_slice()
 }

@@ -1,6 +1,6 @@
 //! The points of an edge that are left after a step, without those parts that have none.
 
-ghost use Rattle.std.specs.Prelude.{◌≡◌, ◌<◌, ◌≤◌, ◌++◌, ◌||◌, ℕ, true, false, [], ◌∷◌, length, map, filter, reverse, drop, IfOk, if◌then◌else◌};
+ghost use Rattle.std.specs.Prelude.{◌≡◌, ◌<◌, ◌≤◌, ◌++◌, ◌||◌, ℕ, true, false, [], ◌∷◌, length, map, filter, reverse, drop, IfOk, OnOk, if◌then◌else◌};
 ghost use Rattle.std.specs.List.{All};
 ghost use Rattle.tgap_model.specs.Chains.{link_points, link_start, link_end};
 ghost use Rattle.edge_forest.specs.Edges.{IsPart, edge_at, chain_of};
@@ -14,8 +14,7 @@ use crate::removed::is_by;
 use crate::span::{Span, end_of, start_of};
 use crate::spent::Spent;
 use crate::walk::push_parts_of;
-use std::alloc::Global;
-use tgap_model::{BaseArc, List, Memory, Point};
+use tgap_model::{BaseArc, Memory, Point};
 
 /// Puts a point, with the step at which it was removed or 0, at the end where it is left after k steps, and tells whether it is.
 fn push_left(points: &mut Vec<Point>, point: &Point, step: u32, k: u32) -> Result<bool, Memory>
@@ -119,27 +118,29 @@ fn is_whole(part: Part, span: &Span, k: u32) -> bool
     part.leaf || span.is_past(k)
 }
 
-/// The points of an edge that are left after k steps, each junction once, from the last one to the first. Before a part is
-/// written, the point at which the one behind it starts is taken out, where it was left. A part of which only the ends
-/// are left is passed over whole.
-fn left_from_last(
-    alloc: Global,
+/// Reads the points of an edge that are left after k steps, each junction once, from the last one to the first. What the
+/// vectors held is taken out: the points are written to the first, and the parts that are still to come stand in the
+/// second. Before a part is written, the point at which the one behind it starts is taken out, where it was left. A part of
+/// which only the ends are left is passed over whole.
+fn read_back_to_front(
+    points: &mut Vec<Point>,
+    stack: &mut Vec<Part>,
     arcs: &[BaseArc],
     edges: &[ForestEdge],
     spent: &Spent,
     id: u32,
     k: u32,
-) -> Result<Vec<Point>, Memory>
+) -> Result<(), Memory>
     requires id { id < length edges.now }
     requires long { All (λ a. 2 ≤ length a.points) arcs.now }
     requires parts { (i : ℕ) → i < length edges.now → All (IsPart (length arcs.now) i) (edge_at edges.now i).parts }
     requires spent { (t : PointSteps) × AreSpent arcs.now t edges.now spent.now }
     ensures { (t : PointSteps) → AreSpent arcs.now t edges.now spent.now
-        → IfOk result (λ points. reverse points.items ≡ left_points arcs.now t k (chain_of edges.now id)) }
+        → OnOk result (reverse points.new.items ≡ left_points arcs.now t k (chain_of edges.now id)) }
 {
-    let mut points = Vec::new(alloc);
+    points.clear();
+    stack.clear();
     let mut start_left = false;
-    let mut stack = Vec::new(alloc);
     stack.push(Part {
         leaf: false,
         id,
@@ -148,33 +149,35 @@ fn left_from_last(
     while let Some(part) = stack.pop() {
         let span = spent.span_of(part);
         if is_whole(part, &span, k) {
-            take_out_start(&mut points, start_left);
-            start_left = push_part(&mut points, arcs, &spent.gone, &span, k)?;
+            take_out_start(points, start_left);
+            start_left = push_part(points, arcs, &spent.gone, &span, k)?;
         } else {
-            push_parts_of(&mut stack, edges, part)?;
+            push_parts_of(stack, edges, part)?;
         }
     }
-    Ok(points)
+    Ok(())
 }
 
-/// The points of an edge that are left after k steps, each junction once. The time is that of the points that are left and
-/// of the parts on the way to them.
-pub fn left_of_edge(
-    alloc: Global,
+/// Reads the points of an edge that are left after k steps, each junction once. What the vectors held is taken out: the
+/// points are written to the first, and the second is room for the way to them. The time is that of the points that are
+/// left and of the parts on the way to them.
+pub fn read_left(
+    points: &mut Vec<Point>,
+    stack: &mut Vec<Part>,
     arcs: &[BaseArc],
     edges: &[ForestEdge],
     spent: &Spent,
     id: u32,
     k: u32,
-) -> Result<List<Point>, Memory>
+) -> Result<(), Memory>
     requires id { id < length edges.now }
     requires long { All (λ a. 2 ≤ length a.points) arcs.now }
     requires parts { (i : ℕ) → i < length edges.now → All (IsPart (length arcs.now) i) (edge_at edges.now i).parts }
     requires spent { (t : PointSteps) × AreSpent arcs.now t edges.now spent.now }
     ensures { (t : PointSteps) → AreSpent arcs.now t edges.now spent.now
-        → IfOk result (λ points. points ≡ left_points arcs.now t k (chain_of edges.now id)) }
+        → OnOk result (points.new.items ≡ left_points arcs.now t k (chain_of edges.now id)) }
 {
-    let mut points = left_from_last(alloc, arcs, edges, spent, id, k)?;
+    read_back_to_front(points, stack, arcs, edges, spent, id, k)?;
     points.reverse();
-    Ok(List::from(points))
+    Ok(())
 }

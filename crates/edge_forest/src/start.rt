@@ -9,7 +9,6 @@ ghost use Rattle.edge_forest.specs.Net.{IsNet};
 ghost use Rattle.edge_forest.specs.Rows.{end_points};
 ghost use Rattle.edge_forest.specs.Start.{single, arc_edge, arc_row, AreKeysListed};
 
-use crate::copy::copy_base;
 use crate::edge::{ForestEdge, Part};
 use crate::face_labels::FaceLabels;
 use crate::growth::{Growth, NEVER};
@@ -138,24 +137,27 @@ fn single_net(alloc: Global, arcs: &[BaseArc], nodes: &Nodes) -> Result<Net, Mem
 }
 
 /// Each arc of a map as an edge, with none joined yet.
-pub fn start(alloc: Global, checked: &Checked) -> Result<Growth, Memory>
-    ensures base { IfOk result (λ growth. growth.base ≡ checked.now) }
+pub fn start(alloc: Global, checked: Checked) -> Result<Growth, Memory>
+    ensures base { IfOk result (λ growth. growth.base ≡ checked) }
     ensures stored { IfOk result (λ growth. IsStored 0 growth) }
     ensures few { IfOk result (λ growth. IsFew growth) }
-    ensures singles { IfOk result (λ growth. family_of growth ≡ map single (range_with_len 0 (length checked.now.arcs))) }
+    ensures singles { IfOk result (λ growth. family_of growth ≡ map single (range_with_len 0 (length checked.arcs))) }
 {
     let base = checked.base();
     let arcs = base.arcs().as_slice();
     let points = end_points(alloc, arcs)?;
     let nodes = Nodes::of(alloc, points.as_slice())?;
     let net = single_net(alloc, arcs, &nodes)?;
+    let edges = single_edges(alloc, arcs)?;
     let faces = 2 * base.classes().len() + 1;
+    let labels = FaceLabels::of(alloc, faces as u32)?;
+    let keys = face_keys(alloc, arcs, faces)?;
     Ok(Growth {
-        base: copy_base(alloc, base)?,
-        edges: single_edges(alloc, arcs)?,
+        base: checked,
+        edges,
         nodes,
         net,
-        labels: FaceLabels::of(alloc, faces as u32)?,
-        keys: face_keys(alloc, arcs, faces)?,
+        labels,
+        keys,
     })
 }

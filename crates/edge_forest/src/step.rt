@@ -62,8 +62,8 @@ pub fn make_step(
 }
 
 /// The forest of a base map before its first step.
-pub fn grown(alloc: Global, checked: &Checked) -> Result<Growth, Memory>
-    ensures base { IfOk result (λ growth. growth.base ≡ checked.now) }
+pub fn grown(alloc: Global, checked: Checked) -> Result<Growth, Memory>
+    ensures base { IfOk result (λ growth. growth.base ≡ checked) }
     ensures rest { IfOk result (λ growth. IsAtRest 0 growth) }
     ensures few { IfOk result (λ growth. IsFew growth) }
 {

@@ -60,35 +60,35 @@ returns-clause-stored c =
     let m = c.base-base.result.now in
     let arcs = c.as_slice-arcs.result.now in
     let growth : Growth = record {
-      base = c.in_ok-copy_base.field-0;
-      edges = c.in_ok-single_edges.field-0;
+      base = c.args.checked;
+      edges = c.in_ok-edges.edges;
       nodes = c.in_ok-nodes.nodes;
       net = c.in_ok-net.net;
-      labels = c.in_ok-of.field-0;
-      keys = c.in_ok-face_keys.field-0;
+      labels = c.in_ok-labels.labels;
+      keys = c.in_ok-keys.keys;
     } in
     let partition = subst (λ (m : BaseMap). IsPartition (base_segments m)) (sym c.base-base.ensures.value) c.base-base.ensures.partition in
     let nodes = subst (λ (points : List Point). AreNodes points c.in_ok-nodes.nodes) (c.as_slice.ensures.value ∙ c.in_ok-points.ensures) c.in_ok-nodes.ensures in
     let many : c.len.result ≡ length m.classes = c.len.ensures ∙ ap length c.classes.ensures.value in
-    stored_by_copy growth m arcs c.in_ok-copy_base.ensures (c.as_slice-arcs.ensures ∙ c.arcs.ensures.value) c.arcs.ensures.base partition nodes
-    c.in_ok-net.ensures.net c.in_ok-net.ensures.rows c.in_ok-single_edges.ensures
-    (c.in_ok-face_keys.ensures.count ∙ ap (λ (n : ℕ). 2 * n + 1) many) c.in_ok-face_keys.ensures.listed
-    (subst (λ (n : ℕ). AreOwnLabels c.in_ok-of.field-0 n) (ap (λ (n : ℕ). 2 * n + 1) many) (record {
-      faces_count = c.in_ok-of.ensures.faces_count;
-      labels_count = c.in_ok-of.ensures.labels_count;
-      labels = c.in_ok-of.ensures.labels;
-      own = c.in_ok-of.ensures.same;
+    stored_by_copy growth m arcs (sym c.base-base.ensures.value) (c.as_slice-arcs.ensures ∙ c.arcs.ensures.value) c.arcs.ensures.base partition nodes
+    c.in_ok-net.ensures.net c.in_ok-net.ensures.rows c.in_ok-edges.ensures
+    (c.in_ok-keys.ensures.count ∙ ap (λ (n : ℕ). 2 * n + 1) many) c.in_ok-keys.ensures.listed
+    (subst (λ (n : ℕ). AreOwnLabels c.in_ok-labels.labels n) (ap (λ (n : ℕ). 2 * n + 1) many) (record {
+      faces_count = c.in_ok-labels.ensures.faces_count;
+      labels_count = c.in_ok-labels.ensures.labels_count;
+      labels = c.in_ok-labels.ensures.labels;
+      own = c.in_ok-labels.ensures.same;
     }))
 
 pub returns-clause-singles : goal.returns-clause-singles
 returns-clause-singles c =
     let arcs = c.as_slice-arcs.result.now in
     let same = c.as_slice-arcs.ensures ∙ c.arcs.ensures.value ∙ ap (λ (m : BaseMap). m.arcs) c.base-base.ensures.value in
-    family_at_start arcs c.in_ok-single_edges.field-0.items c.in_ok-net.net.rows.items c.in_ok-single_edges.ensures c.in_ok-net.ensures.rows
+    family_at_start arcs c.in_ok-edges.edges.items c.in_ok-net.net.rows.items c.in_ok-edges.ensures c.in_ok-net.ensures.rows
     ∙ ap (λ (arcs : List BaseArc). map single (range_with_len 0 (length arcs))) same
 
 pub returns-clause-few : goal.returns-clause-few
 returns-clause-few c =
     let same = c.as_slice-arcs.ensures ∙ c.arcs.ensures.value in
-    few_at_start _ c.in_ok-single_edges.field-0.items c.in_ok-net.net.rows.items (length c.as_slice-arcs.result.now) _ c.in_ok-single_edges.ensures _ c.in_ok-net.ensures.rows
-    (ap length (same ∙ ap (λ (m : BaseMap). m.arcs) (sym c.in_ok-copy_base.ensures)))
+    few_at_start _ c.in_ok-edges.edges.items c.in_ok-net.net.rows.items (length c.as_slice-arcs.result.now) _ c.in_ok-edges.ensures _ c.in_ok-net.ensures.rows
+    (ap length (same ∙ ap (λ (m : BaseMap). m.arcs) c.base-base.ensures.value))

@@ -32,7 +32,7 @@ index_of-requires-clause-ranges c =
 
 pub of-requires-clause-long : goal.of-requires-clause-long
 of-requires-clause-long c =
-    arcs_long c.self.inside.growth.base c.as_slice-arcs.result.now c.self.invariant.kept.forest.base (c.as_slice-arcs.ensures ∙ c.arcs.ensures.value)
+    arcs_long c.self.inside.growth.base c.arcs_of-arcs.result.now c.self.invariant.kept.forest.base c.arcs_of-arcs.ensures
 
 pub of-requires-clause-some : goal.of-requires-clause-some
 of-requires-clause-some c =
@@ -56,10 +56,10 @@ invariant_of-self c =
       indexed = λ e.
           subst (λ (es : List ForestEdge). IsIndex made es c.in_ok-index.index) (ap (map (closed_edge (made + 1))) c.as_slice-edges.ensures.value ∙ sym edges) c.in_ok-index.ensures;
       told = λ e.
-          let arcs = c.as_slice-arcs.result.now in
+          let arcs = c.arcs_of-arcs.result.now in
           let spent = c.in_ok-spent.spent in
           subst (λ (arcs : List BaseArc). AreSpent arcs removed c.give_up.new.growth.edges.items spent)
-          (c.as_slice-arcs.ensures ∙ c.arcs.ensures.value ∙ ap (λ (m : BaseMap). m.arcs) (sym c.give_up.ensures.base))
+          (c.arcs_of-arcs.ensures ∙ ap (λ (m : BaseMap). m.arcs) (sym c.give_up.ensures.base))
           (subst (λ (es : List ForestEdge). AreSpent arcs removed es spent) (ap (map (closed_edge (made + 1))) c.as_slice-edges.ensures.value ∙ sym edges)
           (closed_spent arcs removed (made + 1) c.as_slice-edges.result.now spent c.in_ok-spent.ensures));
     }

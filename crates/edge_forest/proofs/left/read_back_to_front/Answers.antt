@@ -8,7 +8,7 @@ use Rattle.edge_forest.specs.Spent.{is_past, left_points}
 use Rattle.edge_forest.proofs.LeftWalks.{IsWritten, alone, other_true, popped_span, part_points, part_written, part_opened, taken_smaller}
 use Rattle.edge_forest.proofs.Walks.{part_size, sizes_of, popped_known, visit_smaller}
 use Rattle.edge_forest.proofs.WalkedArcs.{made_of_earlier}
-use Rattle.edge_forest.proofs.left.left_from_last.Goals as goal
+use Rattle.edge_forest.proofs.left.read_back_to_front.Goals as goal
 
 pub loop-part-smaller-then-is_whole : goal.loop-part-smaller-then-is_whole
 loop-part-smaller-then-is_whole c =
