@@ -1,5 +1,5 @@
 pub mod Faults
-pub mod Edges
+pub mod PutRows
 pub mod Each
 pub mod AllForms
 pub mod Points

@@ -3,7 +3,7 @@
 ghost use Rattle.std.specs.Prelude.{◌≡◌, ◌++◌, OnOk, IfOk};
 ghost use Rattle.line_forms.specs.Texts.{line, border_words, borders_text};
 
-use plain_io::put_count;
+use crate::rows::put_counts;
 use std::alloc::Global;
 use tgap_model::{BorderRow, List, Memory, Text};
 
@@ -12,23 +12,25 @@ pub fn borders_text(alloc: Global, k: u32, rows: &List<BorderRow>) -> Result<Tex
     ensures { IfOk result (λ text. text ≡ borders_text k rows.now) }
 {
     let mut text = Text::new(alloc);
-    text.push_slice(b"borders")?;
-    put_count(alloc, &mut text, k)?;
-    text.push_slice(b"\n")?;
+    put_counts(&mut text, b"borders", &[u64::from(k)])?;
     for row in rows.as_slice() {
-        put_row(alloc, &mut text, row)?;
+        put_row(&mut text, row)?;
     }
     text.push_slice(b"end\n")?;
     Ok(text)
 }
 
 /// Appends the line of one row.
-fn put_row(alloc: Global, out: &mut Text, row: &BorderRow) -> Result<(), Memory>
+fn put_row(out: &mut Text, row: &BorderRow) -> Result<(), Memory>
     ensures { OnOk result (out.new ≡ out.old ++ line (border_words row.now)) }
 {
-    out.push_slice(b"border")?;
-    put_count(alloc, out, row.arc)?;
-    put_count(alloc, out, row.left)?;
-    put_count(alloc, out, row.right)?;
-    out.push_slice(b"\n")
+    put_counts(
+        out,
+        b"border",
+        &[
+            u64::from(row.arc),
+            u64::from(row.left),
+            u64::from(row.right),
+        ],
+    )
 }

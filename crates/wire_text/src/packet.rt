@@ -1,11 +1,11 @@
 //! The text of a packet.
 
-ghost use Rattle.std.specs.Prelude.{◌≡◌, ◌++◌, map, flat_map, OnOk, IfOk};
+ghost use Rattle.std.specs.Prelude.{◌≡◌, ◌++◌, ◌∷◌, [], map, flat_map, codes, decimal, OnOk, IfOk};
 ghost use Rattle.line_forms.specs.Texts.{line, lines};
 ghost use Rattle.wire_text.specs.SliceTexts.{put_words, piece_words, mend_rows, step_words, record_rows, packet_text};
 
-use crate::rows::{put_counts, put_edges, put_point};
-use plain_io::{put_count, put_size};
+use crate::number::{write_byte, write_count, write_point};
+use crate::rows::{put_counts, put_edges, put_from};
 use std::alloc::Global;
 use tgap_model::{Memory, Mend, Packet, Piece, Put, StepRecord, Text};
 
@@ -14,116 +14,129 @@ pub fn packet_text(alloc: Global, packet: &Packet) -> Result<Text, Memory>
     ensures { IfOk result (λ text. text ≡ packet_text packet.now) }
 {
     let mut text = Text::new(alloc);
-    text.push_slice(b"packet")?;
-    put_counts(alloc, &mut text, &[packet.from, packet.to])?;
-    text.push_slice(b"\n")?;
-    put_records(alloc, &mut text, packet.steps.as_slice())?;
+    put_packet_line(&mut text, packet.from, packet.to)?;
+    put_records(&mut text, packet.steps.as_slice())?;
     text.push_slice(b"end\n")?;
     Ok(text)
 }
 
+/// Appends the first line of a packet, with the steps between which it leads.
+pub fn put_packet_line(out: &mut Text, from: u32, to: u32) -> Result<(), Memory>
+    ensures { OnOk result (out.new ≡ out.old ++ line (codes "packet" ∷ decimal from ∷ decimal to ∷ [])) }
+{
+    put_counts(out, b"packet", &[u64::from(from), u64::from(to)])
+}
+
 /// Appends the lines of all records.
-fn put_records(alloc: Global, out: &mut Text, records: &[StepRecord]) -> Result<(), Memory>
+fn put_records(out: &mut Text, records: &[StepRecord]) -> Result<(), Memory>
     ensures { OnOk result (out.new ≡ out.old ++ lines (flat_map record_rows records.now)) }
 {
     for record in records {
-        put_record(alloc, out, record)?;
+        put_record(out, record)?;
     }
     Ok(())
 }
 
 /// Appends the lines of a record: its step, the mends, and the edges that come back.
-fn put_record(alloc: Global, out: &mut Text, step: &StepRecord) -> Result<(), Memory>
+pub fn put_record(out: &mut Text, step: &StepRecord) -> Result<(), Memory>
     ensures { OnOk result (out.new ≡ out.old ++ lines (record_rows step.now)) }
 {
-    put_step(alloc, out, step)?;
-    put_mends(alloc, out, step.mends.as_slice())?;
-    put_edges(alloc, out, step.ended.as_slice())
+    put_step(out, step)?;
+    put_mends(out, step.mends.as_slice())?;
+    put_edges(out, step.ended.as_slice())
 }
 
 /// Appends the line of a step.
-fn put_step(alloc: Global, out: &mut Text, step: &StepRecord) -> Result<(), Memory>
+fn put_step(out: &mut Text, step: &StepRecord) -> Result<(), Memory>
     ensures { OnOk result (out.new ≡ out.old ++ line (step_words step.now)) }
 {
-    out.push_slice(b"step")?;
     put_counts(
-        alloc,
         out,
+        b"step",
         &[
-            step.step,
-            step.loser,
-            step.loser_class,
-            step.winner,
-            step.winner_class,
-            step.made,
+            u64::from(step.step),
+            u64::from(step.loser),
+            u64::from(step.loser_class),
+            u64::from(step.winner),
+            u64::from(step.winner_class),
+            u64::from(step.made),
+            step.mends.len() as u64,
+            step.ended.len() as u64,
         ],
-    )?;
-    put_size(alloc, out, step.mends.len())?;
-    put_size(alloc, out, step.ended.len())?;
-    out.push_slice(b"\n")
+    )
 }
 
 /// Appends the lines of all mends.
-fn put_mends(alloc: Global, out: &mut Text, mends: &[Mend]) -> Result<(), Memory>
+fn put_mends(out: &mut Text, mends: &[Mend]) -> Result<(), Memory>
     ensures { OnOk result (out.new ≡ out.old ++ lines (flat_map mend_rows mends.now)) }
 {
     for mend in mends {
-        put_mend(alloc, out, mend)?;
+        put_mend(out, mend)?;
     }
     Ok(())
 }
 
 /// Appends the lines of a mend: its key and how much it has, the vertices to put in, and the pieces.
-fn put_mend(alloc: Global, out: &mut Text, mend: &Mend) -> Result<(), Memory>
+fn put_mend(out: &mut Text, mend: &Mend) -> Result<(), Memory>
     ensures { OnOk result (out.new ≡ out.old ++ lines (mend_rows mend.now)) }
 {
-    out.push_slice(b"mend")?;
-    put_count(alloc, out, mend.key)?;
-    put_size(alloc, out, mend.puts.len())?;
-    put_size(alloc, out, mend.pieces.len())?;
-    out.push_slice(b"\n")?;
-    put_vertices(alloc, out, mend.puts.as_slice())?;
-    put_pieces(alloc, out, mend.pieces.as_slice())
+    put_mend_line(out, mend.key, mend.puts.len(), mend.pieces.len())?;
+    put_vertices(out, mend.puts.as_slice())?;
+    put_pieces(out, mend.pieces.as_slice())
+}
+
+/// Appends the line of a mend: its key, and how many vertices and pieces it has.
+fn put_mend_line(out: &mut Text, key: u32, puts: usize, pieces: usize) -> Result<(), Memory>
+    ensures { OnOk result
+        (out.new ≡ out.old ++ line (codes "mend" ∷ decimal key ∷ decimal puts ∷ decimal pieces ∷ [])) }
+{
+    put_counts(out, b"mend", &[u64::from(key), puts as u64, pieces as u64])
 }
 
 /// Appends a line for each vertex that is put in.
-fn put_vertices(alloc: Global, out: &mut Text, puts: &[Put]) -> Result<(), Memory>
+fn put_vertices(out: &mut Text, puts: &[Put]) -> Result<(), Memory>
     ensures { OnOk result (out.new ≡ out.old ++ lines (map put_words puts.now)) }
 {
     for put in puts {
-        put_vertex(alloc, out, *put)?;
+        put_vertex(out, *put)?;
     }
     Ok(())
 }
 
 /// Appends the line of a vertex that is put in.
-fn put_vertex(alloc: Global, out: &mut Text, put: Put) -> Result<(), Memory>
+fn put_vertex(out: &mut Text, put: Put) -> Result<(), Memory>
     ensures { OnOk result (out.new ≡ out.old ++ line (put_words put)) }
 {
+    let mut room = [0; 64];
+    let end = write_byte(&mut room, 64, b'\n');
+    let point = write_point(&mut room, end, put.point);
+    let start = write_count(&mut room, point, u64::from(put.at));
     out.push_slice(b"put")?;
-    put_count(alloc, out, put.at)?;
-    put_point(alloc, out, put.point)?;
-    out.push_slice(b"\n")
+    put_from(out, &room, start)
 }
 
 /// Appends a line for each piece.
-fn put_pieces(alloc: Global, out: &mut Text, pieces: &[Piece]) -> Result<(), Memory>
+fn put_pieces(out: &mut Text, pieces: &[Piece]) -> Result<(), Memory>
     ensures { OnOk result (out.new ≡ out.old ++ lines (map piece_words pieces.now)) }
 {
     for piece in pieces {
-        put_piece(alloc, out, *piece)?;
+        put_piece(out, *piece)?;
     }
     Ok(())
 }
 
 /// Appends the line of a piece.
-fn put_piece(alloc: Global, out: &mut Text, piece: Piece) -> Result<(), Memory>
+fn put_piece(out: &mut Text, piece: Piece) -> Result<(), Memory>
     ensures { OnOk result (out.new ≡ out.old ++ line (piece_words piece)) }
 {
-    out.push_slice(b"piece")?;
-    put_count(alloc, out, piece.key)?;
-    put_count(alloc, out, piece.last)?;
-    put_count(alloc, out, piece.side)?;
-    put_count(alloc, out, u32::from(piece.turned))?;
-    out.push_slice(b"\n")
+    put_counts(
+        out,
+        b"piece",
+        &[
+            u64::from(piece.key),
+            u64::from(piece.last),
+            u64::from(piece.side),
+            u64::from(piece.turned),
+        ],
+    )
 }

@@ -12,7 +12,7 @@ pub fn slice_text(alloc: Global, slice: &Slice) -> Result<Text, Memory>
     ensures { IfOk result (λ text. text ≡ slice_text slice.now) }
 {
     let mut text = Text::new(alloc);
-    put_count_line(alloc, &mut text, b"slice", slice.step as usize)?;
-    put_slice_rows(alloc, &mut text, slice)?;
+    put_count_line(&mut text, b"slice", slice.step as usize)?;
+    put_slice_rows(&mut text, slice)?;
     Ok(text)
 }

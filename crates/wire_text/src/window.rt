@@ -6,8 +6,8 @@ ghost use Rattle.line_forms.specs.Texts.{line};
 ghost use Rattle.wire_text.specs.SliceTexts.{window_words, window_text};
 ghost use Rattle.plain_io.specs.Fields.{fields};
 
-use crate::rows::{put_coordinate, put_slice_rows};
-use plain_io::put_count;
+use crate::rows::put_slice_rows;
+use plain_io::{put_count, put_field};
 use std::alloc::Global;
 use tgap_model::{Memory, Slice, Text, Window};
 
@@ -17,7 +17,7 @@ pub fn window_text(alloc: Global, slice: &Slice, area: Window) -> Result<Text, M
 {
     let mut text = Text::new(alloc);
     put_window(alloc, &mut text, slice.step, area)?;
-    put_slice_rows(alloc, &mut text, slice)?;
+    put_slice_rows(&mut text, slice)?;
     Ok(text)
 }
 
@@ -40,4 +40,11 @@ fn put_area(alloc: Global, out: &mut Text, area: Window) -> Result<(), Memory>
     put_coordinate(alloc, out, area.y0)?;
     put_coordinate(alloc, out, area.x1)?;
     put_coordinate(alloc, out, area.y1)
+}
+
+/// Appends a space and a coordinate.
+fn put_coordinate(alloc: Global, out: &mut Text, coordinate: i64) -> Result<(), Memory>
+    ensures { OnOk result (out.new ≡ out.old ++ 32 ∷ signed_decimal coordinate) }
+{
+    put_field(alloc, out, i128::from(coordinate))
 }

@@ -9,4 +9,6 @@ mod maps;
 #[cfg(test)]
 mod readings;
 #[cfg(test)]
+mod rows;
+#[cfg(test)]
 mod texts;

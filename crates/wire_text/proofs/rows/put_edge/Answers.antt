@@ -1,11 +1,18 @@
-use Rattle.std.proofs.Common.{[], ◌∷◌}
-use Rattle.plain_io.proofs.Fields.{last_pushed}
-use Rattle.wire_text.proofs.Edges.{edge_put}
+use Rattle.std.proofs.Common.{[], ◌∷◌, ◌++◌, map, length, decimal, codes, refl}
+use Rattle.std.specs.Prelude.{flat_map}
+use Rattle.line_forms.specs.Words.{Row}
+use Rattle.map_forms.specs.Listing.{point_words}
+use Rattle.wire_text.proofs.PutRows.{row_ended}
 use Rattle.wire_text.proofs.rows.put_edge.Goals as goal
 
-pub returns : goal.returns
-returns c =
-    let points = rw c.as_slice.ensures at c.in_ok-put_points.ensures in
-    last_pushed c.push_slice-2.result c.put_points.new.out c.push_slice-2.new.self (10 ∷ []) _ c.push_slice-2.ensures
-    (edge_put c.args.out.now c.push_slice.new.self c.put_counts.new.out c.put_points.new.out c.args.edge.now
-    c.in_ok-push_slice.ensures c.in_ok-put_counts.ensures points)
+pub returns-then-count-le-FEW : goal.returns-then-count-le-FEW
+returns-then-count-le-FEW c =
+    let a = c.args in
+    let words : Row = map decimal (a.key ∷ a.left ∷ a.right ∷ length a.points.now ∷ []) ++ flat_map point_words a.points.now in
+    row_ended c.put_few.result a.out.now c.push_slice.new.self c.put_few.new.out _ (codes "edge") words c.in_ok-push_slice.ensures refl (rw (c.from.ensures, c.from-2.ensures, c.from-3.ensures) at c.put_few.ensures)
+
+pub returns-else-count-le-FEW : goal.returns-else-count-le-FEW
+returns-else-count-le-FEW c =
+    let a = c.args in
+    let words : Row = map decimal (a.key ∷ a.left ∷ a.right ∷ length a.points.now ∷ []) ++ flat_map point_words a.points.now in
+    row_ended c.put_many.result a.out.now c.push_slice.new.self c.put_many.new.out _ (codes "edge") words c.in_ok-push_slice.ensures refl (rw (c.from.ensures, c.from-2.ensures, c.from-3.ensures) at c.put_many.ensures)

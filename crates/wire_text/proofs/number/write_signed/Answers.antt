@@ -1,0 +1,19 @@
+-- A number has a sign and nineteen digits at most.
+use Rattle.std.proofs.Common.{arith}
+use Rattle.std.proofs.lemmas.Fmt.{length-decimal-le}
+use Rattle.wire_text.proofs.number.write_signed.Goals as goal
+
+pub write_digits-start-requires : goal.write_digits-start-requires
+write_digits-start-requires c = omega (arith, c.requires, length-decimal-le 19 c.unsigned_abs.result (omega arith) (omega arith) (omega arith))
+
+pub returns-then-n-ge0-clause-start : goal.returns-then-n-ge0-clause-start
+returns-then-n-ge0-clause-start c =
+    omega (arith, c.requires, length-decimal-le 19 c.unsigned_abs.result (omega arith) (omega arith) (omega arith), c.write_digits-start.ensures.start)
+
+pub write_byte-requires : goal.write_byte-requires
+write_byte-requires c =
+    omega (arith, c.requires, length-decimal-le 19 c.unsigned_abs.result (omega arith) (omega arith) (omega arith), c.write_digits-start.ensures.start, c.write_digits-start.auto.buf)
+
+pub returns-clause-start : goal.returns-clause-start
+returns-clause-start c =
+    omega (arith, c.requires, length-decimal-le 19 c.unsigned_abs.result (omega arith) (omega arith) (omega arith), c.write_digits-start.ensures.start, c.write_byte.ensures.start)
