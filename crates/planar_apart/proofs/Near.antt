@@ -25,7 +25,7 @@ use Rattle.planar_apart.specs.declared.meeting.Meeting.{Meeting}
 use Rattle.planar_apart.specs.declared.row.NumberedSegment.{NumberedSegment}
 use Rattle.planar_apart.specs.Meetings.{box_of}
 use Rattle.planar_apart.specs.Rows.{row_box, ordered_meeting, meeting_of, IsRow}
-use Rattle.planar_apart.specs.Crossing.{limited, are_left, is_void, is_beside, crosses, AtCorners, IsLeft, corners_left, left_within}
+use Rattle.planar_apart.specs.Crossing.{limited, are_left, is_void, is_beside, is_slanting, is_missed, crosses, AtCorners, IsLeft, corners_left, left_within}
 use Rattle.planar_apart.proofs.Pairs.{no_meeting}
 
 -- ---- segments with boxes apart
@@ -185,9 +185,9 @@ far_apart a b first second e =
     no_pair a b (no_meeting a.segment b.segment first apart) (no_meeting b.segment a.segment second (none_turned b.segment.segment a.segment.segment apart))
   where
     apart : AreDisjoint a.segment.segment b.segment.segment
-    apart = elim (and_cases (boxes_meet (row_box a) (row_box b)) (not (is_beside a.segment.segment (row_box b))) e) [
+    apart = elim (and_cases (boxes_meet (row_box a) (row_box b)) (not (is_missed a.segment.segment (row_box b))) e) [
       | inl f ↦ boxes_apart a.segment b.segment f
-      | inr f ↦ beside_apart a.segment b.segment second (not-false (is_beside a.segment.segment (row_box b)) f)
+      | inr f ↦ beside_apart a.segment b.segment second (and_parts (is_slanting a.segment.segment) (is_beside a.segment.segment (row_box b)) (not-false (is_missed a.segment.segment (row_box b)) f)).1
     ]
 
 -- ---- places of a row that are passed

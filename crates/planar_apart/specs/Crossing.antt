@@ -1,4 +1,4 @@
--- Boxes that a segment may cross: they meet its bounding box, and do not lie on one side of its line.
+-- Boxes that a segment may cross: they meet its bounding box, and where it is slanting do not lie on one side of its line.
 use Rattle.std.proofs.Common.{if◌then◌else◌, ◌≡◌, ◌⊎◌, inl, inr, Bool, true, false, ◌&&◌, ◌||◌, not, ℤ, pos, ◌-ℤ◌, ◌+ℤ◌, ◌*ℤ◌, neg_ℤ, ◌<ℤ◌, ◌≤ℤ◌, int_lt, [], ◌∷◌, refl, sym, ap, subst, subst₂, arith}
 use Rattle.std.specs.Int.{int_min, int_max}
 use Rattle.std.specs.Ordering.{int_eq}
@@ -39,9 +39,17 @@ is_void w = int_lt w.x1 w.x0 || int_lt w.y1 w.y0
 abbrev pub is_beside : Seg → Window → Bool
 is_beside s w = is_void w || are_left s.a s.b w || are_left s.b s.a w
 
--- the box meets the area, and does not lie beside the segment
+-- the segment is neither level nor upright
+abbrev pub is_slanting : Seg → Bool
+is_slanting s = not (int_eq s.a.x s.b.x) && not (int_eq s.a.y s.b.y)
+
+-- it is slanting, and the box lies beside it; a level or upright one fills its bounding box
+abbrev pub is_missed : Seg → Window → Bool
+is_missed s w = is_slanting s && is_beside s w
+
+-- the box meets the area, and is not missed by the segment
 abbrev pub crosses : Window → Seg → Window → Bool
-crosses area s w = meets area w && not (is_beside s w)
+crosses area s w = meets area w && not (is_missed s w)
 
 -- ---- a point between others is on their side
 
@@ -210,13 +218,19 @@ beside_held s up down c h = by (is_void down) refl
             let both = or_parts (int_lt down.x1 down.x0) (int_lt down.y1 down.y0) e in
             (int_lt-false down.x1 down.x0 both.0, int_lt-false down.y1 down.y0 both.1)
 
+-- nor does a box that is missed
+missed_held : (s : Seg) (up down : Window) → Covers up down → is_missed s up ≡ true → is_missed s down ≡ true
+missed_held s up down c h =
+    let both = and_parts (is_slanting s) (is_beside s up) h in
+    and_from (is_slanting s) (is_beside s down) both.0 (beside_held s up down c both.1)
+
 -- so what holds a box that the segment may cross is one
 pub crosses_wider : (area : Window) (s : Seg) (up down : Window) → Covers up down → crosses area s down ≡ true → crosses area s up ≡ true
-crosses_wider area s up down c h = by (is_beside s up) refl
+crosses_wider area s up down c h = by (is_missed s up) refl
   where
-    parts : (meets area down ≡ true) × (not (is_beside s down) ≡ true)
-    parts = and_parts (meets area down) (not (is_beside s down)) h
+    parts : (meets area down ≡ true) × (not (is_missed s down) ≡ true)
+    parts = and_parts (meets area down) (not (is_missed s down)) h
 
-    by : (b : Bool) → is_beside s up ≡ b → crosses area s up ≡ true
-    by true e = absurd (cc (beside_held s up down c e, not-true (is_beside s down) parts.1))
-    by false e = and_from (meets area up) (not (is_beside s up)) (meets_wider area up down c parts.0) (ap not e)
+    by : (b : Bool) → is_missed s up ≡ b → crosses area s up ≡ true
+    by true e = absurd (cc (missed_held s up down c e, not-true (is_missed s down) parts.1))
+    by false e = and_from (meets area up) (not (is_missed s up)) (meets_wider area up down c parts.0) (ap not e)

@@ -3,8 +3,10 @@
 //! names the boxes that meet a box, and on `tgap_model`, whose `Partition` defines the least pair that meets.
 #![tactic(auto)]
 
-ghost use Rattle.std.specs.Prelude.{◌≡◌, IfOk, Ok, Some, None, option_map, AllPairs};
-ghost use Rattle.tgap_model.specs.Partition.{AreApart, base_segments, meeting_fault};
+ghost use Rattle.std.specs.Prelude.{◌≡◌, ◌≤◌, length, IsTrue, IfOk, Ok, Some, None, option_map, AllPairs};
+ghost use Rattle.std.specs.List.{list_all};
+ghost use Rattle.tgap_model.specs.declared.limits.TheConstants.{MAX_POINTS};
+ghost use Rattle.tgap_model.specs.Partition.{AreApart, base_segments, is_proper, meeting_from, meeting_fault};
 ghost use Rattle.grid_geo.specs.Evidence.{IsFirstMeeting};
 ghost use Rattle.planar_apart.specs.Meetings.{meets};
 
@@ -20,16 +22,12 @@ pub use meeting::Meeting;
 use search::first_pair;
 use std::alloc::Global;
 use std::thread::Threads;
-use tgap_model::{Base, Memory, base_segments};
+use tgap_model::{Base, LabelledSegment, Memory, base_segments};
 
-/// The least pair of segments that meet where they may not, with a point that both hold, or None exactly where there is
-/// none.
+/// The least pair of segments of a base map that meet where they may not, with a point that both hold, or None exactly
+/// where there is none.
 ///
-/// A sweep shows of a map without a meeting that there is none, in the time of a sort and a logarithm for each segment.
-/// Where it does not, a second sweep sets the segments aside that do not fit, and a third one shows that the others are
-/// apart. Then the least pair is looked for, by number, as far as the first segment that has one: a segment that is not
-/// set aside is held to those that are, and one of these to all whose boxes it may cross, which a tree of the boxes
-/// names. The memory is a small multiple of the segments.
+/// It lists the segments, and then costs what `first_meeting_of` costs.
 pub fn first_meeting<R: Threads + Sync>(
     _rt: &R,
     alloc: Global,
@@ -43,5 +41,29 @@ pub fn first_meeting<R: Threads + Sync>(
     ensures apart { result ≡ Ok None → AllPairs AreApart (base_segments base.now) }
 {
     let segments = base_segments(alloc, base)?;
-    first_pair(alloc, segments.as_slice())
+    first_meeting_of(alloc, segments.as_slice())
+}
+
+/// The least pair of these segments that meet where they may not, as `first_meeting`: for one who has the list of the
+/// segments.
+///
+/// A sweep shows of a map without a meeting that there is none, in the time of a sort and a logarithm for each segment.
+/// Where it does not, a second sweep sets the segments aside that do not fit, and a third one shows that the others are
+/// apart. Then the least pair is looked for, by number, as far as the first segment that has one: a segment that is not
+/// set aside is held to those that are, and one of these to all whose boxes it may cross, which a tree of the boxes
+/// names. The memory is a small multiple of the segments.
+pub fn first_meeting_of(
+    alloc: Global,
+    segments: &[LabelledSegment],
+) -> Result<Option<Meeting>, Memory>
+    requires proper { IsTrue (list_all is_proper segments.now) }
+    requires few { length segments.now ≤ MAX_POINTS }
+    // It is the least pair by the definition.
+    ensures exact { IfOk result (λ found. option_map meets found ≡ meeting_from 0 segments.now) }
+    // The two have the point in common, it is no end at which they may meet, and all lesser pairs are apart.
+    ensures found { (m : Meeting) → result ≡ Ok (Some m) → IsFirstMeeting segments.now m.i m.j m.at }
+    // There is none only where all pairs are apart.
+    ensures apart { result ≡ Ok None → AllPairs AreApart segments.now }
+{
+    first_pair(alloc, segments)
 }

@@ -6,7 +6,7 @@ ghost use Rattle.tgap_model.specs.Base.{in_limits};
 ghost use Rattle.tgap_model.specs.Partition.{is_proper};
 ghost use Rattle.tgap_model.specs.Point.{side};
 ghost use Rattle.planar_apart.specs.Meetings.{box_of};
-ghost use Rattle.planar_apart.specs.Crossing.{limited, corner, is_left_at, are_left, is_void, is_beside, crosses, crosses_wider};
+ghost use Rattle.planar_apart.specs.Crossing.{limited, corner, is_left_at, are_left, is_void, is_beside, is_slanting, is_missed, crosses, crosses_wider};
 
 use crate::boxes::box_of;
 use grid_geo::side;
@@ -14,7 +14,8 @@ use grid_index::{Probe, meets};
 use tgap_model::{LabelledSegment, MAX_COORDINATE, Point, Seg, Window};
 
 /// A segment with its bounding box. Of boxes those pass it that meet its box and do not lie wholly on one side of its line,
-/// so that a long slanting segment passes over most of what its box holds.
+/// so that a long slanting segment passes over most of what its box holds. A level or upright segment fills its box, and no
+/// box that meets it lies on one side: there the sides are not asked for.
 #[derive(Clone, Copy, Debug)]
 pub struct Sight {
     pub segment: Seg,
@@ -42,7 +43,7 @@ impl Probe for Sight {
     ghost wider = { λ sight up down. crosses_wider sight.area sight.segment up down };
 
     fn is_hit(&self, area: &Window) -> bool {
-        meets(&self.area, area) && !is_beside(self.segment, area)
+        meets(&self.area, area) && !is_missed(self.segment, area)
     }
 }
 
@@ -102,4 +103,19 @@ fn is_beside(s: Seg, area: &Window) -> bool
     ensures { result ≡ is_beside s area.now }
 {
     is_void(area) || are_left(s.a, s.b, area) || are_left(s.b, s.a, area)
+}
+
+/// Whether the segment is neither level nor upright.
+fn is_slanting(s: Seg) -> bool
+    ensures { result ≡ is_slanting s }
+{
+    s.a.x != s.b.x && s.a.y != s.b.y
+}
+
+/// Whether the segment is slanting and the box lies beside it.
+fn is_missed(s: Seg, area: &Window) -> bool
+    requires { IsTrue (in_limits s.a) × IsTrue (in_limits s.b) }
+    ensures { result ≡ is_missed s area.now }
+{
+    is_slanting(s) && is_beside(s, area)
 }
