@@ -6,8 +6,7 @@ ghost use Rattle.std.specs.List.{All};
 ghost use Rattle.std.specs.Option.{option_map};
 ghost use Rattle.lemmas.specs.Sorting.{insert_by};
 ghost use Rattle.tgap_model.specs.Bounds.{HasNearEnds};
-ghost use Rattle.tgap_model.specs.Partition.{base_segments, stack_fault_from, agree_from};
-ghost use Rattle.tgap_model.specs.declared.limits.TheConstants.{MAX_POINTS};
+ghost use Rattle.tgap_model.specs.Partition.{stack_fault_from, agree_from};
 ghost use Rattle.planar_stack.specs.Sweep.{disagrees, left_end as left_of, right_end as right_of, segment_at, sides_at, crossed_at, higher_at, stays_at, AreReady, AreEnds, EndInOrder, IsOrdered, IsPlace, IsActive, HaveEnded, AreLeft, AreTouched, IsFirstOf};
 ghost use Rattle.planar_stack.specs.Parts.{IsReached};
 
@@ -18,19 +17,10 @@ use chunked_row::Row;
 use grid_geo::cmp_on_line;
 use std::alloc::Global;
 use std::cmp::Ordering;
-use tgap_model::{Base, LabelledSegment, List, Memory, base_segments};
+use tgap_model::{LabelledSegment, Memory};
 
 /// To search a tall stack for the place of one member takes the time in which about so many members are looked at.
 const SEARCH: usize = 32;
-
-/// The segments of a base map, of which there are few, and whose ends keep to the limits.
-pub fn segments_of(alloc: Global, base: &Base) -> Result<List<LabelledSegment>, Memory>
-    ensures value { IfOk result (λ segments. segments ≡ base_segments base.now) }
-    ensures near { IfOk result (λ segments. All (λ s. HasNearEnds s.segment) segments) }
-    ensures few { IfOk result (λ segments. length segments ≤ MAX_POINTS) }
-{
-    base_segments(alloc, base)
-}
 
 /// Whether a segment is higher than another one.
 fn is_higher(starts: &[LabelledSegment], number: u32, other: u32, line: i64) -> bool
