@@ -9,9 +9,9 @@ use Rattle.tgap_model.specs.Removals.{has_side}
 use Rattle.map_laws.proofs.ChainMembers.{Among, filter_among}
 use Rattle.map_laws.proofs.Lists.{all_members, members_all, among_kept}
 use Rattle.removal_laws.proofs.ChainEnds.{contained, among_contained}
+use Rattle.grid_index.specs.Keyed.{edge_in, edges_in, AreAtKeys}
 use Rattle.vertex_drop.specs.Corners.{least_corner}
 use Rattle.tgap_build.specs.declared.corner_queue.Entry.{Entry}
-use Rattle.tgap_build.specs.EdgeTable.{edge_in, edges_in, AreAtKeys}
 use Rattle.tgap_build.specs.Queue.{is_queued}
 use Rattle.tgap_build.specs.Queues.{queue_at, TellAsMuch, IsQueued, IsQueuedAt, IsQueuedBeside, corner_at, is_candidate, IsBeside}
 use Rattle.tgap_build.proofs.EdgeTables.{at_among}

@@ -1,13 +1,10 @@
 -- The edges after a step, before its sweep and after it, can be looked up: they ascend, are within the limits, and have two points at least
 -- and not too many.
-use Rattle.std.proofs.Common.{◌≡◌, ℕ, ◌-◌, ◌<◌, ◌≤◌, Bool, true, false, cond, not, List, [], ◌∷◌, filter, drop, reverse, length, length-append, length-drop, All, AllPairs, get_or, refl, sym, ap, ◌∙◌, subst, arith, IsTrue}
+use Rattle.std.proofs.Common.{◌≡◌, ℕ, ◌-◌, ◌<◌, ◌≤◌, Bool, true, false, cond, not, List, length, All, AllPairs, get_or, refl, sym, ap, ◌∙◌, subst, arith, IsTrue}
 use Rattle.std.specs.Prelude.{sum_by}
 use Rattle.std.proofs.lemmas.Bool.{ltb-true}
-use Rattle.std.proofs.lemmas.List.{length-reverse}
-use Rattle.std.proofs.lemmas.List.Sums.{sum_by-cons, length-filter, count_by-le-length}
 use Rattle.lemmas.proofs.Orders.{nat_lt_order, order_by_key}
 use Rattle.lemmas.proofs.Sorting.{sorted_pairs}
-use Rattle.tgap_model.specs.declared.geometry.Point.{Point}
 use Rattle.tgap_model.specs.declared.base.BaseArc.{BaseArc}
 use Rattle.tgap_model.specs.declared.slice.Edge.{Edge}
 use Rattle.tgap_model.specs.declared.slice.Removal.{Removal}
@@ -16,7 +13,7 @@ use Rattle.tgap_model.specs.Base.{BaseMap, is_base, in_limits}
 use Rattle.tgap_model.specs.Partition.{IsPartition, base_segments}
 use Rattle.tgap_model.specs.History.{history_of}
 use Rattle.tgap_model.specs.Merged.{merged, is_border}
-use Rattle.tgap_model.specs.Chains.{Link, Chain, arc_number, link_points, chain_points, key, chains_at}
+use Rattle.tgap_model.specs.Chains.{Link, Chain, arc_number, chain_points, key, chains_at}
 use Rattle.tgap_model.specs.Removals.{edge_of, edges_of, without, removals_to, is_removed}
 use Rattle.tgap_model.proofs.BaseFacts.{base_facts}
 use Rattle.map_laws.proofs.ChainMembers.{Among}

@@ -13,8 +13,8 @@ use Rattle.lemmas.proofs.Sorting.{AllPairs-permutation}
 use Rattle.tgap_model.specs.declared.slice.Edge.{Edge}
 use Rattle.map_laws.proofs.ChainMembers.{Among, among_right}
 use Rattle.map_laws.proofs.Lists.{all_members, members_all}
+use Rattle.grid_index.specs.Keyed.{edge_in, edges_in, AreAtKeys}
 use Rattle.grid_index.specs.Live.{without_keys}
-use Rattle.tgap_build.specs.EdgeTable.{edge_in, edges_in, AreAtKeys}
 use Rattle.tgap_build.proofs.Filters.{filter_all, filter_both}
 use Rattle.tgap_build.proofs.KeyedEdges.{pairs_across}
 

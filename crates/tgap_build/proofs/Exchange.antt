@@ -1,12 +1,12 @@
 -- Of the edges before a step, with their labels, those whose keys are told go, and those that the step changed come.
-use Rattle.std.proofs.Common.{◌≡◌, inl, inr, ℕ, zero, suc, ◌+◌, ◌-◌, ◌<◌, ◌==◌, ◌||◌, Bool, true, false, cond, not, nat_lt, List, [], ◌∷◌, ◌++◌, map, filter, length, All, AllPairs, Contains, IsPermutation, Option, Some, None, refl, sym, ap, ap₂, ◌∙◌, subst, true≢false, arith}
-use Rattle.std.specs.Prelude.{flat_map, option_to_list}
+use Rattle.std.proofs.Common.{◌≡◌, inl, inr, ℕ, ◌+◌, ◌-◌, ◌<◌, ◌==◌, ◌||◌, Bool, true, false, cond, not, List, [], ◌∷◌, ◌++◌, map, filter, length, All, AllPairs, Contains, IsPermutation, refl, sym, ap, ap₂, ◌∙◌, subst, true≢false, arith}
+use Rattle.std.specs.Prelude.{flat_map}
 use Rattle.std.specs.List.{list_any}
-use Rattle.std.proofs.lemmas.Bool.{eq-eqb, eqb-true, lt-ltb, ltb-true, or_parts, false_from_ne_true}
+use Rattle.std.proofs.lemmas.Bool.{eq-eqb, eqb-true, ltb-true, or_parts, false_from_ne_true}
 use Rattle.std.proofs.lemmas.List.Folds.{list_any-append}
-use Rattle.std.proofs.lemmas.List.Kept.{AllPairs-cons, AllPairs-filter}
+use Rattle.std.proofs.lemmas.List.Kept.{AllPairs-filter}
 use Rattle.std.proofs.lemmas.List.Sorted.{IsPermutation-sym, IsPermutation-filter_both}
-use Rattle.lemmas.proofs.Members.{AllPairs-nil, AllPairs-head, AllPairs-tail, filter_agree_on}
+use Rattle.lemmas.proofs.Members.{filter_agree_on}
 use Rattle.lemmas.proofs.Orders.{nat_lt_order, order_by_key}
 use Rattle.lemmas.proofs.Sorting.{sorted_pairs}
 use Rattle.tgap_model.specs.declared.merge.MergeStep.{MergeStep}
@@ -17,11 +17,12 @@ use Rattle.tgap_model.specs.Chains.{Chain, key, chains_at}
 use Rattle.tgap_model.specs.Removals.{edge_of, edges_of, has_side, removals_to}
 use Rattle.tgap_model.specs.Records.{is_edge_between, runs}
 use Rattle.map_laws.specs.ChainLaws.{chains_left}
-use Rattle.map_laws.proofs.ChainMembers.{Among, any_among, filter_among, among_left, among_right, append_among, sorted_same}
+use Rattle.map_laws.proofs.ChainMembers.{Among, any_among, filter_among, among_left, append_among, sorted_same}
 use Rattle.map_laws.proofs.ChainLinks.{chains_sorted}
 use Rattle.map_laws.proofs.ChainsExist.{chains_exist}
 use Rattle.map_laws.proofs.Lists.{all_members, members_all, any_from, kept_among, among_kept, map_among, among_map}
 use Rattle.removal_laws.proofs.ChainEnds.{contained, among_contained}
+use Rattle.grid_index.specs.Keyed.{edges_at, IsExchange}
 use Rattle.grid_index.specs.Live.{keys, without_keys, AreLive}
 use Rattle.record_laws.specs.RunLaws.{chain_of_run}
 use Rattle.record_laws.proofs.Holders.{same_key}
@@ -30,13 +31,12 @@ use Rattle.edge_forest.specs.declared.face_labels.FaceLabels.{FaceLabels}
 use Rattle.edge_forest.specs.Forest.{EdgeForest, IsForest}
 use Rattle.tgap_build.specs.declared.edge_table.EdgeTable.{EdgeTable}
 use Rattle.tgap_build.specs.declared.live_edges.Made.{Made}
-use Rattle.tgap_build.specs.EdgeTable.{edge_in, AreAtKeys}
 use Rattle.tgap_build.specs.Table.{faced, labelled_edges, moved_edge, left_by}
-use Rattle.tgap_build.specs.Running.{IsReplacement}
-use Rattle.tgap_build.specs.Changes.{HasGrown, born_chains, part_keys, losing_keys, made_of, is_changed, is_part_of, HasJoined, come_of, IsExchange}
-use Rattle.tgap_build.proofs.KeyedEdges.{Ascend, sorted, sorted_from_pairs, pairs_mapped, may_replace}
+use Rattle.tgap_build.specs.Changes.{HasGrown, born_chains, part_keys, losing_keys, made_of, is_changed, is_part_of, HasJoined, IsChange}
+use Rattle.tgap_build.proofs.EdgesAt.{edges_at_are}
+use Rattle.tgap_build.proofs.KeyedEdges.{Ascend, sorted, pairs_mapped}
 use Rattle.tgap_build.proofs.Born.{within, own_key, part_from, part_of, born_here}
-use Rattle.tgap_build.proofs.Joining.{permuted, placed, losing_is}
+use Rattle.tgap_build.proofs.Joining.{permuted, losing_is}
 use Rattle.tgap_build.proofs.ChangedChains.{lost, lost_known, changed_from, fresh_changes, lost_changes}
 
 -- ---- tests of lists
@@ -81,78 +81,19 @@ any_key_same xs ys i to back = by (list_any (λ k. k == i) ys) refl
 
 -- ---- an exchange, with the keys in ascending order
 
-module _ (edges : List Edge) (raw : List ℕ) (come after : List Edge) (ex : IsExchange edges raw come after) (gone : List ℕ) (ascend : AllPairs (λ (i j : ℕ). i < j) gone)
-    (same : (i : ℕ) → list_any (λ k. k == i) gone ≡ list_any (λ k. k == i) raw) where
-  abbrev goes : Edge → Bool
-  goes e = list_any (λ k. k == e.key) raw
-
-  gone_is : gone ≡ keys (filter goes edges)
-  gone_is =
-      sorted_same (λ (i : ℕ). i) gone (keys (filter goes edges))
-      (sorted_from_pairs (λ (i j : ℕ). nat_lt i j) gone (λ i j d l s. lt-ltb _ _ (ascend i j d l s)))
-      (sorted_from_pairs (λ (i j : ℕ). nat_lt i j) (keys (filter goes edges))
-      (pairs_mapped (λ (i j : ℕ). nat_lt i j ≡ true) (λ (e : Edge). e.key) (filter goes edges) (λ i j d l s.
-      lt-ltb _ _ (AllPairs-filter (λ (e f : Edge). e.key < f.key) goes edges ex.ascending i j d l s))))
-      (λ i m.
-      let t : list_any (λ k. k == i) raw ≡ true = sym (same i) ∙ any_from (λ k. k == i) gone i m (eq-eqb i i refl) in
-      let k = any_among (λ k. k == i) raw t in
-      let e = map_among (λ (e : Edge). e.key) edges k.0 (among_contained (keys edges) k.0 (members_all (Contains (keys edges)) raw k.0 ex.there k.1)) in
-      let is : e.0.key ≡ i = e.2 ∙ eqb-true k.0 i k.2 in
-      subst (λ (n : ℕ). Among n (keys (filter goes edges))) is
-      (among_map (λ (e : Edge). e.key) (filter goes edges) e.0 (among_kept goes edges e.0 e.1 (ap (λ (n : ℕ). list_any (λ k. k == n) raw) is ∙ t))))
-      (λ i m.
-      let e = map_among (λ (e : Edge). e.key) (filter goes edges) i m in
-      let t : list_any (λ k. k == i) gone ≡ true = same i ∙ ap (λ (n : ℕ). list_any (λ k. k == n) raw) (sym e.2) ∙ filter_among goes edges e.0 e.1 in
-      let k = any_among (λ k. k == i) gone t in
-      subst (λ (n : ℕ). Among n gone) (eqb-true k.0 i k.2) k.1)
-
-  pub exchange_replaces : IsReplacement edges gone come
-  exchange_replaces = may_replace edges ex.ascending goes come after ex.moved ex.live gone come gone_is refl
-
-  pub exchange_moved : IsPermutation (without_keys gone edges ++ come) after
-  exchange_moved = subst (λ (es : List Edge). IsPermutation (es ++ come) after)
+pub exchange_ascending : (edges : List Edge) (raw : List ℕ) (come after : List Edge) → IsChange edges raw come after → (gone : List ℕ) → AllPairs (λ (i j : ℕ). i < j) gone
+    → ((i : ℕ) → list_any (λ k. k == i) gone ≡ list_any (λ k. k == i) raw) → IsExchange edges gone come after
+exchange_ascending edges raw come after ex gone ascend same = record {
+  there = all_members (Contains (keys edges)) gone (λ i m.
+      let k = any_among (λ k. k == i) raw (sym (same i) ∙ any_from (λ k. k == i) gone i m (eq-eqb i i refl)) in
+      subst (Contains (keys edges)) (eqb-true k.0 i k.2) (members_all (Contains (keys edges)) raw k.0 ex.there k.1));
+  apart = λ i j d l s e. let less = ascend i j d l s in absurd (omega (arith, less, e));
+  moved = subst (λ (es : List Edge). IsPermutation (es ++ come) after)
       (filter_agree_on (λ (e : Edge). not (list_any (λ k. k == e.key) raw)) (λ (e : Edge). not (list_any (λ k. k == e.key) gone)) edges
       (all_members (λ (e : Edge). not (list_any (λ k. k == e.key) raw) ≡ not (list_any (λ k. k == e.key) gone)) edges (λ e m. ap not (sym (same e.key)))))
-      ex.moved
-
--- ---- edges at the places of their keys
-
-come_key : (places : List (Option Edge)) → AreAtKeys places → (one : Made) (e : Edge) → Among e (option_to_list (edge_in places one.key)) → (edge_in places one.key ≡ Some e) × (e.key ≡ one.key)
-come_key places keyed one e m = by (edge_in places one.key) refl m
-  where
-    by : (o : Option Edge) → edge_in places one.key ≡ o → Among e (option_to_list o) → (edge_in places one.key ≡ Some e) × (e.key ≡ one.key)
-    by None is n = absurd n
-    by (Some x) is (inl s) = let there = is ∙ ap (λ (y : Edge). Some y) s in (there, keyed one.key e there)
-    by (Some x) is (inr n) = absurd n
-
-come_among : (places : List (Option Edge)) → AreAtKeys places → (made : List Made) (e : Edge) → Among e (come_of places made)
-    → (one : Made) × Among one made × ((edge_in places one.key ≡ Some e) × (e.key ≡ one.key))
-come_among places keyed [] e m = absurd m
-come_among places keyed (one ∷ made) e m = elim (append_among (option_to_list (edge_in places one.key)) (come_of places made) e m) [
-  | inl n ↦ (one, inl refl, come_key places keyed one e n)
-  | inr n ↦ (let r = come_among places keyed made e n in (r.0, inr r.1, r.2))
-]
-
-among_come : (places : List (Option Edge)) (made : List Made) (one : Made) (e : Edge) → Among one made → edge_in places one.key ≡ Some e → Among e (come_of places made)
-among_come places [] one e m is = absurd m
-among_come places (x ∷ made) one e (inl s) is =
-    among_left (option_to_list (edge_in places x.key)) (come_of places made) e
-    (subst (λ (o : Option Edge). Among e (option_to_list o)) (sym (ap (λ (y : Made). edge_in places y.key) s ∙ is)) (inl refl))
-among_come places (x ∷ made) one e (inr n) is = among_right (option_to_list (edge_in places x.key)) (come_of places made) e (among_come places made one e n is)
-
-come_ascend : (places : List (Option Edge)) → AreAtKeys places → (made : List Made) → AllPairs (λ (o p : Made). o.key < p.key) made → Ascend (come_of places made)
-come_ascend places keyed [] a = AllPairs-nil (λ (e f : Edge). e.key < f.key)
-come_ascend places keyed (one ∷ made) a =
-    by (edge_in places one.key) (λ e m. (come_key places keyed one e m).1) (come_ascend places keyed made (AllPairs-tail (λ (o p : Made). o.key < p.key) one made a))
-  where
-    by : (o : Option Edge) → ((e : Edge) → Among e (option_to_list o) → e.key ≡ one.key) → Ascend (come_of places made) → Ascend (option_to_list o ++ come_of places made)
-    by None is rest = rest
-    by (Some x) is rest =
-        AllPairs-cons (λ (e f : Edge). e.key < f.key) x (come_of places made)
-        (all_members (λ (f : Edge). x.key < f.key) (come_of places made) (λ e m.
-        let r = come_among places keyed made e m in
-        let l = members_all (λ (p : Made). one.key < p.key) made r.0 (AllPairs-head (λ (o p : Made). o.key < p.key) one made a) r.1 in
-        omega (arith, l, r.2.1, is x (inl refl)))) rest
+      ex.moved;
+  live = ex.live;
+}
 
 module _ (f : EdgeForest) (k old : ℕ) (some : 0 < k) (grown : HasGrown f k old) (faces : FaceLabels) (from to : ℕ) (first left : List Edge) (ascend_first : Ascend first)
     (first_faces : map (faced faces) first ≡ edges_of (merged f.base) (k - 1) (removals_to (merged f.base) (k - 1)) (chains_at (merged f.base) (k - 1)))
@@ -241,18 +182,23 @@ module _ (f : EdgeForest) (k old : ℕ) (some : 0 < k) (grown : HasGrown f k old
   abbrev changed : List Chain
   changed = filter (is_changed h k) (chains_at h k)
 
+  abbrev come_keys : List ℕ
+  come_keys = map (λ (o : Made). o.key) made
+
   abbrev comes : Edge → Bool
-  comes e = list_any (λ (one : Made). one.key == e.key) made
+  comes e = list_any (λ i. i == e.key) come_keys
 
   comes_from : (c : Chain) → Among c changed → (e : Edge) → e.key ≡ key c → comes e ≡ true
   comes_from c m e same =
-      any_from (λ (one : Made). one.key == e.key) made (made_of h k c) (subst (Among (made_of h k c)) (sym made_is) (among_map (made_of h k) changed c m)) (eq-eqb (key c) e.key (sym same))
+      any_from (λ i. i == e.key) come_keys (key c)
+      (among_map (λ (o : Made). o.key) made (made_of h k c) (subst (Among (made_of h k c)) (sym made_is) (among_map (made_of h k) changed c m))) (eq-eqb (key c) e.key (sym same))
 
   comes_of : (e : Edge) → comes e ≡ true → (c : Chain) × Among c changed × (key c ≡ e.key)
   comes_of e any =
-      let one = any_among (λ (one : Made). one.key == e.key) made any in
+      let i = any_among (λ i. i == e.key) come_keys any in
+      let one = map_among (λ (o : Made). o.key) made i.0 i.1 in
       let c = map_among (made_of h k) changed one.0 (subst (Among one.0) made_is one.1) in
-      (c.0, c.1, ap (λ (o : Made). o.key) c.2 ∙ eqb-true one.0.key e.key one.2)
+      (c.0, c.1, ap (λ (o : Made). o.key) c.2 ∙ one.2 ∙ eqb-true i.0 e.key i.2)
 
   fresh_changed : (c : Chain) → Among c fresh → Among c changed
   fresh_changed c m = among_kept (is_changed h k) (chains_at h k) c (born_here f k old some grown (length f.edges) (omega arith) c m) (fresh_changes f k old some grown c m)
@@ -368,31 +314,14 @@ module _ (f : EdgeForest) (k old : ℕ) (some : 0 < k) (grown : HasGrown f k old
 
   -- ---- what comes
 
-  coming : filter comes (labelled_edges t) ≡ come_of t.places.items made
-  coming =
-      sorted_same (λ (e : Edge). e.key) (filter comes (labelled_edges t)) (come_of t.places.items made)
-      (sorted (filter comes (labelled_edges t)) (AllPairs-filter (λ (e f : Edge). e.key < f.key) comes (labelled_edges t) ascend))
-      (sorted (come_of t.places.items made) (come_ascend t.places.items state.table.keyed made made_ascend))
-      (λ e m.
-      let one = any_among (λ (one : Made). one.key == e.key) made (filter_among comes (labelled_edges t) e m) in
-      among_come t.places.items made one.0 e one.1
-      (ap (edge_in t.places.items) (eqb-true one.0.key e.key one.2) ∙ placed t.places.items state.table.keyed e (kept_among comes (labelled_edges t) e m)))
-      (λ e m.
-      let one = come_among t.places.items state.table.keyed made e m in
-      among_kept comes (labelled_edges t) e (at_place t.places.items one.0.key e one.2.0)
-      (any_from (λ (one : Made). one.key == e.key) made one.0 one.1 (eq-eqb one.0.key e.key (sym one.2.1))))
+  coming : filter comes (labelled_edges t) ≡ edges_at t.places.items come_keys
+  coming = sym (edges_at_are t.places.items state.table.keyed come_keys (pairs_mapped (λ (i j : ℕ). i < j) (λ (o : Made). o.key) made made_ascend))
     where
       made_ascend : AllPairs (λ (o p : Made). o.key < p.key) made
       made_ascend = subst (AllPairs (λ (o p : Made). o.key < p.key)) (sym made_is)
           (pairs_mapped (λ (o p : Made). o.key < p.key) (made_of h k) changed
           (AllPairs-filter (λ (c d : Chain). key c < key d) (is_changed h k) (chains_at h k) (λ i j d l u.
           ltb-true _ _ (sorted_pairs (order_by_key key nat_lt_order) (chains_at h k) (λ n d l. tt) (chains_sorted h k (chains_at h k) (chains_exist h k)) i j d l u))))
-
-      at_place : (places : List (Option Edge)) (i : ℕ) (e : Edge) → edge_in places i ≡ Some e → Among e (flat_map option_to_list places)
-      at_place [] i e is = absurd cc
-      at_place (None ∷ xs) zero e is = absurd cc
-      at_place (Some x ∷ xs) zero e is = inl (ap (λ (o : Option Edge). elim o [ None ↦ x | Some y ↦ y ]) is)
-      at_place (x ∷ xs) (suc i) e is = among_right (option_to_list x) (flat_map option_to_list xs) e (at_place xs i e is)
 
   -- each key that goes is there
   chain_key_there : (c : Chain) → Among c finer → Contains (keys first) (key c)
@@ -428,9 +357,8 @@ module _ (f : EdgeForest) (k old : ℕ) (some : 0 < k) (grown : HasGrown f k old
       by true = refl
       by false = refl
 
-  pub exchanged : AreLive (labelled_edges t) → IsExchange first (joined ++ losing ++ keys ended) (come_of t.places.items made) (labelled_edges t)
+  pub exchanged : AreLive (labelled_edges t) → IsChange first (joined ++ losing ++ keys ended) (edges_at t.places.items (map (λ (o : Made). o.key) made)) (labelled_edges t)
   exchanged live = record {
-    ascending = ascend_first;
     there = all_members (Contains (keys first)) raw key_there;
     moved = subst (λ (es : List Edge). IsPermutation es (labelled_edges t)) (ap₂ (λ (xs ys : List Edge). xs ++ ys) remaining coming)
         (IsPermutation-sym (labelled_edges t) (filter remain (labelled_edges t) ++ filter comes (labelled_edges t)) (IsPermutation-filter_both remain comes flip (labelled_edges t)));

@@ -20,6 +20,7 @@ use Rattle.map_laws.specs.ChainLaws.{chains_left}
 use Rattle.map_laws.proofs.ChainMembers.{Among, any_among, filter_among, among_left}
 use Rattle.map_laws.proofs.Lists.{all_members, any_from, kept_among, among_kept, map_among, among_map}
 use Rattle.removal_laws.proofs.ChainEnds.{contained, among_contained}
+use Rattle.grid_index.specs.Keyed.{edge_in, edges_in, AreAtKeys}
 use Rattle.grid_index.specs.Live.{keys, without_keys}
 use Rattle.record_laws.specs.RunLaws.{chain_of_run}
 use Rattle.record_laws.proofs.Holders.{arc_once_in, same_key}
@@ -29,7 +30,6 @@ use Rattle.edge_forest.specs.Edges.{edge_at, chain_of, is_alive}
 use Rattle.edge_forest.specs.Forest.{EdgeForest, IsForest}
 use Rattle.tgap_build.specs.declared.edge_table.EdgeTable.{EdgeTable}
 use Rattle.tgap_build.specs.declared.joined.OldEdge.{OldEdge}
-use Rattle.tgap_build.specs.EdgeTable.{edge_in, edges_in, AreAtKeys}
 use Rattle.tgap_build.specs.Table.{faced, labelled_edges, IsTable, edge_with, joined_row, joined_edge, old_keys, left_by}
 use Rattle.tgap_build.specs.OldEdges.{old_chains}
 use Rattle.tgap_build.specs.Changes.{HasGrown, born_chains, part_pieces, count_at, side_with, losing_keys, made_of, is_part_of, HasJoined}

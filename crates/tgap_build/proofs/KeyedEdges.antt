@@ -1,22 +1,21 @@
--- Edges in ascending order of key, some of which go while others come.
-use Rattle.std.proofs.Common.{◌≡◌, ◌≢◌, inl, inr, ℕ, ◌<◌, ◌≤◌, ◌==◌, Bool, true, false, not, nat_lt, List, [], ◌∷◌, ◌++◌, map, filter, get_or, All, AllPairs, Contains, IsPermutation, refl, sym, ap, ◌∙◌, subst, true≢false, eq-eqb, arith}
+-- Edges in ascending order of key, and the keys of some of them.
+use Rattle.std.proofs.Common.{◌≡◌, ◌≢◌, inl, inr, ℕ, ◌<◌, ◌≤◌, ◌==◌, Bool, true, false, nat_lt, List, [], ◌∷◌, ◌++◌, map, filter, get_or, All, AllPairs, Contains, IsPermutation, refl, sym, ap, ◌∙◌, subst, true≢false, eq-eqb, arith}
 use Rattle.std.specs.Prelude.{⊤}
 use Rattle.std.specs.List.{list_any}
 use Rattle.std.specs.List.Sorted.{IsNonDecreasingBy}
 use Rattle.std.proofs.lemmas.Bool.{cases_lt, lt-ltb, eqb-true, false_from_ne_true}
 use Rattle.std.proofs.lemmas.List.Elements.{All-map}
 use Rattle.std.proofs.lemmas.List.Kept.{AllPairs-cons, AllPairs-filter}
-use Rattle.std.proofs.lemmas.List.Sorted.{Contains-permutation, IsPermutation-sym, All-permutation}
+use Rattle.std.proofs.lemmas.List.Sorted.{Contains-permutation, IsPermutation-sym}
 use Rattle.lemmas.specs.Sorting.{is_sorted_by, IsStrictOrderOn}
 use Rattle.lemmas.proofs.Orders.{nat_lt_order, order_by_key}
-use Rattle.lemmas.proofs.Members.{AllPairs-nil, AllPairs-head, AllPairs-tail, related_members, filter_agree_on, Contains-from_map}
+use Rattle.lemmas.proofs.Members.{AllPairs-nil, AllPairs-head, AllPairs-tail, related_members}
 use Rattle.lemmas.proofs.Sorting.{sorted_cons, sorted_permutation, AllPairs-permutation}
 use Rattle.tgap_model.specs.declared.slice.Edge.{Edge}
 use Rattle.map_laws.proofs.ChainMembers.{Among, any_among, filter_among, among_right, append_among, sorted_same}
 use Rattle.map_laws.proofs.Lists.{all_members, members_all, any_from, kept_among, among_kept, map_among, among_map}
 use Rattle.removal_laws.proofs.ChainEnds.{contained, among_contained}
-use Rattle.grid_index.specs.Live.{keys, without_keys, AreLive, IsLiveEdge}
-use Rattle.tgap_build.specs.Running.{IsReplacement}
+use Rattle.grid_index.specs.Live.{keys}
 
 -- ---- pairs
 
@@ -30,10 +29,6 @@ pub pairs_across : {A : Type 0} (R : A → A → Type 0) (xs ys : List A) → Al
 pairs_across R [] ys h x y m n = absurd m
 pairs_across R (z ∷ xs) ys h x y (inl e) n = subst (λ w. R w y) e (members_all (R z) (xs ++ ys) y (AllPairs-head R z (xs ++ ys) h) (among_right xs ys y n))
 pairs_across R (z ∷ xs) ys h x y (inr m) n = pairs_across R xs ys (AllPairs-tail R z (xs ++ ys) h) x y m n
-
-pairs_behind : {A : Type 0} (R : A → A → Type 0) (xs ys : List A) → AllPairs R (xs ++ ys) → AllPairs R ys
-pairs_behind R [] ys h = h
-pairs_behind R (x ∷ xs) ys h = pairs_behind R xs ys (AllPairs-tail R x (xs ++ ys) h)
 
 pub pairs_both : {A : Type 0} (R : A → A → Type 0) (xs ys : List A) → AllPairs R xs → AllPairs R ys → ((x y : A) → Among x xs → Among y ys → R x y) → AllPairs R (xs ++ ys)
 pairs_both R [] ys a b across = b
@@ -99,11 +94,11 @@ same_key edges a e f m n k = elim (related_members (λ (x y : Edge). x.key < y.k
   | inr s ↦ absurd (elim s [ inl l ↦ omega (arith, l, k) | inr l ↦ omega (arith, l, k) ])
 ]
 
--- ---- some go
+-- ---- the keys of some
 
 module _ (edges : List Edge) (a : Ascend edges) (p : Edge → Bool) where
   -- the keys of those that pass the test tell which do
-  listed : (e : Edge) → Among e edges → list_any (λ k. k == e.key) (keys (filter p edges)) ≡ p e
+  pub listed : (e : Edge) → Among e edges → list_any (λ k. k == e.key) (keys (filter p edges)) ≡ p e
   listed e m = by (p e) refl
     where
       by : (b : Bool) → p e ≡ b → list_any (λ k. k == e.key) (keys (filter p edges)) ≡ b
@@ -115,54 +110,11 @@ module _ (edges : List Edge) (a : Ascend edges) (p : Edge → Bool) where
           let same = same_key edges a f.0 e (kept_among p edges f.0 f.1) m (f.2 ∙ eqb-true k.0 e.key k.2) in
           true≢false (sym (filter_among p edges f.0 f.1) ∙ ap p same ∙ t))
 
-  pub left_is : without_keys (keys (filter p edges)) edges ≡ filter (λ e. not (p e)) edges
-  left_is =
-      filter_agree_on (λ (e : Edge). not (list_any (λ k. k == e.key) (keys (filter p edges)))) (λ (e : Edge). not (p e)) edges
-      (all_members (λ (e : Edge). not (list_any (λ k. k == e.key) (keys (filter p edges))) ≡ not (p e)) edges (λ e m. ap not (listed e m)))
-
-  gone_there : All (Contains (keys edges)) (keys (filter p edges))
+  pub gone_there : All (Contains (keys edges)) (keys (filter p edges))
   gone_there = all_members (Contains (keys edges)) (keys (filter p edges)) (λ k m.
       let e = map_among (λ (f : Edge). f.key) (filter p edges) k m in
       subst (Contains (keys edges)) e.2 (contained (keys edges) e.0.key (among_map (λ (f : Edge). f.key) edges e.0 (kept_among p edges e.0 e.1))))
 
-  gone_apart : AllPairs (λ k l. k ≢ l) (keys (filter p edges))
-  gone_apart =
-      pairs_mapped (λ (k l : ℕ). k ≢ l) (λ (e : Edge). e.key) (filter p edges)
-      (λ i j d l s e. absurd (omega (arith, AllPairs-filter (λ (e f : Edge). e.key < f.key) p edges a i j d l s, e)))
-
-  -- ---- and others come
-
-  module _ (come all : List Edge) (moved : IsPermutation (filter (λ e. not (p e)) edges ++ come) all) (live : AreLive all) where
-    abbrev kept : List Edge
-    kept = filter (λ e. not (p e)) edges
-
-    differ : AllPairs (λ (e f : Edge). e.key ≢ f.key) (filter (λ e. not (p e)) edges ++ come)
-    differ =
-        AllPairs-permutation (λ (e f : Edge). e.key ≢ f.key) (λ e f ne eq. ne (sym eq)) all (kept ++ come) (IsPermutation-sym (kept ++ come) all moved)
-        (λ i j d l s e. absurd (omega (arith, live.ascending i j d l s, e)))
-
-    come_fresh : All (λ e. ¬ (Contains (keys (without_keys (keys (filter p edges)) edges)) e.key)) come
-    come_fresh = all_members (λ (e : Edge). ¬ (Contains (keys (without_keys (keys (filter p edges)) edges)) e.key)) come (λ e m c.
-        let f = Contains-from_map (λ (f : Edge). f.key) kept e.key (subst (λ (es : List Edge). Contains (keys es) e.key) left_is c) in
-        pairs_across (λ (e f : Edge). e.key ≢ f.key) kept come differ f.0 e (among_contained kept f.0 f.1) m f.2)
-
-    come_distinct : AllPairs (λ e f. e.key ≢ f.key) come
-    come_distinct = pairs_behind (λ (e f : Edge). e.key ≢ f.key) kept come differ
-
-    come_live : All IsLiveEdge come
-    come_live = all_members IsLiveEdge come (λ e m.
-        members_all IsLiveEdge (kept ++ come) e (All-permutation IsLiveEdge all (kept ++ come) (IsPermutation-sym (kept ++ come) all moved) live.each) (among_right kept come e m))
-
-    pub may_replace : (gone : List ℕ) (new : List Edge) → gone ≡ keys (filter p edges) → new ≡ come → IsReplacement edges gone new
-    may_replace gone new gone_is new_is =
-        subst (λ (ks : List ℕ). IsReplacement edges ks new) (sym gone_is)
-        (subst (IsReplacement edges (keys (filter p edges))) (sym new_is)
-        (record { there = gone_there; apart = gone_apart; fresh = come_fresh; distinct = come_distinct; live = come_live }))
-
--- what may come has other keys than what is left
-pub keys_apart : (edges : List Edge) (gone : List ℕ) (come : List Edge) → Ascend edges → IsReplacement edges gone come → AllPairs (λ (e f : Edge). e.key ≢ f.key) (without_keys gone edges ++ come)
-keys_apart edges gone come ascend h =
-    pairs_both (λ (e f : Edge). e.key ≢ f.key) (without_keys gone edges) come
-    (λ i j d l s e. absurd (omega (arith, AllPairs-filter (λ (e f : Edge). e.key < f.key) (λ e. not (list_any (λ k. k == e.key) gone)) edges ascend i j d l s, e)))
-    h.distinct (λ e f m n same. members_all (λ (f : Edge). ¬ (Contains (keys (without_keys gone edges)) f.key)) come f h.fresh n
-    (subst (Contains (keys (without_keys gone edges))) same (contained (keys (without_keys gone edges)) e.key (among_map (λ (e : Edge). e.key) (without_keys gone edges) e m))))
+  pub keys_ascend : AllPairs (λ j k. j < k) (keys (filter p edges))
+  keys_ascend =
+      pairs_mapped (λ (j k : ℕ). j < k) (λ (e : Edge). e.key) (filter p edges) (AllPairs-filter (λ (e f : Edge). e.key < f.key) p edges a)

@@ -1,8 +1,9 @@
--- Edges less the points that go: those that the table is given other points for, and all less the removals of a step.
-use Rattle.std.proofs.Common.{◌≡◌, ◌≢◌, inl, inr, ℕ, ◌<◌, ◌&&◌, Bool, true, false, cond, not, List, [], ◌∷◌, ◌++◌, map, filter, fold, get_or, length, All, IsPermutation, eq-eqb, refl, sym, ap, ap₂, ◌∙◌, subst, true≢false, arith}
+-- Edges less the points that go: those with some keys, and all less the removals of a step.
+use Rattle.std.proofs.Common.{◌≡◌, inl, inr, ℕ, ◌<◌, ◌==◌, ◌&&◌, ◌||◌, Bool, true, false, cond, not, List, [], ◌∷◌, ◌++◌, map, filter, All, AllPairs, Contains, IsPermutation, Option, refl, sym, ap, ap₂, ◌∙◌, subst, arith}
 use Rattle.std.specs.List.{list_any}
-use Rattle.std.proofs.lemmas.Bool.{and_cases, or_parts, cases_eq, ne_eqb}
-use Rattle.std.proofs.lemmas.List.{get_or-map, length-map, map-append}
+use Rattle.std.proofs.lemmas.Bool.{and_cases, or_parts}
+use Rattle.std.proofs.lemmas.List.{map-append}
+use Rattle.std.proofs.lemmas.List.Folds.{list_any-append}
 use Rattle.std.proofs.lemmas.List.Sorted.{IsPermutation-sym, IsPermutation-map, IsPermutation-filter_both}
 use Rattle.lemmas.proofs.Members.{filter_agree_on}
 use Rattle.tgap_model.specs.declared.geometry.Point.{Point}
@@ -11,105 +12,53 @@ use Rattle.tgap_model.specs.declared.slice.Removal.{Removal}
 use Rattle.tgap_model.specs.Removals.{without, has_side, is_removed}
 use Rattle.removal_laws.specs.StandLaws.{edges_less}
 use Rattle.map_laws.proofs.ChainMembers.{Among, filter_among}
-use Rattle.map_laws.proofs.Lists.{all_members, members_all, kept_among, among_kept}
+use Rattle.map_laws.proofs.Lists.{all_members, members_all}
+use Rattle.grid_index.specs.Keyed.{edges_in, AreAtKeys, edges_at, IsExchange}
+use Rattle.grid_index.specs.Live.{keys, without_keys, AreLive}
 use Rattle.edge_forest.specs.declared.face_labels.FaceLabels.{FaceLabels}
-use Rattle.tgap_build.specs.Table.{faced, with_points}
+use Rattle.tgap_build.specs.Table.{faced}
 use Rattle.tgap_build.specs.Running.{has_point, has_any, less}
-use Rattle.tgap_build.specs.Changes.{less_where, with_all}
-use Rattle.tgap_build.proofs.KeyedEdges.{Ascend, same_key}
+use Rattle.tgap_build.specs.Changes.{less_where, less_at}
+use Rattle.tgap_build.proofs.EdgesAt.{has_one, edges_at_are}
+use Rattle.tgap_build.proofs.Filters.{map_agree, filter_all}
+use Rattle.tgap_build.proofs.KeyedEdges.{Ascend, listed}
 
--- ---- points are set, edge by edge
+-- ---- some edges lose points
 
-abbrev set_one : Edge → Edge → Edge
-set_one x c = with_points c.key c.points x
+-- where no key is told none does
+pub less_none : (gone : List Point) (edges : List Edge) → map (less_at gone []) edges ≡ edges
+less_none gone [] = refl
+less_none gone (e ∷ edges) = ap (λ (es : List Edge). e ∷ es) (less_none gone edges)
 
-fold_maps : (come edges : List Edge) → with_all come edges ≡ map (λ (e : Edge). fold set_one e come) edges
-fold_maps [] edges = sym (same edges)
+-- to take points out twice is to take them out once
+less_twice : (gone : List Point) (e : Edge) → less gone (less gone e) ≡ less gone e
+less_twice gone e =
+    let stays = λ (p : Point). not (has_point gone p) in
+    ap (λ (ps : List Point). record { key = e.key; left = e.left; right = e.right; points = ps })
+    (filter_all stays (filter stays e.points) (λ p m. filter_among stays e.points p m))
+
+-- one key more
+pub less_more : (gone : List Point) (ks : List ℕ) (k : ℕ) (edges : List Edge) → map (less_at gone (k ∷ [])) (map (less_at gone ks) edges) ≡ map (less_at gone (ks ++ k ∷ [])) edges
+less_more gone ks k [] = refl
+less_more gone ks k (e ∷ edges) =
+    ap₂ (λ (x : Edge) (xs : List Edge). x ∷ xs)
+    (by (list_any (λ j. j == e.key) ks)
+    ∙ ap (λ (b : Bool). cond b (less gone e) e) (sym (list_any-append (λ j. j == e.key) ks (k ∷ []))))
+    (less_more gone ks k edges)
   where
-    same : (es : List Edge) → map (λ (e : Edge). e) es ≡ es
-    same [] = refl
-    same (e ∷ es) = ap (λ (xs : List Edge). e ∷ xs) (same es)
-fold_maps (c ∷ come) edges = fold_maps come (map (λ (e : Edge). set_one e c) edges) ∙ twice edges
-  where
-    twice : (es : List Edge) → map (λ (e : Edge). fold set_one e come) (map (λ (e : Edge). set_one e c) es) ≡ map (λ (e : Edge). fold set_one (set_one e c) come) es
-    twice [] = refl
-    twice (e ∷ es) = ap (λ (xs : List Edge). fold set_one (set_one e c) come ∷ xs) (twice es)
-
-module _ (gone : List Point) (edges : List Edge) (ascend : Ascend edges) (e : Edge) (m : Among e edges) where
-  -- one more is set: that of the edge, or another one
-  set_same : (x : Edge) → x.key ≡ e.key → x.left ≡ e.left → x.right ≡ e.right → set_one x (less gone e) ≡ less gone e
-  set_same x k l r =
-      ap (λ (b : Bool). cond b (record { key = x.key; left = x.left; right = x.right; points = (less gone e).points }) x) (eq-eqb x.key e.key k)
-      ∙ ap (λ (n : ℕ). record { key = n; left = x.left; right = x.right; points = (less gone e).points }) k
-      ∙ ap₂ (λ (a b : ℕ). record { key = e.key; left = a; right = b; points = (less gone e).points }) l r
-
-  set_other : (x d : Edge) → x.key ≡ e.key → e.key ≢ d.key → set_one x (less gone d) ≡ x
-  set_other x d k ne =
-      ap (λ (b : Bool). cond b (record { key = x.key; left = x.left; right = x.right; points = (less gone d).points }) x)
-      (ne_eqb x.key d.key (λ s. ne (sym k ∙ s)))
-
-  set_done : (ds : List Edge) → ((d : Edge) → Among d ds → Among d edges) → fold set_one (less gone e) (map (less gone) ds) ≡ less gone e
-  set_done [] sub = refl
-  set_done (d ∷ ds) sub = elim (cases_eq e.key d.key) [
-    | inl s ↦
-        (let same : e ≡ d = same_key edges ascend e d m (sub d (inl refl)) s in
-        ap (λ (c : Edge). fold set_one (set_one (less gone e) (less gone c)) (map (less gone) ds)) (sym same)
-        ∙ ap (λ (x : Edge). fold set_one x (map (less gone) ds)) (set_same (less gone e) refl refl refl) ∙ set_done ds (λ x o. sub x (inr o)))
-    | inr ne ↦ ap (λ (x : Edge). fold set_one x (map (less gone) ds)) (set_other (less gone e) d refl ne) ∙ set_done ds (λ x o. sub x (inr o))
-  ]
-
-  set_absent : (ds : List Edge) → ((d : Edge) → Among d ds → Among d edges) → (Among e ds → ⊥) → fold set_one e (map (less gone) ds) ≡ e
-  set_absent [] sub none = refl
-  set_absent (d ∷ ds) sub none =
-      ap (λ (x : Edge). fold set_one x (map (less gone) ds)) (set_other e d refl (λ s. none (inl (sym (same_key edges ascend e d m (sub d (inl refl)) s)))))
-      ∙ set_absent ds (λ x o. sub x (inr o)) (λ o. none (inr o))
-
-  set_present : (ds : List Edge) → ((d : Edge) → Among d ds → Among d edges) → Among e ds → fold set_one e (map (less gone) ds) ≡ less gone e
-  set_present [] sub o = absurd o
-  set_present (d ∷ ds) sub (inl s) =
-      ap (λ (c : Edge). fold set_one (set_one e (less gone c)) (map (less gone) ds)) s
-      ∙ ap (λ (x : Edge). fold set_one x (map (less gone) ds)) (set_same e refl refl refl) ∙ set_done ds (λ x o. sub x (inr o))
-  set_present (d ∷ ds) sub (inr o) = elim (cases_eq e.key d.key) [
-    | inl s ↦
-        (let same : e ≡ d = same_key edges ascend e d m (sub d (inl refl)) s in
-        ap (λ (c : Edge). fold set_one (set_one e (less gone c)) (map (less gone) ds)) (sym same)
-        ∙ ap (λ (x : Edge). fold set_one x (map (less gone) ds)) (set_same e refl refl refl) ∙ set_done ds (λ x p. sub x (inr p)))
-    | inr ne ↦ ap (λ (x : Edge). fold set_one x (map (less gone) ds)) (set_other e d refl ne) ∙ set_present ds (λ x p. sub x (inr p)) o
-  ]
-
-  set_where : (p : Edge → Bool) → fold set_one e (map (less gone) (filter p edges)) ≡ less_where gone p e
-  set_where p = by (p e) refl
-    where
-      sub : (d : Edge) → Among d (filter p edges) → Among d edges
-      sub d o = kept_among p edges d o
-
-      by : (b : Bool) → p e ≡ b → fold set_one e (map (less gone) (filter p edges)) ≡ cond b (less gone e) e
-      by true t = set_present (filter p edges) sub (among_kept p edges e m t)
-      by false t = set_absent (filter p edges) sub (λ o. true≢false (sym (filter_among p edges e o) ∙ t))
-
--- all that a test tells are given the points that are left
-pub all_less : (gone : List Point) (edges : List Edge) → Ascend edges → (p : Edge → Bool) → with_all (map (less gone) (filter p edges)) edges ≡ map (less_where gone p) edges
-all_less gone edges ascend p = fold_maps (map (less gone) (filter p edges)) edges ∙ by edges (λ e m. m)
-  where
-    by : (es : List Edge) → ((e : Edge) → Among e es → Among e edges) → map (λ (e : Edge). fold set_one e (map (less gone) (filter p edges))) es ≡ map (less_where gone p) es
-    by [] sub = refl
-    by (e ∷ es) sub = ap₂ (λ (x : Edge) (xs : List Edge). x ∷ xs) (set_where gone edges ascend e (sub e (inl refl)) p) (by es (λ x o. sub x (inr o)))
-
--- edges are in order of key where they are less some points
-pub ascend_where : (gone : List Point) (p : Edge → Bool) (edges : List Edge) → Ascend edges → Ascend (map (less_where gone p) edges)
-ascend_where gone p edges a i j d l short =
-    let one : Edge → Edge = less_where gone p in
-    let inside : j < length edges = omega (arith, short, length-map edges one) in
-    let first = get_or-map one edges i d d (omega (arith, l, inside)) in
-    let second = get_or-map one edges j d d inside in
-    omega (arith, a i j d l inside, ap (λ (e : Edge). e.key) first ∙ key_of (get_or edges i d), ap (λ (e : Edge). e.key) second ∙ key_of (get_or edges j d))
-  where
-    key_of : (e : Edge) → (less_where gone p e).key ≡ e.key
-    key_of e = by (p e)
+    by : (b : Bool) → cond ((k == (cond b (less gone e) e).key) || false) (less gone (cond b (less gone e) e)) (cond b (less gone e) e)
+        ≡ cond (b || ((k == e.key) || false)) (less gone e) e
+    by true = both ((k == e.key) || false)
       where
-        by : (b : Bool) → (cond b (less gone e) e).key ≡ e.key
-        by true = refl
-        by false = refl
+        both : (c : Bool) → cond c (less gone (less gone e)) (less gone e) ≡ less gone e
+        both true = less_twice gone e
+        both false = refl
+    by false = refl
+
+-- where the keys are those of the edges that a test tells, these lose points
+pub less_at_is : (gone : List Point) (edges : List Edge) → Ascend edges → (p : Edge → Bool) → map (less_at gone (keys (filter p edges))) edges ≡ map (less_where gone p) edges
+less_at_is gone edges ascend p =
+    map_agree (less_at gone (keys (filter p edges))) (less_where gone p) edges (λ e m. ap (λ (b : Bool). cond b (less gone e) e) (listed edges ascend p e m))
 
 -- what stays and what comes are all of them then
 pub where_moved : (gone : List Point) (p : Edge → Bool) (edges : List Edge) → IsPermutation (filter (λ e. not (p e)) edges ++ map (less gone) (filter p edges)) (map (less_where gone p) edges)
@@ -142,6 +91,32 @@ where_moved gone p edges =
             → map (less_where gone p) (cond b (e ∷ filter p es) (filter p es)) ≡ map (less gone) (cond b (e ∷ filter p es) (filter p es))
         by true t r = ap₂ (λ (x : Edge) (xs : List Edge). x ∷ xs) (ap (λ (b : Bool). cond b (less gone e) e) t) r
         by false t r = r
+
+-- the edges with these keys are less the points then
+where_some : (gone : List Point) (ks : List ℕ) (edges : List Edge) → filter (has_one ks) (map (less_at gone ks) edges) ≡ map (less gone) (filter (has_one ks) edges)
+where_some gone ks [] = refl
+where_some gone ks (e ∷ edges) = by (has_one ks e) refl (where_some gone ks edges)
+  where
+    by : (b : Bool) → has_one ks e ≡ b → filter (has_one ks) (map (less_at gone ks) edges) ≡ map (less gone) (filter (has_one ks) edges)
+        → filter (has_one ks) (cond b (less gone e) e ∷ map (less_at gone ks) edges) ≡ map (less gone) (cond b (e ∷ filter (has_one ks) edges) (filter (has_one ks) edges))
+    by true t r =
+        ap (λ (b : Bool). cond b (less gone e ∷ filter (has_one ks) (map (less_at gone ks) edges)) (filter (has_one ks) (map (less_at gone ks) edges))) t
+        ∙ ap (λ (es : List Edge). less gone e ∷ es) r
+    by false t r = ap (λ (b : Bool). cond b (e ∷ filter (has_one ks) (map (less_at gone ks) edges)) (filter (has_one ks) (map (less_at gone ks) edges))) t ∙ r
+
+-- those with some keys, as they stand at the places of these, are exchanged
+pub less_exchange : (gone : List Point) (ks : List ℕ) → AllPairs (λ j k. j < k) ks → (edges : List Edge) (places : List (Option Edge)) → AreAtKeys places
+    → edges_in places ≡ map (less_at gone ks) edges → All (Contains (keys edges)) ks → AreLive (map (less_at gone ks) edges)
+    → IsExchange edges ks (edges_at places ks) (edges_in places)
+less_exchange gone ks up edges places keyed is there live = record {
+  there = there;
+  apart = λ i j d l s e. let less = up i j d l s in absurd (omega (arith, less, e));
+  moved = subst (λ (es : List Edge). IsPermutation (without_keys ks edges ++ edges_at places ks) es) (sym is)
+      (subst (λ (es : List Edge). IsPermutation (without_keys ks edges ++ es) (map (less_at gone ks) edges))
+      (sym (edges_at_are places keyed ks up ∙ ap (filter (has_one ks)) is ∙ where_some gone ks edges))
+      (where_moved gone (has_one ks) edges));
+  live = subst AreLive (sym is) live;
+}
 
 -- ---- the removals of a step
 

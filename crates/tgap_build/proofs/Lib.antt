@@ -8,6 +8,7 @@ pub mod EachLive
 pub mod EdgeTables
 pub mod Sided
 pub mod Covered
+pub mod EdgesAt
 pub mod Visits
 pub mod VisitSteps
 pub mod Tables
@@ -18,7 +19,6 @@ pub mod OldWalks
 pub mod StartTable
 pub mod Alive
 pub mod Filters
-pub mod Beside
 pub mod Taken
 pub mod Run
 pub mod PointSets

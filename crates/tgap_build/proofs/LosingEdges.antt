@@ -12,18 +12,20 @@ use Rattle.map_laws.proofs.ChainMembers.{Among}
 use Rattle.map_laws.proofs.Lists.{all_members, members_all, among_map}
 use Rattle.removal_laws.specs.Trace.{step_area, edges_before_sweep}
 use Rattle.removal_laws.proofs.ChainEnds.{contained}
+use Rattle.grid_index.specs.Keyed.{edge_in}
+use Rattle.grid_index.specs.Live.{keys}
 use Rattle.edge_forest.specs.FaceLabels.{label_of}
 use Rattle.edge_forest.specs.Forest.{EdgeForest}
 use Rattle.vertex_drop.specs.Corners.{has_small_corner}
 use Rattle.tgap_build.specs.declared.edge_table.EdgeTable.{EdgeTable}
 use Rattle.tgap_build.specs.Built.{HasRemoved}
-use Rattle.tgap_build.specs.EdgeTable.{edge_in}
 use Rattle.tgap_build.specs.Table.{faced, labelled_edges}
 use Rattle.tgap_build.specs.Running.{AreRunning, has_point, has_any}
 use Rattle.tgap_build.proofs.Covered.{covered}
 use Rattle.tgap_build.proofs.Filters.{filter_both}
 use Rattle.tgap_build.proofs.LessEdges.{less_points}
 use Rattle.tgap_build.proofs.StepSweep.{last, made_sides, swept_list}
+use Rattle.tgap_build.proofs.Tables.{map_flat}
 use Rattle.tgap_build.proofs.WideEdges.{none_of_all, wide_stay}
 
 module _ (f : EdgeForest) (k : ℕ) (some : 0 < k) (made : f.made ≡ k) (t : EdgeTable) (r : AreRunning f k (removals_to (merged f.base) (k - 1)) t)
@@ -52,17 +54,18 @@ module _ (f : EdgeForest) (k : ℕ) (some : 0 < k) (made : f.made ≡ k) (t : Ed
       by false is = absurd (true≢false (sym h ∙ none_lost e m is))
 
   -- those among the candidates are all that lose a point
-  pub losing_border : (keys : List ℕ) → AllPairs (λ i j. i < j) keys
-      → ((e : Edge) → Contains (labelled_edges t) e → has_side label e ≡ true → has_small_corner ratio area e.points ≡ true → Contains keys e.key)
-      → flat_map (λ j. filter (has_any gone) (option_to_list (edge_in t.places.items j))) keys ≡ filter (has_any gone) (filter (has_side label) (labelled_edges t))
-  losing_border keys up small =
-      covered (has_any gone) t.places.items r.table.keyed keys up
-      (all_members (λ (e : Edge). has_any gone e ≡ true → Contains keys e.key) (labelled_edges t) (λ e m h.
+  pub losing_border : (ks : List ℕ) → AllPairs (λ i j. i < j) ks
+      → ((e : Edge) → Contains (labelled_edges t) e → has_side label e ≡ true → has_small_corner ratio area e.points ≡ true → Contains ks e.key)
+      → flat_map (λ j. keys (filter (has_any gone) (option_to_list (edge_in t.places.items j)))) ks ≡ keys (filter (has_any gone) (filter (has_side label) (labelled_edges t)))
+  losing_border ks up small =
+      sym (map_flat (λ (e : Edge). e.key) (λ j. filter (has_any gone) (option_to_list (edge_in t.places.items j))) ks)
+      ∙ ap keys (covered (has_any gone) t.places.items r.table.keyed ks up
+      (all_members (λ (e : Edge). has_any gone e ≡ true → Contains ks e.key) (labelled_edges t) (λ e m h.
       let both = loses e m h in
       small e (contained (labelled_edges t) e m) both.0 both.1))
       ∙ filter_agree_on (has_any gone) (λ (e : Edge). has_any gone e && has_side label e) (labelled_edges t)
       (all_members (λ (e : Edge). has_any gone e ≡ (has_any gone e && has_side label e)) (labelled_edges t) (λ e m. agree e m (has_any gone e) refl))
-      ∙ sym (filter_both (has_any gone) (has_side label) (labelled_edges t))
+      ∙ sym (filter_both (has_any gone) (has_side label) (labelled_edges t)))
     where
       agree : (e : Edge) → Among e (labelled_edges t) → (b : Bool) → has_any gone e ≡ b → b ≡ (b && has_side label e)
       agree e m true h = sym (loses e m h).0

@@ -6,12 +6,12 @@ use Rattle.std.proofs.lemmas.List.{get_or_default, get_or-set_same, get_or-set_o
 use Rattle.std.proofs.lemmas.List.Elements.{All-cons, All-nil}
 use Rattle.tgap_model.specs.declared.merge.MergeStep.{MergeStep}
 use Rattle.tgap_model.specs.declared.slice.Edge.{Edge}
+use Rattle.grid_index.specs.Keyed.{edge_in, edges_in, AreAtKeys}
 use Rattle.edge_forest.specs.declared.face_labels.FaceLabels.{FaceLabels}
 use Rattle.edge_forest.specs.FaceLabels.{face_of, label_of, HasLabel}
 use Rattle.map_laws.proofs.Lists.{map_among}
 use Rattle.removal_laws.proofs.ChainEnds.{among_contained}
 use Rattle.grid_index.specs.Live.{keys}
-use Rattle.tgap_build.specs.EdgeTable.{edge_in, edges_in, AreAtKeys}
 use Rattle.tgap_build.specs.Table.{listed_at, IsHeld, IsTableOf}
 use Rattle.tgap_build.proofs.Sided.{labels_differ}
 use Rattle.tgap_build.proofs.Tables.{place_among, placed_all}

@@ -14,6 +14,7 @@ use Rattle.tgap_model.specs.Removals.{edge_of, edges_of, has_side, removals_to}
 use Rattle.tgap_model.specs.Records.{is_edge_between}
 use Rattle.map_laws.proofs.ChainMembers.{Among}
 use Rattle.map_laws.proofs.Lists.{all_members, members_all, map_among, kept_among}
+use Rattle.grid_index.specs.Keyed.{edges_at}
 use Rattle.grid_index.specs.Live.{keys, AreLive}
 use Rattle.edge_forest.specs.FaceLabels.{label_of}
 use Rattle.edge_forest.specs.Forest.{EdgeForest, IsForest}
@@ -21,7 +22,7 @@ use Rattle.tgap_build.specs.declared.edge_table.EdgeTable.{EdgeTable}
 use Rattle.tgap_build.specs.declared.live_edges.Made.{Made}
 use Rattle.tgap_build.specs.Table.{faced, labelled_edges, table_edges, IsTable, IsHeld, moved_edge, left_by}
 use Rattle.tgap_build.specs.Running.{AreRunning, relabelled}
-use Rattle.tgap_build.specs.Changes.{HasGrown, born_chains, count_at, losing_keys, part_keys, whole_of, made_of, is_changed, is_part_of, HasJoined, come_of, IsExchange}
+use Rattle.tgap_build.specs.Changes.{HasGrown, born_chains, count_at, losing_keys, part_keys, whole_of, made_of, is_changed, is_part_of, HasJoined, IsChange}
 use Rattle.tgap_build.proofs.Alive.{key_within}
 use Rattle.tgap_build.proofs.Born.{within}
 use Rattle.tgap_build.proofs.ChangedChains.{lost, joined_all, merged_faces, made_sorted}
@@ -115,12 +116,7 @@ module _ (f : EdgeForest) (k old : ℕ) (some : 0 < k) (grown : HasGrown f k old
           pub made_are : sorted ≡ map (made_of (merged f.base) k) (filter (is_changed (merged f.base) k) (chains_at (merged f.base) k))
           made_are = made_sorted f k old some grown sorted (subst (λ (os : List Made). IsPermutation os sorted) raw_is moved) order
 
-          pub made_room : All (λ (o : Made). o.key < length t.places.items) sorted
-          made_room = all_members (λ (o : Made). o.key < length t.places.items) sorted (λ o m.
-              let c = map_among (made_of h k) (filter (is_changed h k) (chains_at h k)) o (subst (Among o) made_are m) in
-              omega (arith, key_within h k c.0 (kept_among (is_changed h k) (chains_at h k) c.0 c.1), ap (λ (o : Made). o.key) c.2, places))
-
-          pub exchange : IsExchange (labelled_edges t0) (joined ++ losing ++ keys ended) (come_of t.places.items sorted) (labelled_edges t)
+          pub exchange : IsChange (labelled_edges t0) (joined ++ losing ++ keys ended) (edges_at t.places.items (map (λ (o : Made). o.key) sorted)) (labelled_edges t)
           exchange =
               exchanged f k old some grown t0.labels (label_of t0.labels s.loser) (label_of t0.labels s.winner) (labelled_edges t0) (labelled_edges t1) (ascending t0.places.items r.table.keyed) r.edges
               (all_members (λ (e : Edge). has_side (label_of t0.labels s.loser) e ≡ has_side (step_number h k).loser (faced t0.labels e)) (labelled_edges t0) (λ e m.

@@ -1,5 +1,5 @@
--- An edge comes into a table, one takes the place of those of which it is made, and one gets other points.
-use Rattle.std.proofs.Common.{◌≡◌, ◌≢◌, inl, inr, ℕ, zero, suc, ◌<◌, ◌==◌, not, Bool, true, false, cond, List, [], ◌∷◌, ◌++◌, map, length, get_or, set, replicate, All, AllPairs, Contains, IsPermutation, Option, Some, None, refl, sym, ap, ap₂, ◌∙◌, subst, eq-eqb, true≢false, arith}
+-- An edge comes into a table, one takes the place of those of which it is made, and one loses points.
+use Rattle.std.proofs.Common.{◌≡◌, ◌≢◌, inl, inr, ℕ, zero, suc, ◌<◌, ◌==◌, ◌||◌, not, Bool, true, false, cond, List, [], ◌∷◌, ◌++◌, map, length, get_or, set, replicate, All, AllPairs, Contains, IsPermutation, Option, Some, None, refl, sym, ap, ap₂, ◌∙◌, subst, eq-eqb, true≢false, arith}
 use Rattle.std.specs.Prelude.{option_map}
 use Rattle.std.specs.List.{list_any}
 use Rattle.std.proofs.lemmas.Bool.{cases_eq, cases_lt, ne_eqb}
@@ -11,11 +11,13 @@ use Rattle.tgap_model.specs.declared.slice.Edge.{Edge}
 use Rattle.map_laws.proofs.ChainMembers.{Among, filter_among}
 use Rattle.map_laws.proofs.Lists.{all_members, members_all, any_from, kept_among, map_among}
 use Rattle.removal_laws.proofs.ChainEnds.{among_contained}
+use Rattle.grid_index.specs.Keyed.{edge_in, edges_in, AreAtKeys}
 use Rattle.grid_index.specs.Live.{without_keys}
 use Rattle.edge_forest.specs.declared.face_labels.FaceLabels.{FaceLabels}
 use Rattle.edge_forest.specs.FaceLabels.{face_of, label_of, HasLabel, IsCurrent}
-use Rattle.tgap_build.specs.EdgeTable.{edge_in, edges_in, AreAtKeys}
-use Rattle.tgap_build.specs.Table.{faced, listed_at, IsHeld, IsTableOf, with_points}
+use Rattle.tgap_build.specs.Table.{faced, listed_at, IsHeld, IsTableOf}
+use Rattle.tgap_build.specs.Running.{less}
+use Rattle.tgap_build.specs.Changes.{less_at}
 use Rattle.tgap_build.proofs.EdgeTables.{stays, keyed_put, put_there, IsPutting}
 use Rattle.tgap_build.proofs.Filters.{filter_all}
 use Rattle.tgap_build.proofs.Tables.{all_placed, placed_all, place_within}
@@ -225,7 +227,7 @@ module _ (t : FaceLabels) (lists : List (List ℕ)) (places : List (Option Edge)
   joined_moved =
       subst (λ (es : List Edge). IsPermutation (es ++ e ∷ []) (edges_in joined)) (ap (without_keys (e.key ∷ [])) left ∙ without_it) (put_there emptied e within keyed)
 
--- ---- one gets other points
+-- ---- one loses points
 
 edges_mapped : (f : Edge → Edge) (places : List (Option Edge)) → edges_in (map (option_map f) places) ≡ map f (edges_in places)
 edges_mapped f [] = refl
@@ -237,61 +239,61 @@ mapped_at f [] i = refl
 mapped_at f (x ∷ xs) zero = refl
 mapped_at f (x ∷ xs) (suc i) = mapped_at f xs i
 
-abbrev pub pointed : List Point → Option Edge → Option Edge
-pointed points o = option_map (λ (e : Edge). record { key = e.key; left = e.left; right = e.right; points = points }) o
+module _ (places : List (Option Edge)) (keyed : AreAtKeys places) (k : ℕ) (within : k < length places) (gone : List Point) where
+  abbrev lesser : Option Edge → Option Edge
+  lesser o = option_map (less gone) o
 
-module _ (places : List (Option Edge)) (keyed : AreAtKeys places) (k : ℕ) (within : k < length places) (points : List Point) where
-  at_other : (i : ℕ) → i ≢ k → option_map (with_points k points) (edge_in places i) ≡ edge_in places i
+  abbrev there : Edge → Edge
+  there e = less_at gone (k ∷ []) e
+
+  at_other : (i : ℕ) → i ≢ k → option_map there (edge_in places i) ≡ edge_in places i
   at_other i ne = by (edge_in places i) refl
     where
-      by : (o : Option Edge) → edge_in places i ≡ o → option_map (with_points k points) o ≡ o
+      by : (o : Option Edge) → edge_in places i ≡ o → option_map there o ≡ o
       by None is = refl
-      by (Some e) is =
-          ap (λ (b : Bool). Some (cond b (record { key = e.key; left = e.left; right = e.right; points = points }) e))
-          (ne_eqb e.key k (λ s. ne (sym (keyed i e is) ∙ s)))
+      by (Some e) is = ap (λ (b : Bool). Some (cond (b || false) (less gone e) e)) (ne_eqb k e.key (λ s. ne (sym (s ∙ keyed i e is))))
 
-  at_it : option_map (with_points k points) (edge_in places k) ≡ pointed points (edge_in places k)
+  at_it : option_map there (edge_in places k) ≡ lesser (edge_in places k)
   at_it = by (edge_in places k) refl
     where
-      by : (o : Option Edge) → edge_in places k ≡ o → option_map (with_points k points) o ≡ pointed points o
+      by : (o : Option Edge) → edge_in places k ≡ o → option_map there o ≡ lesser o
       by None is = refl
-      by (Some e) is =
-          ap (λ (b : Bool). Some (cond b (record { key = e.key; left = e.left; right = e.right; points = points }) e)) (eq-eqb e.key k (keyed k e is))
+      by (Some e) is = ap (λ (b : Bool). Some (cond (b || false) (less gone e) e)) (eq-eqb k e.key (sym (keyed k e is)))
 
-  pub pointed_places : set places k (pointed points (edge_in places k)) ≡ map (option_map (with_points k points)) places
-  pointed_places =
-      ext_get_or None (set places k (pointed points (edge_in places k))) (map (option_map (with_points k points)) places)
-      (length-set places k (pointed points (edge_in places k)) ∙ sym (length-map places (option_map (with_points k points))))
+  less_places : set places k (lesser (edge_in places k)) ≡ map (option_map there) places
+  less_places =
+      ext_get_or None (set places k (lesser (edge_in places k))) (map (option_map there) places)
+      (length-set places k (lesser (edge_in places k)) ∙ sym (length-map places (option_map there)))
       (λ i l. elim (cases_eq i k) [
         | inl s ↦
-            ap (edge_in (set places k (pointed points (edge_in places k)))) s ∙ get_or-set_same places k (pointed points (edge_in places k)) None within
-            ∙ sym at_it ∙ ap (λ (n : ℕ). option_map (with_points k points) (edge_in places n)) (sym s) ∙ sym (mapped_at (with_points k points) places i)
+            ap (edge_in (set places k (lesser (edge_in places k)))) s ∙ get_or-set_same places k (lesser (edge_in places k)) None within
+            ∙ sym at_it ∙ ap (λ (n : ℕ). option_map there (edge_in places n)) (sym s) ∙ sym (mapped_at there places i)
         | inr ne ↦
-            get_or-set_other places k i (pointed points (edge_in places k)) None ne ∙ sym (at_other i ne) ∙ sym (mapped_at (with_points k points) places i)
+            get_or-set_other places k i (lesser (edge_in places k)) None ne ∙ sym (at_other i ne) ∙ sym (mapped_at there places i)
       ])
 
-  pub pointed_edges : edges_in (set places k (pointed points (edge_in places k))) ≡ map (with_points k points) (edges_in places)
-  pointed_edges = ap edges_in pointed_places ∙ edges_mapped (with_points k points) places
+  pub less_edges : edges_in (set places k (option_map (less gone) (edge_in places k))) ≡ map (less_at gone (k ∷ [])) (edges_in places)
+  less_edges = ap edges_in less_places ∙ edges_mapped there places
 
   module _ (t : FaceLabels) (lists : List (List ℕ)) (w : IsTableOf t lists places) where
-    pointed_held : (e : Edge) → IsHeld t lists e → IsHeld t lists (with_points k points e)
-    pointed_held e h = by (e.key == k)
+    less_held : (e : Edge) → IsHeld t lists e → IsHeld t lists (less_at gone (k ∷ []) e)
+    less_held e h = by ((k == e.key) || false)
       where
-        by : (b : Bool) → IsHeld t lists (cond b (record { key = e.key; left = e.left; right = e.right; points = points }) e)
+        by : (b : Bool) → IsHeld t lists (cond b (less gone e) e)
         by true = record { left = h.left; right = h.right; at_left = h.at_left; at_right = h.at_right }
         by false = h
 
-    pub pointed_table : IsTableOf t lists (set places k (pointed points (edge_in places k)))
-    pointed_table = record {
-      keyed = keyed_set places k (pointed points (edge_in places k)) within (λ e is. here (edge_in places k) e refl is) keyed;
-      each = subst (All (IsHeld t lists)) (sym pointed_edges) (all_members (IsHeld t lists) (map (with_points k points) (edges_in places)) (λ e m.
-          let f = map_among (with_points k points) (edges_in places) e m in
-          subst (IsHeld t lists) f.2 (pointed_held f.0 (members_all (IsHeld t lists) (edges_in places) f.0 w.each f.1))));
-      listed = λ l n c. let q = w.listed l n c in let m = length-set places k (pointed points (edge_in places k)) in omega (arith, q, m);
+    pub less_table : IsTableOf t lists (set places k (option_map (less gone) (edge_in places k)))
+    less_table = record {
+      keyed = keyed_set places k (lesser (edge_in places k)) within (λ e is. here (edge_in places k) e refl is) keyed;
+      each = subst (All (IsHeld t lists)) (sym less_edges) (all_members (IsHeld t lists) (map there (edges_in places)) (λ e m.
+          let f = map_among there (edges_in places) e m in
+          subst (IsHeld t lists) f.2 (less_held f.0 (members_all (IsHeld t lists) (edges_in places) f.0 w.each f.1))));
+      listed = λ l n c. let q = w.listed l n c in let m = length-set places k (lesser (edge_in places k)) in omega (arith, q, m);
       face_room = w.face_room;
       label_room = w.label_room;
     }
       where
-        here : (o : Option Edge) (e : Edge) → edge_in places k ≡ o → pointed points o ≡ Some e → e.key ≡ k
+        here : (o : Option Edge) (e : Edge) → edge_in places k ≡ o → lesser o ≡ Some e → e.key ≡ k
         here None e at is = absurd cc
-        here (Some f) e at is = ap (λ (g : Edge). g.key) (sym (some_same (record { key = f.key; left = f.left; right = f.right; points = points }) e is)) ∙ keyed k f at
+        here (Some f) e at is = ap (λ (g : Edge). g.key) (sym (some_same (less gone f) e is)) ∙ keyed k f at

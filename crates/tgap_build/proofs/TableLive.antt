@@ -4,9 +4,9 @@ use Rattle.std.proofs.lemmas.List.{get_or-map, length-map}
 use Rattle.tgap_model.specs.declared.slice.Edge.{Edge}
 use Rattle.map_laws.proofs.Lists.{all_members, members_all, map_among, among_map}
 use Rattle.removal_laws.proofs.ChainEnds.{among_contained}
+use Rattle.grid_index.specs.Keyed.{edge_in, edges_in, AreAtKeys}
 use Rattle.grid_index.specs.Live.{keys, AreLive, IsLiveEdge}
 use Rattle.edge_forest.specs.declared.face_labels.FaceLabels.{FaceLabels}
-use Rattle.tgap_build.specs.EdgeTable.{edge_in, edges_in, AreAtKeys}
 use Rattle.tgap_build.specs.Table.{faced}
 use Rattle.tgap_build.specs.Changes.{count_at}
 use Rattle.tgap_build.proofs.Tables.{key_placed, placed_all}

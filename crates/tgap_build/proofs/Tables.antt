@@ -12,10 +12,10 @@ use Rattle.tgap_model.specs.Removals.{has_side}
 use Rattle.tgap_model.specs.Records.{is_edge_between}
 use Rattle.map_laws.proofs.ChainMembers.{Among, filter_among}
 use Rattle.map_laws.proofs.Lists.{all_members, members_all, kept_among, among_map, map_among}
+use Rattle.grid_index.specs.Keyed.{edge_in, edges_in, AreAtKeys}
 use Rattle.grid_index.specs.Live.{keys}
 use Rattle.edge_forest.specs.declared.face_labels.FaceLabels.{FaceLabels}
 use Rattle.edge_forest.specs.FaceLabels.{face_of, label_of, HasLabel, IsCurrent, moved}
-use Rattle.tgap_build.specs.EdgeTable.{edge_in, edges_in, AreAtKeys}
 use Rattle.tgap_build.specs.Running.{relabelled}
 use Rattle.tgap_build.specs.Table.{faced, listed_at, IsHeld, IsTableOf, left_by, moved_label, moved_edge, has_both, has_first, place_after}
 use Rattle.tgap_build.proofs.Covered.{covered}
@@ -31,7 +31,7 @@ map_twice : {A B C D : Type 0} (f : A → B) (g : B → D) (f' : A → C) (g' : 
 map_twice f g f' g' [] h = refl
 map_twice f g f' g' (x ∷ xs) h = ap₂ (λ y ys. y ∷ ys) (h x (inl refl)) (map_twice f g f' g' xs (λ y m. h y (inr m)))
 
-map_flat : {A B C : Type 0} (f : B → C) (g : A → List B) (xs : List A) → map f (flat_map g xs) ≡ flat_map (λ x. map f (g x)) xs
+pub map_flat : {A B C : Type 0} (f : B → C) (g : A → List B) (xs : List A) → map f (flat_map g xs) ≡ flat_map (λ x. map f (g x)) xs
 map_flat f g [] = refl
 map_flat f g (x ∷ xs) = map-append f (g x) (flat_map g xs) ∙ ap (λ ys. map f (g x) ++ ys) (map_flat f g xs)
 

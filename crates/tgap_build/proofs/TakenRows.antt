@@ -6,9 +6,9 @@ use Rattle.std.proofs.lemmas.List.Sums.{fold_more}
 use Rattle.lemmas.proofs.Members.{in_head, related_to_next, Contains-from_map}
 use Rattle.tgap_model.specs.declared.geometry.Point.{Point}
 use Rattle.tgap_model.specs.declared.slice.Edge.{Edge}
+use Rattle.grid_index.specs.Keyed.{edge_in, edges_in, AreAtKeys}
 use Rattle.grid_index.specs.Live.{keys, without_keys}
 use Rattle.tgap_build.specs.declared.joined.OldEdge.{OldEdge}
-use Rattle.tgap_build.specs.EdgeTable.{edge_in, edges_in, AreAtKeys}
 use Rattle.tgap_build.specs.Table.{oriented, glued, edge_with, part_row, joined_row, old_keys}
 use Rattle.tgap_build.proofs.EdgeTables.{cleared, without_more}
 use Rattle.tgap_build.proofs.Merging.{key_there}

@@ -7,8 +7,8 @@ use Rattle.std.proofs.lemmas.List.{append-nil, map-append, take_more}
 use Rattle.std.proofs.lemmas.List.Sums.{fold_more}
 use Rattle.lemmas.proofs.Members.{related_to_next}
 use Rattle.tgap_model.specs.declared.slice.Edge.{Edge}
+use Rattle.grid_index.specs.Keyed.{edge_in}
 use Rattle.edge_forest.specs.declared.face_labels.FaceLabels.{FaceLabels}
-use Rattle.tgap_build.specs.EdgeTable.{edge_in}
 use Rattle.tgap_build.specs.Table.{faced, has_both, has_first, place_after, lists_after}
 use Rattle.tgap_build.proofs.Visits.{visit, visited, unvisited, listing}
 

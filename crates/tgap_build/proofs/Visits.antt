@@ -7,7 +7,7 @@ use Rattle.std.proofs.lemmas.List.Elements.{Contains-append_left, Contains-appen
 use Rattle.lemmas.proofs.Members.{in_head, in_tail, in_cases, in_none}
 use Rattle.tgap_model.specs.declared.slice.Edge.{Edge}
 use Rattle.tgap_model.specs.Removals.{has_side}
-use Rattle.tgap_build.specs.EdgeTable.{edge_in, edges_in, AreAtKeys}
+use Rattle.grid_index.specs.Keyed.{edge_in, edges_in, AreAtKeys}
 use Rattle.tgap_build.specs.Table.{listed_at, moved_label, moved_edge, has_both, has_first, place_after, lists_after}
 
 -- ---- places

@@ -1,25 +1,22 @@
 -- A sweep leaves an edge as it is that does not border the new face, or has no corner which is small enough.
-use Rattle.std.proofs.Common.{◌≡◌, ◌∙◌, inl, inr, ℕ, zero, suc, ◌+◌, ◌<◌, ◌≤◌, ℤ, pos, ◌*◌, ◌==◌, ◌&&◌, ◌||◌, not, int_le, Bool, true, false, cond, List, [], ◌∷◌, ◌++◌, length, length-append, get_or, filter, All, refl, sym, ap, ap₂, arith}
-use Rattle.std.specs.List.{list_all, list_any}
-use Rattle.std.proofs.lemmas.Bool.{or_parts, or_from, and_left}
+use Rattle.std.proofs.Common.{◌≡◌, ◌∙◌, inl, inr, ℕ, zero, suc, ◌+◌, ◌<◌, ◌≤◌, ℤ, ◌==◌, ◌&&◌, ◌||◌, not, Bool, true, false, cond, List, [], ◌∷◌, ◌++◌, length, length-append, get_or, filter, All, refl, sym, ap, ap₂, arith}
+use Rattle.std.specs.List.{list_any}
 use Rattle.std.proofs.lemmas.List.{get_or-map}
 use Rattle.std.proofs.Math.Seq.{get_or-append_seam}
 use Rattle.tgap_model.specs.declared.geometry.Point.{Point}
-use Rattle.tgap_model.specs.declared.geometry.Seg.{Seg}
 use Rattle.tgap_model.specs.declared.slice.Edge.{Edge}
 use Rattle.tgap_model.specs.declared.slice.Removal.{Removal}
 use Rattle.tgap_model.specs.Base.{BaseMap, is_base}
 use Rattle.tgap_model.specs.Partition.{IsPartition, base_segments}
 use Rattle.tgap_model.specs.History.{history_of}
 use Rattle.tgap_model.specs.Merged.{merged, step_number}
-use Rattle.tgap_model.specs.Clear.{is_clear}
-use Rattle.tgap_model.specs.Point.{area2}
-use Rattle.tgap_model.specs.Removals.{Swept, path, is_removable, sweep, sweep_from, sweep_points, sweep_edges, live_segments, has_side, without}
+use Rattle.tgap_model.specs.Removals.{Swept, sweep, sweep_points, sweep_edges, live_segments, has_side, without}
 use Rattle.map_laws.proofs.ChainMembers.{Among}
 use Rattle.removal_laws.specs.Trace.{swept_edge, swept_edges, step_area, edges_before_sweep}
 use Rattle.removal_laws.proofs.StandOnce.{partition_has_removals}
 use Rattle.step_laws.proofs.StepRemovals.{step_list}
-use Rattle.vertex_drop.specs.Corners.{is_small_corner, has_small_corner}
+use Rattle.vertex_drop.specs.Corners.{has_small_corner}
+use Rattle.vertex_drop.proofs.Chosen.{all_stay}
 use Rattle.tgap_build.proofs.Taken.{taken_is, swept_before}
 
 abbrev behind_first : {A : Type 0} → List A → List A
@@ -48,109 +45,76 @@ none_of_all {A} p (x ∷ xs) h = by (p x) refl (none_of_all p xs)
         let is : x ∷ filter (λ y. not (p y)) xs ≡ x ∷ xs = sym (ap (λ (b : Bool). cond (not b) (x ∷ filter (λ y. not (p y)) xs) (filter (λ y. not (p y)) xs)) t) ∙ h in
         ap (λ (b : Bool). b || list_any p xs) t ∙ rest (ap behind_first is)
 
-module _ (ratio : ℕ) (area : ℤ) where
-  stays : (others : List Seg) (a b c : Point) → is_small_corner ratio area a b c ≡ false → is_removable ratio area others a b c ≡ false
-  unfolding is_removable
-  stays others a b c h =
-      let both = or_parts (area2 a b c == 0) (int_le (pos (ratio * area2 a b c)) area) h in
-      or_from (area2 a b c == 0) (int_le (pos (ratio * area2 a b c)) area && list_all (is_clear a b c) others) both.0
-      (and_left (int_le (pos (ratio * area2 a b c)) area) (list_all (is_clear a b c) others) both.1)
+module _ (ratio : ℕ) (area : ℤ) (made : ℕ) where
+  wide_edge : (before : List Edge) (e : Edge) (edges : List Edge) → has_small_corner ratio area e.points ≡ false → swept_edge ratio area before e edges ≡ e
+  wide_edge before e edges wide =
+      ap (λ (s : Swept). record { key = e.key; left = e.left; right = e.right; points = s.kept }) (all_stay ratio area (live_segments before ++ live_segments edges) e.points wide)
 
-  -- one vertex more is removed, or kept
-  abbrev swept_with : List Seg → List Seg → Point → Point → Point → List Point → Bool → Swept
-  swept_with others done a b c points t = elim t [
-    | true ↦ (let s = sweep_from ratio area others done a (c ∷ points) in record { kept = s.kept; gone = b ∷ s.gone })
-    | false ↦ (let s = sweep_from ratio area others (done ++ record { a = a; b = b } ∷ []) b (c ∷ points) in record { kept = a ∷ s.kept; gone = s.gone })
+  -- one more edge is swept, or passed by
+  abbrev swept_on : List Edge → Edge → List Edge → Bool → List Edge
+  swept_on before e edges b = elim b [
+    | true ↦ swept_edges ratio area made (before ++ swept_edge ratio area before e edges ∷ []) edges
+    | false ↦ swept_edges ratio area made (before ++ e ∷ []) edges
   ]
 
-  wide_from : (others done : List Seg) (a : Point) (points : List Point) → has_small_corner ratio area (a ∷ points) ≡ false
-      → sweep_from ratio area others done a points ≡ record { kept = a ∷ points; gone = [] }
-  wide_from others done a [] h = refl
-  wide_from others done a (b ∷ []) h = refl
-  wide_from others done a (b ∷ c ∷ points) h =
-      let both = or_parts (is_small_corner ratio area a b c) (has_small_corner ratio area (b ∷ c ∷ points)) h in
-      ap (swept_with others done a b c points) (stays (others ++ done ++ path (c ∷ points)) a b c both.0)
-      ∙ ap (λ (s : Swept). record { kept = a ∷ s.kept; gone = s.gone }) (wide_from others (done ++ record { a = a; b = b } ∷ []) b (c ∷ points) both.1)
+  -- an edge that may lose no vertex stays as it is
+  stays_at : (before edges : List Edge) (i j : ℕ) (d : Edge) → j ≡ length before + i → i < length edges
+      → (has_side made (get_or edges i d) && has_small_corner ratio area (get_or edges i d).points) ≡ false
+      → get_or (swept_edges ratio area made before edges) j d ≡ get_or edges i d
+  stays_at before [] i j d at l off = absurd (omega arith)
+  stays_at before (e ∷ edges) zero j d at l off =
+      by (has_side made e) refl
+    where
+      here : (x : Edge) → x ≡ e → get_or (swept_edges ratio area made (before ++ x ∷ []) edges) j d ≡ e
+      here x is =
+          let j_is : j ≡ length before = omega (arith, at) in
+          swept_before ratio area made (before ++ x ∷ []) edges j d (omega (arith, length-append before (x ∷ []), at))
+          ∙ ap (λ (n : ℕ). get_or (before ++ x ∷ []) n d) j_is
+          ∙ get_or-append_seam before x [] d ∙ is
 
-  -- points without a small corner stay
-  wide_points : (others : List Seg) (points : List Point) → has_small_corner ratio area points ≡ false → sweep_points ratio area others points ≡ record { kept = points; gone = [] }
-  wide_points others [] h = refl
-  wide_points others (a ∷ points) h = wide_from others [] a points h
+      by : (b : Bool) → has_side made e ≡ b → get_or (swept_on before e edges (has_side made e)) j d ≡ e
+      by true t =
+          let wide : has_small_corner ratio area e.points ≡ false = sym (ap (λ (b : Bool). b && has_small_corner ratio area e.points) t) ∙ off in
+          ap (λ (b : Bool). get_or (swept_on before e edges b) j d) t
+          ∙ here (swept_edge ratio area before e edges) (wide_edge before e edges wide)
+      by false t = ap (λ (b : Bool). get_or (swept_on before e edges b) j d) t ∙ here e refl
+  stays_at before (e ∷ edges) (suc i) j d at l off =
+      by (has_side made e) (λ x. stays_at (before ++ x ∷ []) edges i j d (omega (arith, at, length-append before (x ∷ []))) (omega arith) off)
+    where
+      by : (b : Bool) → ((x : Edge) → get_or (swept_edges ratio area made (before ++ x ∷ []) edges) j d ≡ get_or edges i d) → get_or (swept_on before e edges b) j d ≡ get_or edges i d
+      by true next = next (swept_edge ratio area before e edges)
+      by false next = next e
 
-  module _ (made : ℕ) where
-    -- the edge borders the face, and has a small corner
-    abbrev may_lose : Edge → Bool
-    may_lose e = has_side made e && has_small_corner ratio area e.points
+  -- where no edge may lose a vertex, none goes
+  none_edges : (before edges : List Edge) → ((e : Edge) → Among e edges → (has_side made e && has_small_corner ratio area e.points) ≡ false) → sweep_edges ratio area made before edges ≡ []
+  none_edges before [] off = refl
+  none_edges before (e ∷ edges) off =
+      by (has_side made e) refl (λ x. none_edges (before ++ x ∷ []) edges (λ f m. off f (inr m)))
+    where
+      next : Bool → List Point
+      next b = elim b [
+        | true ↦
+            (let s = sweep_points ratio area (live_segments before ++ live_segments edges) e.points in
+            s.gone ++ sweep_edges ratio area made (before ++ record e { points = s.kept } ∷ []) edges)
+        | false ↦ sweep_edges ratio area made (before ++ e ∷ []) edges
+      ]
 
-    wide_edge : (before : List Edge) (e : Edge) (edges : List Edge) → has_small_corner ratio area e.points ≡ false → swept_edge ratio area before e edges ≡ e
-    wide_edge before e edges wide =
-        ap (λ (s : Swept). record { key = e.key; left = e.left; right = e.right; points = s.kept }) (wide_points (live_segments before ++ live_segments edges) e.points wide)
+      by : (b : Bool) → has_side made e ≡ b → ((x : Edge) → sweep_edges ratio area made (before ++ x ∷ []) edges ≡ []) → next (has_side made e) ≡ []
+      by true t rest =
+          let wide : has_small_corner ratio area e.points ≡ false = sym (ap (λ (b : Bool). b && has_small_corner ratio area e.points) t) ∙ off e (inl refl) in
+          let s = sweep_points ratio area (live_segments before ++ live_segments edges) e.points in
+          ap next t
+          ∙ ap₂ (λ (xs ys : List Point). xs ++ ys) (ap (λ (s : Swept). s.gone) (all_stay ratio area (live_segments before ++ live_segments edges) e.points wide))
+          (rest (record e { points = s.kept }))
+      by false t rest = ap next t ∙ rest e
 
-    -- one more edge is swept, or passed by
-    abbrev swept_on : List Edge → Edge → List Edge → Bool → List Edge
-    swept_on before e edges b = elim b [
-      | true ↦ swept_edges ratio area made (before ++ swept_edge ratio area before e edges ∷ []) edges
-      | false ↦ swept_edges ratio area made (before ++ e ∷ []) edges
-    ]
-
-    -- an edge that may lose no vertex stays as it is
-    stays_at : (before edges : List Edge) (i j : ℕ) (d : Edge) → j ≡ length before + i → i < length edges
-        → (has_side made (get_or edges i d) && has_small_corner ratio area (get_or edges i d).points) ≡ false
-        → get_or (swept_edges ratio area made before edges) j d ≡ get_or edges i d
-    stays_at before [] i j d at l off = absurd (omega arith)
-    stays_at before (e ∷ edges) zero j d at l off =
-        by (has_side made e) refl
-      where
-        here : (x : Edge) → x ≡ e → get_or (swept_edges ratio area made (before ++ x ∷ []) edges) j d ≡ e
-        here x is =
-            let j_is : j ≡ length before = omega (arith, at) in
-            swept_before ratio area made (before ++ x ∷ []) edges j d (omega (arith, length-append before (x ∷ []), at))
-            ∙ ap (λ (n : ℕ). get_or (before ++ x ∷ []) n d) j_is
-            ∙ get_or-append_seam before x [] d ∙ is
-
-        by : (b : Bool) → has_side made e ≡ b → get_or (swept_on before e edges (has_side made e)) j d ≡ e
-        by true t =
-            let wide : has_small_corner ratio area e.points ≡ false = sym (ap (λ (b : Bool). b && has_small_corner ratio area e.points) t) ∙ off in
-            ap (λ (b : Bool). get_or (swept_on before e edges b) j d) t
-            ∙ here (swept_edge ratio area before e edges) (wide_edge before e edges wide)
-        by false t = ap (λ (b : Bool). get_or (swept_on before e edges b) j d) t ∙ here e refl
-    stays_at before (e ∷ edges) (suc i) j d at l off =
-        by (has_side made e) (λ x. stays_at (before ++ x ∷ []) edges i j d (omega (arith, at, length-append before (x ∷ []))) (omega arith) off)
-      where
-        by : (b : Bool) → ((x : Edge) → get_or (swept_edges ratio area made (before ++ x ∷ []) edges) j d ≡ get_or edges i d) → get_or (swept_on before e edges b) j d ≡ get_or edges i d
-        by true next = next (swept_edge ratio area before e edges)
-        by false next = next e
-
-    -- where no edge may lose a vertex, none goes
-    none_edges : (before edges : List Edge) → ((e : Edge) → Among e edges → (has_side made e && has_small_corner ratio area e.points) ≡ false) → sweep_edges ratio area made before edges ≡ []
-    none_edges before [] off = refl
-    none_edges before (e ∷ edges) off =
-        by (has_side made e) refl (λ x. none_edges (before ++ x ∷ []) edges (λ f m. off f (inr m)))
-      where
-        next : Bool → List Point
-        next b = elim b [
-          | true ↦
-              (let s = sweep_points ratio area (live_segments before ++ live_segments edges) e.points in
-              s.gone ++ sweep_edges ratio area made (before ++ record e { points = s.kept } ∷ []) edges)
-          | false ↦ sweep_edges ratio area made (before ++ e ∷ []) edges
-        ]
-
-        by : (b : Bool) → has_side made e ≡ b → ((x : Edge) → sweep_edges ratio area made (before ++ x ∷ []) edges ≡ []) → next (has_side made e) ≡ []
-        by true t rest =
-            let wide : has_small_corner ratio area e.points ≡ false = sym (ap (λ (b : Bool). b && has_small_corner ratio area e.points) t) ∙ off e (inl refl) in
-            let s = sweep_points ratio area (live_segments before ++ live_segments edges) e.points in
-            ap next t
-            ∙ ap₂ (λ (xs ys : List Point). xs ++ ys) (ap (λ (s : Swept). s.gone) (wide_points (live_segments before ++ live_segments edges) e.points wide))
-            (rest (record e { points = s.kept }))
-        by false t rest = ap next t ∙ rest e
-
-    pub none_swept : (edges : List Edge) → ((e : Edge) → Among e edges → (has_side made e && has_small_corner ratio area e.points) ≡ false) → sweep ratio area made edges ≡ []
-    unfolding sweep
-    none_swept edges off = by (ratio == 0)
-      where
-        by : (b : Bool) → cond b [] (sweep_edges ratio area made [] edges) ≡ []
-        by true = refl
-        by false = none_edges [] edges off
+  pub none_swept : (edges : List Edge) → ((e : Edge) → Among e edges → (has_side made e && has_small_corner ratio area e.points) ≡ false) → sweep ratio area made edges ≡ []
+  unfolding sweep
+  none_swept edges off = by (ratio == 0)
+    where
+      by : (b : Bool) → cond b [] (sweep_edges ratio area made [] edges) ≡ []
+      by true = refl
+      by false = none_edges [] edges off
 
 -- ---- a step
 

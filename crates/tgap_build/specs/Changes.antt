@@ -1,5 +1,5 @@
 -- What a step changes in the edges that are kept while the history is run.
-use Rattle.std.specs.Prelude.{◌≡◌, ◌<◌, ◌≤◌, ℕ, ◌+◌, ◌-◌, ◌==◌, nat_lt, Bool, false, ◌&&◌, ◌||◌, not, List, [], ◌∷◌, ◌++◌, map, filter, flat_map, fold, length, All, AllPairs, Contains, IsPermutation, option_to_list, Option, if◌then◌else◌}
+use Rattle.std.specs.Prelude.{◌≡◌, ◌<◌, ◌≤◌, ℕ, ◌+◌, ◌-◌, ◌==◌, nat_lt, Bool, false, ◌&&◌, ◌||◌, not, List, [], ◌∷◌, ◌++◌, map, filter, length, All, Contains, IsPermutation, Option, if◌then◌else◌}
 use Rattle.std.specs.List.{list_any, range_with_len}
 use Rattle.tgap_model.specs.declared.geometry.Point.{Point}
 use Rattle.tgap_model.specs.declared.merge.MergeStep.{MergeStep}
@@ -19,8 +19,7 @@ use Rattle.edge_forest.specs.Forest.{EdgeForest, IsForest}
 use Rattle.tgap_build.specs.declared.edge_table.EdgeTable.{EdgeTable}
 use Rattle.tgap_build.specs.declared.joined.OldEdge.{OldEdge}
 use Rattle.tgap_build.specs.declared.live_edges.Made.{Made}
-use Rattle.tgap_build.specs.EdgeTable.{edge_in}
-use Rattle.tgap_build.specs.Table.{faced, labelled_edges, IsTable, edge_with, left_by, with_points}
+use Rattle.tgap_build.specs.Table.{faced, labelled_edges, IsTable, edge_with, left_by}
 use Rattle.tgap_build.specs.Running.{has_any, less}
 
 -- ---- the forest
@@ -101,13 +100,9 @@ pub record HasJoined (h : MergedMap) (k : ℕ) (left : List Edge) (born : List C
   pub edges : IsPermutation (filter (λ e. not (is_part_of (chains_at h (k - 1)) born e.key)) left ++ new) (labelled_edges t)
   pub new_faces : map (faced t.labels) new ≡ edges_of h k (removals_to h (k - 1)) born
 
--- these edges, as they stand at the places of their keys
-abbrev pub come_of : List (Option Edge) → List Made → List Edge
-come_of places made = flat_map (λ one. option_to_list (edge_in places one.key)) made
-
--- Of edges in order of key those with some keys go, others come, and then these are there, which can be looked up.
-pub record IsExchange (edges : List Edge) (gone : List ℕ) (come after : List Edge) : Type 0 where
-  pub ascending : AllPairs (λ e f. e.key < f.key) edges
+-- Of edges those with some keys go, others come, and then these are there, which can be looked up. A key that goes may be told
+-- more than once.
+pub record IsChange (edges : List Edge) (gone : List ℕ) (come after : List Edge) : Type 0 where
   pub there : All (Contains (keys edges)) gone
   pub moved : IsPermutation (without_keys gone edges ++ come) after
   pub live : AreLive after
@@ -118,9 +113,9 @@ pub record IsExchange (edges : List Edge) (gone : List ℕ) (come after : List E
 abbrev pub less_where : List Point → (Edge → Bool) → Edge → Edge
 less_where gone p e = if p e then less gone e else e
 
--- the points of edges stand at those with their keys
-abbrev pub with_all : List Edge → List Edge → List Edge
-with_all come edges = fold (λ es e. map (with_points e.key e.points) es) edges come
+-- the same where it has one of these keys
+abbrev pub less_at : List Point → List ℕ → Edge → Edge
+less_at gone ks e = less_where gone (λ e. list_any (λ k. k == e.key) ks) e
 
 -- ---- mends
 

@@ -1,6 +1,6 @@
 pub mod Built
 pub mod Running
-pub mod EdgeTable
+pub mod Sought
 pub mod Table
 pub mod OldEdges
 pub mod Boxes

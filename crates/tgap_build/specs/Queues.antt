@@ -3,10 +3,10 @@ use Rattle.std.specs.Prelude.{◌≡◌, ℕ, Bool, true, false, nat_le, List, [
 use Rattle.std.specs.declared.cmp.Reverse.{Reverse}
 use Rattle.tgap_model.specs.declared.slice.Edge.{Edge}
 use Rattle.tgap_model.specs.Removals.{has_side}
+use Rattle.grid_index.specs.Keyed.{edge_in}
 use Rattle.vertex_drop.specs.Corners.{least_corner}
 use Rattle.tgap_build.specs.declared.corner_queue.Entry.{Entry}
 use Rattle.tgap_build.specs.declared.corner_queues.CornerQueues.{CornerQueues}
-use Rattle.tgap_build.specs.EdgeTable.{edge_in}
 use Rattle.tgap_build.specs.Queue.{is_queued}
 
 -- ---- what they tell

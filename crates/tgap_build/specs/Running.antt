@@ -1,5 +1,5 @@
 -- The edges of the last step, which are kept while the history is run.
-use Rattle.std.specs.Prelude.{◌≡◌, ◌≢◌, ℕ, ◌+◌, Bool, true, not, List, filter, length, Contains, All, AllPairs}
+use Rattle.std.specs.Prelude.{◌≡◌, ℕ, ◌+◌, Bool, true, not, List, filter, length}
 use Rattle.std.specs.List.{list_any}
 use Rattle.tgap_model.specs.declared.geometry.Point.{Point}
 use Rattle.tgap_model.specs.declared.merge.MergeStep.{MergeStep}
@@ -10,7 +10,6 @@ use Rattle.tgap_model.specs.History.{relabel}
 use Rattle.tgap_model.specs.Merged.{merged, is_live}
 use Rattle.tgap_model.specs.Chains.{chains_at}
 use Rattle.tgap_model.specs.Removals.{edges_of}
-use Rattle.grid_index.specs.Live.{keys, without_keys, IsLiveEdge}
 use Rattle.edge_forest.specs.FaceLabels.{HasLabel}
 use Rattle.edge_forest.specs.Forest.{EdgeForest, IsForest, last_step}
 use Rattle.tgap_build.specs.declared.edge_table.EdgeTable.{EdgeTable}
@@ -34,14 +33,6 @@ pub record AreRunning (f : EdgeForest) (k : ℕ) (removals : List Removal) (t : 
 -- the edge with its faces after the step
 abbrev pub relabelled : MergeStep → Edge → Edge
 relabelled s e = record { key = e.key; left = relabel s e.left; right = relabel s e.right; points = e.points }
-
--- Edges that may come in place of those with some keys: no two edges have one key then.
-pub record IsReplacement (edges : List Edge) (gone : List ℕ) (come : List Edge) : Type 0 where
-  pub there : All (Contains (keys edges)) gone
-  pub apart : AllPairs (λ k l. k ≢ l) gone
-  pub fresh : All (λ e. ¬ (Contains (keys (without_keys gone edges)) e.key)) come
-  pub distinct : AllPairs (λ e f. e.key ≢ f.key) come
-  pub live : All IsLiveEdge come
 
 -- ---- the removal
 

@@ -5,11 +5,11 @@ use Rattle.tgap_model.specs.declared.merge.MergeStep.{MergeStep}
 use Rattle.tgap_model.specs.declared.slice.Edge.{Edge}
 use Rattle.tgap_model.specs.Removals.{has_side}
 use Rattle.tgap_model.specs.Records.{is_edge_between}
+use Rattle.grid_index.specs.Keyed.{edge_in, edges_in, AreAtKeys}
 use Rattle.edge_forest.specs.declared.face_labels.FaceLabels.{FaceLabels}
 use Rattle.edge_forest.specs.FaceLabels.{face_of, label_of, IsCurrent}
 use Rattle.tgap_build.specs.declared.edge_table.EdgeTable.{EdgeTable}
 use Rattle.tgap_build.specs.declared.joined.OldEdge.{OldEdge}
-use Rattle.tgap_build.specs.EdgeTable.{edge_in, edges_in, AreAtKeys}
 
 -- ---- what a table has
 
@@ -111,9 +111,3 @@ joined_edge places k parts = record { key = k; left = (edge_with places k).left;
 
 abbrev pub old_keys : List OldEdge → List ℕ
 old_keys parts = map (λ p. p.key) parts
-
--- ---- other points
-
--- the edge with this key gets these points
-abbrev pub with_points : ℕ → List Point → Edge → Edge
-with_points k points e = if e.key == k then record { key = e.key; left = e.left; right = e.right; points = points } else e

@@ -3,17 +3,20 @@
 ghost use Rattle.std.specs.Prelude.{◌≡◌, ◌≢◌, ◌<◌, ◌↔◌, ◌++◌, ◌∷◌, [], ℕ, None, filter, map, length, replicate, set, reverse, option_map, option_to_list, All, AllPairs, Contains, IsPermutation, IfOk, OnOk, not};
 ghost use Rattle.tgap_model.specs.Removals.{has_side};
 ghost use Rattle.tgap_model.specs.Records.{is_edge_between};
+ghost use Rattle.grid_index.specs.Keyed.{edge_in, edges_in, AreAtKeys};
 ghost use Rattle.grid_index.specs.Live.{keys, without_keys};
 ghost use Rattle.edge_forest.specs.FaceLabels.{label_of, HasLabel, IsCurrent};
-ghost use Rattle.tgap_build.specs.EdgeTable.{edge_in, edges_in, AreAtKeys};
-ghost use Rattle.tgap_build.specs.Running.{relabelled};
-ghost use Rattle.tgap_build.specs.Table.{faced, labelled_edges, table_edges, IsTable, HaveSameRoom, left_by, moved_label, moved_edge, has_both, has_first, place_after, lists_after, oriented, glued, edge_with, joined_row, joined_edge, old_keys, with_points};
+ghost use Rattle.tgap_build.specs.Running.{relabelled, less};
+ghost use Rattle.tgap_build.specs.Table.{faced, labelled_edges, table_edges, IsTable, HaveSameRoom, left_by, moved_label, moved_edge, has_both, has_first, place_after, lists_after, oriented, glued, edge_with, joined_row, joined_edge, old_keys};
+ghost use Rattle.tgap_build.specs.Changes.{less_at};
 
 use crate::joined::OldEdge;
+use crate::point_set::PointSet;
+use crate::room::trimmed;
 use edge_forest::FaceLabels;
 use std::alloc::Global;
 use std::mem;
-use tgap_model::{Edge, List, Memory, MergeStep, Point, copied_edge};
+use tgap_model::{Edge, List, Memory, MergeStep, Point};
 
 /// Edges, each at the place of its key, and for each label the keys of the edges that have it at a side, and maybe of others. An
 /// edge has labels where it would have faces.
@@ -72,7 +75,7 @@ fn moved_label(from: u32, to: u32, label: u32) -> u32
     if label == from { to } else { label }
 }
 
-/// The edge with its faces in place of their labels.
+/// The edge with its faces in place of their labels, without room for more points.
 fn faced(labels: &FaceLabels, edge: Edge) -> Edge
     requires left { edge.left < length labels.now.faces.items }
     requires right { edge.right < length labels.now.faces.items }
@@ -82,7 +85,19 @@ fn faced(labels: &FaceLabels, edge: Edge) -> Edge
         key: edge.key,
         left: labels.face(edge.left),
         right: labels.face(edge.right),
-        points: edge.points,
+        points: trimmed(edge.points),
+    }
+}
+
+/// The edge less the points of the set.
+fn less(gone: &PointSet, edge: Edge) -> Edge
+    ensures { result ≡ less gone.now edge }
+{
+    Edge {
+        key: edge.key,
+        left: edge.left,
+        right: edge.right,
+        points: gone.left_of(edge.points),
     }
 }
 
@@ -259,7 +274,11 @@ impl EdgeTable {
             self.merge_edge(loser, winner, *key, &mut merging)?;
         }
         self.labels.merge(step);
-        Ok(merging)
+        let Merging { ended, losing } = merging;
+        Ok(Merging {
+            ended: trimmed(ended),
+            losing,
+        })
     }
 
     /// The labels at the left and at the right of the edge with this key.
@@ -297,23 +316,32 @@ impl EdgeTable {
         Ok(())
     }
 
-    /// Gives the edge with this key other points.
-    pub fn set_points(&mut self, key: u32, points: List<Point>)
+    /// Takes the points of a set out of the edge with this key, if there is one.
+    fn take_points(&mut self, key: u32, gone: &PointSet)
         requires table { IsTable self.old }
         requires key { key < length self.old.places.items }
         ensures table { IsTable self.new }
-        ensures edges { labelled_edges self.new ≡ map (with_points key points) (labelled_edges self.old) }
+        ensures edges { labelled_edges self.new ≡ map (less_at gone.now (key ∷ [])) (labelled_edges self.old) }
         ensures labels { self.new.labels ≡ self.old.labels }
         ensures room { HaveSameRoom self.old self.new }
     {
         if let Some(edge) = self.places[key as usize].take() {
-            let edge = Edge {
-                key: edge.key,
-                left: edge.left,
-                right: edge.right,
-                points,
-            };
+            let edge = less(gone, edge);
             self.places[key as usize] = Some(edge);
+        }
+    }
+
+    /// Takes the points of a set out of the edges with these keys.
+    pub fn remove_points(&mut self, losing: &[u32], gone: &PointSet)
+        requires table { IsTable self.old }
+        requires room { All (λ k. k < length self.old.places.items) losing.now }
+        ensures table { IsTable self.new }
+        ensures edges { labelled_edges self.new ≡ map (less_at gone.now losing.now) (labelled_edges self.old) }
+        ensures labels { self.new.labels ≡ self.old.labels }
+        ensures room { HaveSameRoom self.old self.new }
+    {
+        for key in losing {
+            self.take_points(*key, gone);
         }
     }
 
@@ -326,6 +354,13 @@ impl EdgeTable {
             Some(edge) => Some(&edge.points),
             None => None,
         }
+    }
+
+    /// The edges with their labels, each at the place of its key.
+    pub fn places(&self) -> &[Option<Edge>]
+        ensures { result.now ≡ self.now.places.items }
+    {
+        self.places.as_slice()
     }
 
     /// The edge with this key, if there is one, with its labels.
@@ -364,29 +399,5 @@ impl EdgeTable {
         ensures { result ≡ label_of self.now.labels face }
     {
         self.labels.label(face)
-    }
-
-    /// Appends a copy of the edge with this key, if there is one, with its labels.
-    pub fn push_copy(&self, alloc: Global, key: u32, copies: &mut List<Edge>) -> Result<(), Memory>
-        requires { key < length self.now.places.items }
-        ensures { OnOk result (copies.new ≡ copies.old ++ option_to_list (edge_in self.now.places.items key)) }
-    {
-        if let Some(edge) = &self.places[key as usize] {
-            copies.push(copied_edge(alloc, edge)?)?;
-        }
-        Ok(())
-    }
-
-    /// Copies of all edges, in order of key, with their labels.
-    pub fn copies(&self, alloc: Global) -> Result<List<Edge>, Memory>
-        ensures { IfOk result (λ copies. copies ≡ labelled_edges self.now) }
-    {
-        let mut copies = List::new(alloc);
-        for place in &self.places {
-            if let Some(edge) = place {
-                copies.push(copied_edge(alloc, edge)?)?;
-            }
-        }
-        Ok(copies)
     }
 }

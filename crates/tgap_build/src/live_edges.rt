@@ -1,6 +1,6 @@
 //! The edges of the last step, which are kept while the history is run.
 
-ghost use Rattle.std.specs.Prelude.{◌≡◌, ◌<◌, ◌≤◌, ℕ, ◌+◌, ◌-◌, ◌^◌, ◌==◌, ◌++◌, ◌∷◌, [], true, false, not, List as Sequence, Bool, map, filter, flat_map, sum_by, length, get_or, option_to_list, All, AllPairs, IfOk, OnOk, if◌then◌else◌};
+ghost use Rattle.std.specs.Prelude.{◌≡◌, ◌<◌, ◌≤◌, ℕ, ◌+◌, ◌-◌, ◌^◌, ◌==◌, ◌++◌, ◌∷◌, [], true, false, not, List as Sequence, Bool, map, filter, flat_map, sum_by, length, get_or, All, AllPairs, Contains, IfOk, OnOk, if◌then◌else◌};
 ghost use Rattle.std.specs.List.{list_any};
 ghost use Rattle.std.specs.List.Sorted.{IsNonDecreasing};
 ghost use Rattle.tgap_model.specs.declared.slice.Edge.{Edge as Line};
@@ -9,17 +9,18 @@ ghost use Rattle.tgap_model.specs.Chains.{key as chain_key, chains_at};
 ghost use Rattle.tgap_model.specs.Removals.{edges_of, removals_to};
 ghost use Rattle.tgap_model.specs.Records.{is_edge_between, runs};
 ghost use Rattle.record_laws.specs.RunLaws.{chain_of_run};
+ghost use Rattle.grid_index.specs.Keyed.{edge_in, edges_at, AreAtKeys};
 ghost use Rattle.grid_index.specs.Live.{keys, AreLive};
 ghost use Rattle.face_tree.specs.Tree.{face_history};
 ghost use Rattle.edge_forest.specs.Continued.{AreJoined};
 ghost use Rattle.edge_forest.specs.Edges.{edge_at, chain_of, is_alive};
 ghost use Rattle.edge_forest.specs.Forest.{IsForest};
 ghost use Rattle.tgap_build.specs.Built.{HasRemoved};
-ghost use Rattle.tgap_build.specs.EdgeTable.{edge_in, IsSought};
 ghost use Rattle.tgap_build.specs.Queues.{IsCornered};
-ghost use Rattle.tgap_build.specs.Running.{AreRunning, less};
+ghost use Rattle.tgap_build.specs.Running.{AreRunning};
+ghost use Rattle.tgap_build.specs.Sought.{IsSought};
 ghost use Rattle.tgap_build.specs.Table.{labelled_edges, IsTable, HaveSameRoom, old_keys};
-ghost use Rattle.tgap_build.specs.Changes.{HasGrown, born_chains, part_pieces, count_at, side_with, losing_keys, made_of, is_changed, HasJoined, whole_of, part_keys, come_of, IsExchange, less_where, with_all};
+ghost use Rattle.tgap_build.specs.Changes.{HasGrown, born_chains, part_pieces, count_at, side_with, losing_keys, made_of, is_changed, HasJoined, whole_of, part_keys, IsChange, less_at};
 
 use crate::corner_queues::{CornerQueues, requeue};
 use crate::edge_table::{EdgeTable, Merging, in_order};
@@ -29,7 +30,7 @@ use crate::point_set::PointSet;
 use crate::sought::sought_after;
 use edge_forest::Forest;
 use face_tree::FaceTree;
-use grid_index::Live;
+use grid_index::SegmentIndex;
 use std::alloc::Global;
 use tgap_model::{Edge, List, Memory, MergeStep, Piece};
 
@@ -38,7 +39,7 @@ use tgap_model::{Edge, List, Memory, MergeStep, Piece};
 #[derive(Debug, Drop)]
 pub struct LiveEdges {
     pub edges: EdgeTable,
-    pub sought: Option<Live>,
+    pub sought: Option<SegmentIndex>,
     pub corners: Option<CornerQueues>,
 }
 
@@ -103,7 +104,7 @@ fn pieces_of(
     requires losing { IsNonDecreasing losing.now }
     ensures { IfOk result (λ pieces. pieces ≡ part_pieces (count_at edges.now.places.items) (side_with step.now losing.now) 0 parts.now) }
 {
-    let mut pieces = List::new(alloc);
+    let mut pieces = List::with_capacity(alloc, parts.len())?;
     let mut last = 0;
     for i in 0..parts.len() {
         let part = parts[i];
@@ -182,28 +183,16 @@ fn all_keys(
     joined: &[u32],
     losing: &[u32],
     ended: &[Edge],
-) -> Result<List<u32>, Memory>
-    ensures ascending { IfOk result (λ all. AllPairs (λ j k. j < k) all) }
-    ensures same { IfOk result (λ all. (i : ℕ) → list_any (λ k. k == i) all ≡ list_any (λ k. k == i) (joined.now ++ losing.now ++ keys ended.now)) }
+) -> Result<Vec<u32>, Memory>
+    ensures ascending { IfOk result (λ all. AllPairs (λ j k. j < k) all.items) }
+    ensures same { IfOk result (λ all. (i : ℕ) → list_any (λ k. k == i) all.items ≡ list_any (λ k. k == i) (joined.now ++ losing.now ++ keys ended.now)) }
 {
     let mut all = Vec::from_slice(alloc, joined)?;
     all.extend_from_slice(losing)?;
     for edge in ended {
         all.push(edge.key)?;
     }
-    Ok(List::from(in_order(List::from(all))))
-}
-
-/// Copies of these edges as they stand in the table.
-fn come_of(alloc: Global, edges: &EdgeTable, made: &[Made]) -> Result<List<Edge>, Memory>
-    requires { All (λ one. one.key < length edges.now.places.items) made.now }
-    ensures { IfOk result (λ come. come ≡ come_of edges.now.places.items made.now) }
-{
-    let mut come = List::new(alloc);
-    for one in made {
-        edges.push_copy(alloc, one.key, &mut come)?;
-    }
-    Ok(come)
+    Ok(in_order(List::from(all)))
 }
 
 /// The keys of these edges.
@@ -215,54 +204,6 @@ pub fn made_keys(alloc: Global, made: &[Made]) -> Result<Vec<u32>, Memory>
         found.push(one.key)?;
     }
     Ok(found)
-}
-
-/// The keys of these edges.
-pub fn keys_of(alloc: Global, edges: &[Edge]) -> Result<List<u32>, Memory>
-    ensures { IfOk result (λ found. found ≡ keys edges.now) }
-{
-    let mut found = List::with_capacity(alloc, edges.len())?;
-    for edge in edges {
-        found.push(edge.key)?;
-    }
-    Ok(found)
-}
-
-/// The edge less the points of the set.
-fn less(alloc: Global, gone: &PointSet, edge: &Edge) -> Result<Edge, Memory>
-    ensures { IfOk result (λ after. after ≡ less gone.now edge.now) }
-{
-    Ok(Edge {
-        key: edge.key,
-        left: edge.left,
-        right: edge.right,
-        points: gone.left_of(alloc, edge.points.as_slice())?,
-    })
-}
-
-/// These edges less the points of the set.
-fn less_edges(alloc: Global, gone: &PointSet, edges: &[Edge]) -> Result<List<Edge>, Memory>
-    ensures { IfOk result (λ come. come ≡ map (less gone.now) edges.now) }
-{
-    let mut come = List::with_capacity(alloc, edges.len())?;
-    for edge in edges {
-        come.push(less(alloc, gone, edge)?)?;
-    }
-    Ok(come)
-}
-
-/// Gives the edges of the table that have the keys of these their points.
-fn set_all(table: &mut EdgeTable, edges: List<Edge>)
-    requires table { IsTable table.old }
-    requires room { All (λ e. e.key < length table.old.places.items) edges }
-    ensures table { IsTable table.new }
-    ensures edges { labelled_edges table.new ≡ with_all edges (labelled_edges table.old) }
-    ensures labels { table.new.labels ≡ table.old.labels }
-    ensures room { HaveSameRoom table.old table.new }
-{
-    for edge in edges.into_vec() {
-        table.set_points(edge.key, edge.points);
-    }
 }
 
 impl LiveEdges {
@@ -364,30 +305,29 @@ impl LiveEdges {
     }
 
     /// Brings the look-up up to a step, where there is one, in the time of the edges that ended, were joined, had the
-    /// loser at a side or are new.
+    /// loser at a side or are new. Those that are new or had the loser at a side have the keys of `come`.
     fn seek(
         &mut self,
         alloc: Global,
         joined: &[u32],
         losing: &[u32],
         ended: &[Edge],
-        made: &[Made],
+        come: &[u32],
     ) -> Result<(), Memory>
-        requires room { All (λ one. one.key < length self.old.edges.places.items) made.now }
+        requires keyed { AreAtKeys self.old.edges.places.items }
         requires sought { (before : Sequence Line) × IsSought before self.old.sought
-            × IsExchange before (joined.now ++ losing.now ++ keys ended.now) (come_of self.old.edges.places.items made.now) (labelled_edges self.old.edges) }
+            × IsChange before (joined.now ++ losing.now ++ keys ended.now) (edges_at self.old.edges.places.items come.now) (labelled_edges self.old.edges) }
         ensures edges { self.new.edges ≡ self.old.edges }
         ensures corners { self.new.corners ≡ self.old.corners }
         ensures sought { (before : Sequence Line) → IsSought before self.old.sought
-            → IsExchange before (joined.now ++ losing.now ++ keys ended.now) (come_of self.old.edges.places.items made.now) (labelled_edges self.old.edges)
+            → IsChange before (joined.now ++ losing.now ++ keys ended.now) (edges_at self.old.edges.places.items come.now) (labelled_edges self.old.edges)
             → OnOk result (IsSought (labelled_edges self.old.edges) self.new.sought) }
     {
         if self.sought.is_none() {
             return Ok(());
         }
         let gone = all_keys(alloc, joined, losing, ended)?;
-        let come = come_of(alloc, &self.edges, made)?;
-        self.sought = sought_after(alloc, self.sought.take(), &gone, come.as_slice())?;
+        sought_after(alloc, &mut self.sought, &gone, &self.edges, come)?;
         Ok(())
     }
 
@@ -431,32 +371,30 @@ impl LiveEdges {
             &mut made,
         )?;
         made.sort_unstable_by_key(|one| one.key);
-        self.seek(alloc, &joined, &losing, ended.as_slice(), &made)?;
         let keys = made_keys(alloc, &made)?;
+        self.seek(alloc, &joined, &losing, ended.as_slice(), &keys)?;
         requeue(&self.edges, &mut self.corners, &keys)?;
         Ok(Changed { ended, made })
     }
 
-    /// Takes points out of these edges of the table, which have some of the set.
-    pub fn remove(&mut self, alloc: Global, losing: &[Edge], gone: &PointSet) -> Result<(), Memory>
+    /// Takes points of a set out of the edges with these keys, in the time of their points.
+    pub fn remove(&mut self, alloc: Global, losing: &[u32], gone: &PointSet) -> Result<(), Memory>
         requires table { IsTable self.old.edges }
-        requires losing { (p : Line → Bool) × (losing.now ≡ filter p (labelled_edges self.old.edges)) }
-        requires live { (p : Line → Bool) → losing.now ≡ filter p (labelled_edges self.old.edges) → AreLive (map (less_where gone.now p) (labelled_edges self.old.edges)) }
+        requires ascending { AllPairs (λ j k. j < k) losing.now }
+        requires there { All (Contains (keys (labelled_edges self.old.edges))) losing.now }
+        requires live { AreLive (map (less_at gone.now losing.now) (labelled_edges self.old.edges)) }
         requires sought { IsSought (labelled_edges self.old.edges) self.old.sought }
         requires corners { IsCornered (length self.old.edges.beside.items) (labelled_edges self.old.edges) self.old.corners }
-        ensures edges { (p : Line → Bool) → losing.now ≡ filter p (labelled_edges self.old.edges)
-            → OnOk result (labelled_edges self.new.edges ≡ map (less_where gone.now p) (labelled_edges self.old.edges)) }
+        ensures edges { OnOk result (labelled_edges self.new.edges ≡ map (less_at gone.now losing.now) (labelled_edges self.old.edges)) }
         ensures table { OnOk result (IsTable self.new.edges) }
         ensures labels { OnOk result (self.new.edges.labels ≡ self.old.edges.labels) }
         ensures room { OnOk result (HaveSameRoom self.old.edges self.new.edges) }
         ensures sought { OnOk result (IsSought (labelled_edges self.new.edges) self.new.sought) }
         ensures corners { OnOk result (IsCornered (length self.new.edges.beside.items) (labelled_edges self.new.edges) self.new.corners) }
     {
-        let keys = keys_of(alloc, losing)?;
-        let come = less_edges(alloc, gone, losing)?;
-        self.sought = sought_after(alloc, self.sought.take(), &keys, come.as_slice())?;
-        set_all(&mut self.edges, come);
-        requeue(&self.edges, &mut self.corners, keys.as_slice())?;
+        self.edges.remove_points(losing, gone);
+        sought_after(alloc, &mut self.sought, losing, &self.edges, losing)?;
+        requeue(&self.edges, &mut self.corners, losing)?;
         Ok(())
     }
 }

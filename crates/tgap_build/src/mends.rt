@@ -13,6 +13,7 @@ ghost use Rattle.tgap_build.specs.Changes.{count_at, made_mends};
 use crate::edge_table::EdgeTable;
 use crate::live_edges::Made;
 use crate::point_set::PointSet;
+use crate::room::trimmed;
 use std::alloc::Global;
 use tgap_model::{List, Memory, Mend, MergeStep, Piece, Point, Put};
 
@@ -32,7 +33,7 @@ fn puts_of(alloc: Global, gone: &PointSet, points: &[Point]) -> Result<List<Put>
             })?;
         }
     }
-    Ok(puts)
+    Ok(trimmed(puts))
 }
 
 /// The vertices that come back of the points of the edge with this key.
@@ -93,5 +94,5 @@ pub fn mends_of(
             mends.push(mend)?;
         }
     }
-    Ok(mends)
+    Ok(trimmed(mends))
 }

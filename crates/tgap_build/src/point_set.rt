@@ -83,16 +83,12 @@ impl PointSet {
         false
     }
 
-    /// Those of these points that are none of the set, in their order.
-    pub fn left_of(&self, alloc: Global, points: &[Point]) -> Result<List<Point>, Memory>
-        ensures { IfOk result (λ left. left ≡ filter (λ p. not (has_point self.now p)) points.now) }
+    /// Those of the points that are none of the set, in their order.
+    pub fn left_of(&self, points: List<Point>) -> List<Point>
+        ensures { result ≡ filter (λ p. not (has_point self.now p)) points }
     {
-        let mut left = List::with_capacity(alloc, points.len())?;
-        for point in points {
-            if !self.holds(point) {
-                left.push(*point)?;
-            }
-        }
-        Ok(left)
+        let mut left = points.into_vec();
+        left.retain(|point| !self.holds(point));
+        List::from(left)
     }
 }

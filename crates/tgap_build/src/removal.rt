@@ -7,81 +7,80 @@ ghost use Rattle.tgap_model.specs.Merged.{merged, step_number, face_area};
 ghost use Rattle.tgap_model.specs.Chains.{chains_at};
 ghost use Rattle.tgap_model.specs.Removals.{removals_to};
 ghost use Rattle.tgap_model.specs.Records.{step_record};
+ghost use Rattle.grid_index.specs.Keyed.{edge_in};
 ghost use Rattle.grid_index.specs.Live.{keys};
 ghost use Rattle.face_tree.specs.Tree.{face_history};
 ghost use Rattle.edge_forest.specs.Forest.{last_step};
 ghost use Rattle.tgap_build.specs.Built.{HasRemoved};
-ghost use Rattle.tgap_build.specs.EdgeTable.{edge_in, IsSought};
 ghost use Rattle.tgap_build.specs.Queues.{IsCornered};
-ghost use Rattle.tgap_build.specs.Table.{labelled_edges};
 ghost use Rattle.tgap_build.specs.Running.{AreRunning, has_any};
+ghost use Rattle.tgap_build.specs.Sought.{IsSought};
+ghost use Rattle.tgap_build.specs.Table.{labelled_edges};
 ghost use Rattle.tgap_build.specs.Changes.{count_at, whole_of, made_of, is_changed};
 
 use crate::corner_queues::candidates;
 use crate::edge_table::EdgeTable;
-use crate::live_edges::{Changed, LiveEdges, Made, keys_of, made_keys, push_whole};
+use crate::live_edges::{Changed, LiveEdges, Made, made_keys, push_whole};
 use crate::mends::mends_of;
 use crate::point_set::PointSet;
 use crate::sought::swept;
 use edge_forest::Forest;
 use face_tree::FaceTree;
 use std::alloc::Global;
-use tgap_model::{Edge, List, Memory, Mend, MergeStep, StepRecord, copied_edge};
+use tgap_model::{List, Memory, Mend, MergeStep, StepRecord};
 
-/// Appends a copy of the edge with this key, if there is one and it has a point of the set.
+/// Appends this key, if there is an edge with it that has a point of the set.
 fn push_losing(
-    alloc: Global,
     gone: &PointSet,
     edges: &EdgeTable,
     key: u32,
-    losing: &mut List<Edge>,
+    losing: &mut Vec<u32>,
 ) -> Result<(), Memory>
-    ensures { OnOk result (losing.new ≡ losing.old ++ filter (has_any gone.now) (option_to_list (edge_in edges.now.places.items key))) }
+    ensures { OnOk result (losing.new.items ≡ losing.old.items ++ keys (filter (has_any gone.now) (option_to_list (edge_in edges.now.places.items key)))) }
 {
     if let Some(edge) = edges.edge(key) {
         if gone.holds_any(edge.points.as_slice()) {
-            losing.push(copied_edge(alloc, edge)?)?;
+            losing.push(edge.key)?;
         }
     }
     Ok(())
 }
 
-/// Copies of those of the edges with these keys that have a point of the set.
+/// Those of these keys whose edges have a point of the set.
 fn losing(
     alloc: Global,
     gone: &PointSet,
     edges: &EdgeTable,
-    keys: &[u32],
-) -> Result<List<Edge>, Memory>
-    ensures { IfOk result (λ losing. losing ≡ flat_map (λ k. filter (has_any gone.now) (option_to_list (edge_in edges.now.places.items k))) keys.now) }
+    among: &[u32],
+) -> Result<Vec<u32>, Memory>
+    ensures { IfOk result (λ losing. losing.items ≡ flat_map (λ k. keys (filter (has_any gone.now) (option_to_list (edge_in edges.now.places.items k)))) among.now) }
 {
-    let mut losing = List::new(alloc);
-    for key in keys {
-        push_losing(alloc, gone, edges, *key, &mut losing)?;
+    let mut losing = Vec::new(alloc);
+    for key in among {
+        push_losing(gone, edges, *key, &mut losing)?;
     }
     Ok(losing)
 }
 
-/// These edges, which stand in order of key, and those that lose a point, as the pieces of which they are made, in
-/// order of key.
+/// These edges, which stand in order of key, and those with the keys of `losing`, as the pieces of which they are made,
+/// in order of key.
 fn with_losing(
     alloc: Global,
     edges: &EdgeTable,
     step: &MergeStep,
     made: Vec<Made>,
-    losing: &[Edge],
+    losing: &[u32],
 ) -> Result<Vec<Made>, Memory>
-    requires room { All (λ e. e.key < length edges.now.places.items) losing.now }
+    requires room { All (λ k. k < length edges.now.places.items) losing.now }
     requires few { (i : ℕ) → count_at edges.now.places.items i < 2 ^ 32 }
     requires order { IsNonDecreasing (map (λ one. one.key) made.items) }
     ensures moved { IfOk result (λ all. IsPermutation
-        (made.items ++ map (whole_of edges.now.places.items step.now []) (filter (λ i. not (list_any (λ j. j == i) (map (λ one. one.key) made.items))) (keys losing.now))) all.items) }
+        (made.items ++ map (whole_of edges.now.places.items step.now []) (filter (λ i. not (list_any (λ j. j == i) (map (λ one. one.key) made.items))) losing.now)) all.items) }
     ensures order { IfOk result (λ all. IsNonDecreasingBy (λ one. one.key) all.items) }
 {
     let mut all = made;
     let others = made_keys(alloc, &all)?;
-    let keys = keys_of(alloc, losing)?;
-    push_whole(alloc, edges, step, &[], keys.as_slice(), &others, &mut all)?;
+    push_whole(alloc, edges, step, &[], losing, &others, &mut all)?;
     all.sort_unstable_by_key(|one| one.key);
     Ok(all)
 }
@@ -142,10 +141,10 @@ fn remove_vertices(
     )?;
     let gone = PointSet::of(alloc, removals.as_slice())?;
     let losing = losing(alloc, &gone, &live.edges, &keys)?;
-    let made = with_losing(alloc, &live.edges, step, made, losing.as_slice())?;
+    let made = with_losing(alloc, &live.edges, step, made, &losing)?;
     let mends = mends_of(alloc, &live.edges, step, made, &gone)?;
     forest.remove(&removals);
-    live.remove(alloc, losing.as_slice(), &gone)?;
+    live.remove(alloc, &losing, &gone)?;
     Ok(mends)
 }
 

@@ -1,51 +1,61 @@
 //! The look-up of the segments of the edges, which a sweep asks. It is made when a step may remove a vertex for the
-//! first time.
+//! first time. The edges themselves stand in the table alone.
 
-ghost use Rattle.std.specs.Prelude.{◌≡◌, ◌<◌, ◌++◌, true, List as Sequence, map, All, AllPairs, Contains, IsPermutation, IfOk, OnOk};
+ghost use Rattle.std.specs.Prelude.{◌≡◌, ◌<◌, true, List as Sequence, map, All, AllPairs, Contains, IfOk, OnOk};
 ghost use Rattle.tgap_model.specs.declared.slice.Edge.{Edge as Line};
 ghost use Rattle.tgap_model.specs.Removals.{has_side, sweep};
-ghost use Rattle.grid_index.specs.Live.{without_keys, AreLive};
+ghost use Rattle.grid_index.specs.Keyed.{AreAtKeys, edges_at, IsExchange};
+ghost use Rattle.grid_index.specs.Live.{AreLive};
+ghost use Rattle.grid_index.specs.Slots.{IsIndexed};
 ghost use Rattle.vertex_drop.specs.Corners.{has_small_corner};
-ghost use Rattle.tgap_build.specs.EdgeTable.{IsSought};
 ghost use Rattle.tgap_build.specs.Queues.{IsBeside};
-ghost use Rattle.tgap_build.specs.Running.{IsReplacement};
+ghost use Rattle.tgap_build.specs.Sought.{IsSought};
 ghost use Rattle.tgap_build.specs.Table.{labelled_edges};
 
 use crate::edge_table::EdgeTable;
-use grid_index::Live;
+use grid_index::{KeyedEdges, SegmentIndex};
 use std::alloc::Global;
-use tgap_model::{Edge, List, Memory, Removal, copied_edges};
+use tgap_model::{List, Memory, Removal};
 use vertex_drop::sweep_some;
 
-/// The look-up after edges with some keys were taken out and others put in. The look at its edges, which costs
-/// nothing, tells that they stand in order of key again.
+/// Brings the look-up, where there is one, up to a table in which the edges with some keys are gone and those with others
+/// have come, in the time of these.
 pub fn sought_after(
     alloc: Global,
-    sought: Option<Live>,
-    gone: &List<u32>,
-    come: &[Edge],
-) -> Result<Option<Live>, Memory>
-    requires { (edges : Sequence Line) × IsSought edges sought × IsReplacement edges gone.now come.now }
-    ensures { (before after : Sequence Line) → IsSought before sought → AllPairs (λ e f. e.key < f.key) after
-        → IsPermutation (without_keys gone.now before ++ come.now) after → IfOk result (λ next. IsSought after next) }
+    sought: &mut Option<SegmentIndex>,
+    gone: &[u32],
+    edges: &EdgeTable,
+    come: &[u32],
+) -> Result<(), Memory>
+    requires keyed { AreAtKeys edges.now.places.items }
+    requires exchange { (before : Sequence Line) × IsSought before sought.old
+        × IsExchange before gone.now (edges_at edges.now.places.items come.now) (labelled_edges edges.now) }
+    ensures { (before : Sequence Line) → IsSought before sought.old
+        → IsExchange before gone.now (edges_at edges.now.places.items come.now) (labelled_edges edges.now)
+        → OnOk result (IsSought (labelled_edges edges.now) sought.new) }
 {
-    let Some(mut live) = sought else {
-        return Ok(None);
+    let Some(mut index) = sought.take() else {
+        return Ok(());
     };
-    live.replace(alloc, gone, copied_edges(alloc, come)?)?;
-    let _ = live.edges();
-    Ok(Some(live))
+    index.replace(alloc, gone, edges.places(), come)?;
+    *sought = Some(index);
+    Ok(())
 }
 
 /// The look-up of the edges with their labels, which is made where there is none.
-fn look_up(alloc: Global, sought: Option<Live>, edges: &EdgeTable) -> Result<Live, Memory>
+fn look_up(
+    alloc: Global,
+    sought: Option<SegmentIndex>,
+    edges: &EdgeTable,
+) -> Result<SegmentIndex, Memory>
+    requires keyed { AreAtKeys edges.now.places.items }
     requires sought { IsSought (labelled_edges edges.now) sought }
     requires live { AreLive (labelled_edges edges.now) }
-    ensures { IfOk result (λ live. live ≡ labelled_edges edges.now) }
+    ensures { IfOk result (IsIndexed (labelled_edges edges.now)) }
 {
     match sought {
-        Some(live) => Ok(live),
-        None => Live::of(alloc, &edges.copies(alloc)?),
+        Some(index) => Ok(index),
+        None => SegmentIndex::of(alloc, edges.places()),
     }
 }
 
@@ -55,13 +65,14 @@ fn look_up(alloc: Global, sought: Option<Live>, edges: &EdgeTable) -> Result<Liv
 pub fn swept(
     alloc: Global,
     edges: &EdgeTable,
-    sought: &mut Option<Live>,
+    sought: &mut Option<SegmentIndex>,
     keys: &[u32],
     made: u32,
     loser_area: i128,
     ratio: u32,
     step: u32,
 ) -> Result<List<Removal>, Memory>
+    requires keyed { AreAtKeys edges.now.places.items }
     requires sought { IsSought (labelled_edges edges.now) sought.old }
     requires live { AreLive (labelled_edges edges.now) }
     requires ascending { AllPairs (λ j k. j < k) keys.now }
@@ -74,8 +85,9 @@ pub fn swept(
     if keys.is_empty() {
         return Ok(List::new(alloc));
     }
-    let live = look_up(alloc, sought.take(), edges)?;
+    let index = look_up(alloc, sought.take(), edges)?;
+    let live = KeyedEdges::of(edges.places(), &index);
     let removals = sweep_some(alloc, &live, keys, made, loser_area, ratio, step)?;
-    *sought = Some(live);
+    *sought = Some(index);
     Ok(removals)
 }

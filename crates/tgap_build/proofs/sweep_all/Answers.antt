@@ -1,15 +1,13 @@
 -- Each step has its area, and after the last one all that is removed is noted.
-use Rattle.std.proofs.Common.{◌≡◌, ◌≤◌, ◌∙◌, ℕ, ◌+◌, ◌-◌, ℤ, List, [], ◌∷◌, ◌++◌, length, get_or, refl, All, unsigned_abs, sym, ap, ap₂, subst, arith}
+use Rattle.std.proofs.Common.{◌≡◌, ◌∙◌, ℕ, ◌+◌, ◌-◌, List, [], ◌∷◌, ◌++◌, length, get_or, refl, sym, ap, ap₂, subst, arith}
 use Rattle.std.proofs.lemmas.List.FromFn.{map-range_with_len_more}
 use Rattle.tgap_model.specs.declared.merge.MergeStep.{MergeStep}
 use Rattle.tgap_model.specs.declared.record.StepRecord.{StepRecord}
 use Rattle.tgap_model.specs.Base.{BaseMap}
-use Rattle.tgap_model.specs.Bounds.{max_area}
 use Rattle.tgap_model.specs.Merged.{merged, face_area}
 use Rattle.tgap_model.specs.Removals.{removals_to}
 use Rattle.tgap_model.specs.Records.{step_record}
 use Rattle.tgap_model.proofs.BaseFacts.{base_facts}
-use Rattle.face_merge.specs.Areas.{lost_areas}
 use Rattle.face_merge.proofs.Steps.{length-history_of}
 use Rattle.tgap_build.specs.Built.{HasRemoved}
 use Rattle.tgap_build.specs.Running.{AreRunning}
@@ -21,16 +19,13 @@ loop-i-init c = record { base = refl; made = c.requires.made; unclosed = c.requi
 
 pub bounds-areas-i : goal.bounds-areas-i
 bounds-areas-i c =
-    let areas = c.as_slice-areas.ensures ∙ c.in_ok-areas.ensures.exact ∙ ap (λ (m : BaseMap). lost_areas (merged m)) c.base.ensures.value in
-    omega (arith, lost_count (merged c.args.forest.now.base) c.as_slice-areas.result.now areas, ap length c.requires.steps, c.loop-i-test.true)
+    omega (arith, lost_count (merged c.args.forest.now.base) c.args.areas.now c.requires.areas, ap length c.requires.steps, c.loop-i-test.true)
 
 pub make_step-requires-clause-area : goal.make_step-requires-clause-area
 make_step-requires-clause-area c =
     let m = c.args.forest.now.base in
     let i = c.loop-i.i in
-    let areas = c.as_slice-areas.ensures ∙ c.in_ok-areas.ensures.exact ∙ ap (λ (b : BaseMap). lost_areas (merged b)) c.base.ensures.value in
-    let small = subst (All (λ (area : ℤ). unsigned_abs area ≤ max_area)) (sym c.as_slice-areas.ensures) c.in_ok-areas.ensures.small in
-    lost_is (merged m) c.as_slice-areas.result.now areas i (omega (arith, ap length c.requires.steps, c.loop-i-test.true)) small
+    lost_is (merged m) c.args.areas.now c.requires.areas i (omega (arith, ap length c.requires.steps, c.loop-i-test.true)) c.requires.small
     ∙ ap₂ (λ (b : BaseMap) (steps : List MergeStep). face_area (merged b) (i + 1 - 1) (get_or steps i no_step).loser) (sym c.loop-i.invariant.base) (sym c.requires.steps)
 
 pub make_step-requires-clause-removed : goal.make_step-requires-clause-removed

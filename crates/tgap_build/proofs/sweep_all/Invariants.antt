@@ -4,7 +4,7 @@ use Rattle.tgap_model.specs.Merged.{merged}
 use Rattle.tgap_model.specs.Removals.{removals_to}
 use Rattle.tgap_model.specs.Records.{step_record}
 use Rattle.tgap_build.specs.Built.{HasRemoved}
-use Rattle.tgap_build.specs.EdgeTable.{IsSought}
+use Rattle.tgap_build.specs.Sought.{IsSought}
 use Rattle.tgap_build.specs.Queues.{IsCornered}
 use Rattle.tgap_build.specs.Running.{AreRunning}
 use Rattle.tgap_build.specs.Table.{labelled_edges}

@@ -3,8 +3,8 @@ use Rattle.std.proofs.Common.{◌≡◌, ℕ, ◌<◌, true, false, List, length
 use Rattle.std.proofs.lemmas.List.{length-set}
 use Rattle.tgap_model.specs.declared.geometry.Point.{Point}
 use Rattle.tgap_model.specs.declared.slice.Edge.{Edge}
+use Rattle.grid_index.specs.Keyed.{edge_in, edges_in}
 use Rattle.tgap_build.specs.declared.joined.OldEdge.{OldEdge}
-use Rattle.tgap_build.specs.EdgeTable.{edge_in, edges_in}
 use Rattle.tgap_build.proofs.Filters.{filter_all}
 use Rattle.tgap_build.proofs.Merging.{key_there}
 use Rattle.tgap_build.proofs.TableChanges.{place_read, keyed_emptied}

@@ -1,7 +1,7 @@
 -- The edges of the parts so far are out, and their points stand in a row.
 use Rattle.std.proofs.Common.{◌≡◌, ℕ, take, length, Contains}
+use Rattle.grid_index.specs.Keyed.{edge_in, edges_in, AreAtKeys}
 use Rattle.grid_index.specs.Live.{without_keys}
-use Rattle.tgap_build.specs.EdgeTable.{edge_in, edges_in, AreAtKeys}
 use Rattle.tgap_build.specs.Table.{joined_row, old_keys}
 use Rattle.tgap_build.proofs.edge_table.take_row.Given as goal
 

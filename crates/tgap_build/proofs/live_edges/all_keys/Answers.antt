@@ -10,7 +10,6 @@ use Rattle.tgap_build.proofs.live_edges.all_keys.Goals as goal
 pub returns-clause-same : goal.returns-clause-same
 returns-clause-same c = λ i.
     let same = c.in_order.ensures.same i in
-    ap (list_any (λ k. k == i)) c.from-2.ensures
-    ∙ any_key_same c.in_order.result.items c.from.result i same.0 same.1
+    any_key_same c.in_order.result.items c.from.result i same.0 same.1
     ∙ ap (list_any (λ k. k == i)) (c.from.ensures ∙ c.loop-edge.invariant
     ∙ ap (λ (es : List Edge). c.args.joined.now ++ c.args.losing.now ++ keys es) (take_all c.loop-edge.edge-index c.args.ended.now (omega (arith, c.loop-edge-test.false))))

@@ -5,6 +5,7 @@ use Rattle.std.specs.List.{list_any}
 use Rattle.std.specs.List.Sorted.{IsNonDecreasing}
 use Rattle.std.specs.Int.{w128}
 use Rattle.std.proofs.lemmas.Int.{to_z-of_z}
+use Rattle.std.proofs.lemmas.List.Elements.{All-map}
 use Rattle.tgap_model.specs.declared.geometry.Point.{Point}
 use Rattle.tgap_model.specs.declared.merge.MergeStep.{MergeStep}
 use Rattle.tgap_model.specs.declared.slice.Edge.{Edge}
@@ -16,20 +17,21 @@ use Rattle.tgap_model.specs.Chains.{chains_at}
 use Rattle.tgap_model.specs.Removals.{has_side, is_removed, removals_to}
 use Rattle.tgap_model.specs.Records.{mend_of}
 use Rattle.map_laws.proofs.Lists.{all_members, kept_among, map_among}
+use Rattle.grid_index.specs.Keyed.{edge_in}
 use Rattle.grid_index.specs.Live.{keys, AreLive}
 use Rattle.edge_forest.specs.declared.face_labels.FaceLabels.{FaceLabels}
 use Rattle.edge_forest.specs.FaceLabels.{label_of}
 use Rattle.edge_forest.specs.Forest.{is_gone}
 use Rattle.tgap_build.specs.declared.live_edges.Made.{Made}
-use Rattle.tgap_build.specs.EdgeTable.{edge_in}
 use Rattle.tgap_build.specs.Queues.{IsBeside}
 use Rattle.tgap_build.specs.Table.{faced, labelled_edges, table_edges}
-use Rattle.tgap_build.specs.Running.{has_any, less, has_point}
-use Rattle.tgap_build.specs.Changes.{whole_of, made_of, may_need, made_mends, with_all}
+use Rattle.tgap_build.specs.Running.{has_any, has_point}
+use Rattle.tgap_build.specs.Changes.{whole_of, made_of, may_need, made_mends, less_at}
 use Rattle.tgap_build.proofs.Alive.{key_within}
 use Rattle.tgap_build.proofs.EdgeTables.{ascending}
 use Rattle.tgap_build.proofs.Filters.{filter_both}
-use Rattle.tgap_build.proofs.LessEdges.{all_less}
+use Rattle.tgap_build.proofs.KeyedEdges.{keys_ascend, gone_there}
+use Rattle.tgap_build.proofs.LessEdges.{less_at_is}
 use Rattle.tgap_build.proofs.LosingEdges.{losing_border}
 use Rattle.tgap_build.proofs.LostEdges.{table_points}
 use Rattle.tgap_build.proofs.NeededEdges.{changed_order, losing_keys_are, needed_all}
@@ -120,11 +122,13 @@ with_losing-requires-clause-room c =
     let told = c.in_ok-removals.ensures.removals in
     let gone = c.in_ok-gone.gone in
     let found : (p : Point) → has_point gone p ≡ is_removed removals p = λ p. c.in_ok-gone.ensures p ∙ ap (λ (rs : List Removal). is_removed rs p) c.as_slice.ensures in
-    let losing = c.in_ok-losing.ensures ∙ ap (flat_map (λ j. filter (has_any gone) (option_to_list (edge_in t.places.items j)))) c.deref-2.ensures.value
+    let losing = c.in_ok-losing.ensures ∙ ap (flat_map (λ j. keys (filter (has_any gone) (option_to_list (edge_in t.places.items j))))) c.deref-2.ensures.value
     ∙ losing_border f k some c.requires.made t r c.requires.removed _ label _ removals c.requires.ratio label_is area told gone found c.in_ok-keys.keys.items c.in_ok-keys.ensures.ascending c.in_ok-keys.ensures.small in
-    subst (All (λ (e : Edge). e.key < length t.places.items)) (sym (c.as_slice-2.ensures ∙ losing))
-    (all_members (λ (e : Edge). e.key < length t.places.items) (filter (has_any gone) (filter (has_side label) (labelled_edges t))) (λ e m.
-    key_placed t.places.items r.table.keyed e (kept_among (has_side label) (labelled_edges t) e (kept_among (has_any gone) (filter (has_side label) (labelled_edges t)) e m))))
+    let border = filter (has_any gone) (filter (has_side label) (labelled_edges t)) in
+    subst (All (λ i. i < length t.places.items)) (sym (c.deref-3.ensures.value ∙ losing))
+    (All-map (λ i. i < length t.places.items) (λ (e : Edge). e.key) border
+    (all_members (λ (e : Edge). e.key < length t.places.items) border (λ e m.
+    key_placed t.places.items r.table.keyed e (kept_among (has_side label) (labelled_edges t) e (kept_among (has_any gone) (filter (has_side label) (labelled_edges t)) e m)))))
 
 pub with_losing-requires-clause-few : goal.with_losing-requires-clause-few
 with_losing-requires-clause-few c =
@@ -173,14 +177,14 @@ mends_of-requires-clause-room c =
     let told = c.in_ok-removals.ensures.removals in
     let gone = c.in_ok-gone.gone in
     let found : (p : Point) → has_point gone p ≡ is_removed removals p = λ p. c.in_ok-gone.ensures p ∙ ap (λ (rs : List Removal). is_removed rs p) c.as_slice.ensures in
-    let losing = c.in_ok-losing.ensures ∙ ap (flat_map (λ j. filter (has_any gone) (option_to_list (edge_in t.places.items j)))) c.deref-2.ensures.value
+    let losing = c.in_ok-losing.ensures ∙ ap (flat_map (λ j. keys (filter (has_any gone) (option_to_list (edge_in t.places.items j))))) c.deref-2.ensures.value
     ∙ losing_border f k some c.requires.made t r c.requires.removed _ label _ removals c.requires.ratio label_is area told gone found c.in_ok-keys.keys.items c.in_ok-keys.ensures.ascending c.in_ok-keys.ensures.small in
     let points = table_points (merged f.base) k before t r.table r.edges in
-    let losing_keys = ap keys (c.as_slice-2.ensures ∙ losing)
+    let losing_keys = c.deref-3.ensures.value ∙ losing
     ∙ losing_keys_are f.base w.base w.partition k some last gone t.labels label (labelled_edges t) r.edges (λ e m. ap (λ (l : ℕ). has_side l e) label_is ∙ made_sides f k some c.requires.made t r e m) in
-    let moved = subst (λ (x : MergeStep). IsPermutation (c.args.made.items ++ map (whole_of t.places.items x []) (filter (λ i. not (list_any (λ j. j == i) (map (λ (o : Made). o.key) c.args.made.items))) (keys c.as_slice-2.result.now)))
+    let moved = subst (λ (x : MergeStep). IsPermutation (c.args.made.items ++ map (whole_of t.places.items x []) (filter (λ i. not (list_any (λ j. j == i) (map (λ (o : Made). o.key) c.args.made.items))) c.deref-3.result.now))
     c.in_ok-made.made.items) is c.in_ok-made.ensures.moved in
-    let all = needed_all f.base w.base w.partition k some last gone t.places.items points (keys c.as_slice-2.result.now) losing_keys c.args.made.items c.in_ok-made.made.items c.requires.changed moved c.in_ok-made.ensures.order in
+    let all = needed_all f.base w.base w.partition k some last gone t.places.items points c.deref-3.result.now losing_keys c.args.made.items c.in_ok-made.made.items c.requires.changed moved c.in_ok-made.ensures.order in
     subst (All (λ (o : Made). o.key < length t.places.items)) (sym all)
     (all_members (λ (o : Made). o.key < length t.places.items) (map (made_of (merged f.base) k) (filter (may_need (merged f.base) k gone) (chains_at (merged f.base) k))) (λ o m.
     let d = map_among (made_of (merged f.base) k) (filter (may_need (merged f.base) k gone) (chains_at (merged f.base) k)) o m in
@@ -276,8 +280,8 @@ remove-requires-clause-left c =
     let told = c.in_ok-removals.ensures.removals in
     subst (λ (n : ℕ). All (λ (x : Removal). is_gone f n x.point ≡ false) removals) (sym c.requires.made) (list_left f k w.base w.partition some last c.requires.removed (table_edges t) r.edges _ _ _ removals c.requires.ratio refl area (told_faces f k some c.requires.made t r c.requires.removed _ label _ removals c.requires.ratio label_is area told))
 
-pub remove-requires-2-clause-losing : goal.remove-requires-2-clause-losing
-remove-requires-2-clause-losing c =
+pub remove-requires-2-clause-ascending : goal.remove-requires-2-clause-ascending
+remove-requires-2-clause-ascending c =
     let f = c.args.forest.now in
     let k = c.args.k in
     let some = c.requires.some in
@@ -295,9 +299,38 @@ remove-requires-2-clause-losing c =
     let told = c.in_ok-removals.ensures.removals in
     let gone = c.in_ok-gone.gone in
     let found : (p : Point) → has_point gone p ≡ is_removed removals p = λ p. c.in_ok-gone.ensures p ∙ ap (λ (rs : List Removal). is_removed rs p) c.as_slice.ensures in
-    let losing = c.in_ok-losing.ensures ∙ ap (flat_map (λ j. filter (has_any gone) (option_to_list (edge_in t.places.items j)))) c.deref-2.ensures.value
+    let losing = c.in_ok-losing.ensures ∙ ap (flat_map (λ j. keys (filter (has_any gone) (option_to_list (edge_in t.places.items j))))) c.deref-2.ensures.value
     ∙ losing_border f k some c.requires.made t r c.requires.removed _ label _ removals c.requires.ratio label_is area told gone found c.in_ok-keys.keys.items c.in_ok-keys.ensures.ascending c.in_ok-keys.ensures.small in
-    ((λ (e : Edge). has_any gone e && has_side label e), c.as_slice-3.ensures ∙ losing ∙ filter_both (has_any gone) (has_side label) (labelled_edges t))
+    let q = (λ (e : Edge). has_any gone e && has_side label e) in
+    let here = c.deref-4.ensures.value ∙ losing ∙ ap keys (filter_both (has_any gone) (has_side label) (labelled_edges t)) in
+    let ascend = ascending t.places.items r.table.keyed in
+    subst (AllPairs (λ (i j : ℕ). i < j)) (sym here) (keys_ascend (labelled_edges t) ascend q)
+
+pub remove-requires-2-clause-there : goal.remove-requires-2-clause-there
+remove-requires-2-clause-there c =
+    let f = c.args.forest.now in
+    let k = c.args.k in
+    let some = c.requires.some in
+    let t = c.args.live.now.edges in
+    let r = c.requires.running in
+    let w = r.forest in
+    let last : k ≤ length (history_of f.base) = omega (arith, w.steps, c.requires.made) in
+    let s = c.args.step.now in
+    let is = c.requires.step in
+    let before = removals_to (merged f.base) (k - 1) in
+    let label = c.label-made_label.result in
+    let label_is = c.label-made_label.ensures ∙ ap (λ (x : MergeStep). label_of t.labels x.made) is in
+    let removals = c.in_ok-removals.removals in
+    let area = to_z-of_z w128 c.args.loser_area c.ranges.loser_area ∙ c.requires.area in
+    let told = c.in_ok-removals.ensures.removals in
+    let gone = c.in_ok-gone.gone in
+    let found : (p : Point) → has_point gone p ≡ is_removed removals p = λ p. c.in_ok-gone.ensures p ∙ ap (λ (rs : List Removal). is_removed rs p) c.as_slice.ensures in
+    let losing = c.in_ok-losing.ensures ∙ ap (flat_map (λ j. keys (filter (has_any gone) (option_to_list (edge_in t.places.items j))))) c.deref-2.ensures.value
+    ∙ losing_border f k some c.requires.made t r c.requires.removed _ label _ removals c.requires.ratio label_is area told gone found c.in_ok-keys.keys.items c.in_ok-keys.ensures.ascending c.in_ok-keys.ensures.small in
+    let q = (λ (e : Edge). has_any gone e && has_side label e) in
+    let here = c.deref-4.ensures.value ∙ losing ∙ ap keys (filter_both (has_any gone) (has_side label) (labelled_edges t)) in
+    let ascend = ascending t.places.items r.table.keyed in
+    subst (All (Contains (keys (labelled_edges t)))) (sym here) (gone_there (labelled_edges t) ascend q)
 
 pub remove-requires-2-clause-live : goal.remove-requires-2-clause-live
 remove-requires-2-clause-live c =
@@ -318,14 +351,12 @@ remove-requires-2-clause-live c =
     let told = c.in_ok-removals.ensures.removals in
     let gone = c.in_ok-gone.gone in
     let found : (p : Point) → has_point gone p ≡ is_removed removals p = λ p. c.in_ok-gone.ensures p ∙ ap (λ (rs : List Removal). is_removed rs p) c.as_slice.ensures in
-    let losing = c.in_ok-losing.ensures ∙ ap (flat_map (λ j. filter (has_any gone) (option_to_list (edge_in t.places.items j)))) c.deref-2.ensures.value
+    let losing = c.in_ok-losing.ensures ∙ ap (flat_map (λ j. keys (filter (has_any gone) (option_to_list (edge_in t.places.items j))))) c.deref-2.ensures.value
     ∙ losing_border f k some c.requires.made t r c.requires.removed _ label _ removals c.requires.ratio label_is area told gone found c.in_ok-keys.keys.items c.in_ok-keys.ensures.ascending c.in_ok-keys.ensures.small in
-    let edges = labelled_edges t in
-    let ascend = ascending t.places.items r.table.keyed in
     let q = (λ (e : Edge). has_any gone e && has_side label e) in
-    let here = c.as_slice-3.ensures ∙ losing ∙ filter_both (has_any gone) (has_side label) (labelled_edges t) in
-    λ p told_p.
-    subst AreLive (sym (all_less gone edges ascend q) ∙ ap (λ (ds : List Edge). with_all (map (less gone) ds) edges) (sym here ∙ told_p) ∙ all_less gone edges ascend p)
+    let here = c.deref-4.ensures.value ∙ losing ∙ ap keys (filter_both (has_any gone) (has_side label) (labelled_edges t)) in
+    let ascend = ascending t.places.items r.table.keyed in
+    subst AreLive (sym (ap (λ (ks : List ℕ). map (less_at gone ks) (labelled_edges t)) here ∙ less_at_is gone (labelled_edges t) ascend q))
     (less_live f k some c.requires.made t r c.requires.removed _ label _ removals c.requires.ratio label_is area told gone found)
 
 pub returns-clause-removed : goal.returns-clause-removed
@@ -369,12 +400,13 @@ returns-clause-running c =
     let told = c.in_ok-removals.ensures.removals in
     let gone = c.in_ok-gone.gone in
     let found : (p : Point) → has_point gone p ≡ is_removed removals p = λ p. c.in_ok-gone.ensures p ∙ ap (λ (rs : List Removal). is_removed rs p) c.as_slice.ensures in
-    let losing = c.in_ok-losing.ensures ∙ ap (flat_map (λ j. filter (has_any gone) (option_to_list (edge_in t.places.items j)))) c.deref-2.ensures.value
+    let losing = c.in_ok-losing.ensures ∙ ap (flat_map (λ j. keys (filter (has_any gone) (option_to_list (edge_in t.places.items j))))) c.deref-2.ensures.value
     ∙ losing_border f k some c.requires.made t r c.requires.removed _ label _ removals c.requires.ratio label_is area told gone found c.in_ok-keys.keys.items c.in_ok-keys.ensures.ascending c.in_ok-keys.ensures.small in
     let v = c.remove-2.new.self.edges in
     let q = (λ (e : Edge). has_any gone e && has_side label e) in
-    let here = c.as_slice-3.ensures ∙ losing ∙ filter_both (has_any gone) (has_side label) (labelled_edges t) in
-    let edges = ap₂ (λ (l : FaceLabels) (es : List Edge). map (faced l) es) c.in_ok-remove.ensures.labels (c.in_ok-remove.ensures.edges q here) ∙ less_faces f k some c.requires.made t r c.requires.removed _ label _ removals c.requires.ratio label_is area told gone found in
+    let here = c.deref-4.ensures.value ∙ losing ∙ ap keys (filter_both (has_any gone) (has_side label) (labelled_edges t)) in
+    let lesser = c.in_ok-remove.ensures.edges ∙ ap (λ (ks : List ℕ). map (less_at gone ks) (labelled_edges t)) here ∙ less_at_is gone (labelled_edges t) (ascending t.places.items r.table.keyed) q in
+    let edges = ap₂ (λ (l : FaceLabels) (es : List Edge). map (faced l) es) c.in_ok-remove.ensures.labels lesser ∙ less_faces f k some c.requires.made t r c.requires.removed _ label _ removals c.requires.ratio label_is area told gone found in
     running_less f c.remove.new.self k before (removals_to (merged f.base) k) t v w c.remove.ensures.base c.remove.ensures.made c.remove.ensures.closed c.remove.ensures.edges
     c.in_ok-remove.ensures.table c.in_ok-remove.ensures.labels c.in_ok-remove.ensures.room edges r
 
@@ -397,14 +429,14 @@ returns-clause-mends c =
     let told = c.in_ok-removals.ensures.removals in
     let gone = c.in_ok-gone.gone in
     let found : (p : Point) → has_point gone p ≡ is_removed removals p = λ p. c.in_ok-gone.ensures p ∙ ap (λ (rs : List Removal). is_removed rs p) c.as_slice.ensures in
-    let losing = c.in_ok-losing.ensures ∙ ap (flat_map (λ j. filter (has_any gone) (option_to_list (edge_in t.places.items j)))) c.deref-2.ensures.value
+    let losing = c.in_ok-losing.ensures ∙ ap (flat_map (λ j. keys (filter (has_any gone) (option_to_list (edge_in t.places.items j))))) c.deref-2.ensures.value
     ∙ losing_border f k some c.requires.made t r c.requires.removed _ label _ removals c.requires.ratio label_is area told gone found c.in_ok-keys.keys.items c.in_ok-keys.ensures.ascending c.in_ok-keys.ensures.small in
     let points = table_points (merged f.base) k before t r.table r.edges in
-    let losing_keys = ap keys (c.as_slice-2.ensures ∙ losing)
+    let losing_keys = c.deref-3.ensures.value ∙ losing
     ∙ losing_keys_are f.base w.base w.partition k some last gone t.labels label (labelled_edges t) r.edges (λ e m. ap (λ (l : ℕ). has_side l e) label_is ∙ made_sides f k some c.requires.made t r e m) in
-    let moved = subst (λ (x : MergeStep). IsPermutation (c.args.made.items ++ map (whole_of t.places.items x []) (filter (λ i. not (list_any (λ j. j == i) (map (λ (o : Made). o.key) c.args.made.items))) (keys c.as_slice-2.result.now)))
+    let moved = subst (λ (x : MergeStep). IsPermutation (c.args.made.items ++ map (whole_of t.places.items x []) (filter (λ i. not (list_any (λ j. j == i) (map (λ (o : Made). o.key) c.args.made.items))) c.deref-3.result.now))
     c.in_ok-made.made.items) is c.in_ok-made.ensures.moved in
-    let all = needed_all f.base w.base w.partition k some last gone t.places.items points (keys c.as_slice-2.result.now) losing_keys c.args.made.items c.in_ok-made.made.items c.requires.changed moved c.in_ok-made.ensures.order in
+    let all = needed_all f.base w.base w.partition k some last gone t.places.items points c.deref-3.result.now losing_keys c.args.made.items c.in_ok-made.made.items c.requires.changed moved c.in_ok-made.ensures.order in
     let list = swept_list f k some c.requires.made t r c.requires.removed _ label _ removals c.requires.ratio label_is area told ∙ now_is f.base w.base w.partition k some last in
     c.in_ok-mends.ensures removals found
     ∙ ap₂ (λ (x : MergeStep) (os : List Made). flat_map (made_mends t.places.items x.loser removals) os) is all

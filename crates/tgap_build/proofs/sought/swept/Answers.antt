@@ -8,6 +8,7 @@ use Rattle.tgap_model.specs.declared.slice.Edge.{Edge}
 use Rattle.tgap_model.specs.declared.slice.Removal.{Removal}
 use Rattle.tgap_model.specs.Removals.{has_side}
 use Rattle.removal_laws.proofs.ChainEnds.{contained}
+use Rattle.grid_index.specs.Keyed.{edges_in}
 use Rattle.vertex_drop.specs.Corners.{has_small_corner}
 use Rattle.tgap_build.specs.Table.{labelled_edges}
 use Rattle.tgap_build.specs.Queues.{IsBeside}
@@ -15,11 +16,11 @@ use Rattle.tgap_build.proofs.WideEdges.{none_swept}
 use Rattle.tgap_build.proofs.sought.swept.Goals as goal
 
 pub sweep_some-requires-clause-there : goal.sweep_some-requires-clause-there
-sweep_some-requires-clause-there c = subst (λ (es : List Edge). All (IsBeside es c.args.made) c.args.keys.now) (sym c.in_ok-live.ensures) c.requires.there
+sweep_some-requires-clause-there c = subst (λ (es : List Edge). All (IsBeside es c.args.made) c.args.keys.now) (sym (c.of-live.ensures ∙ ap edges_in c.places.ensures)) c.requires.there
 
 pub sweep_some-requires-clause-corners : goal.sweep_some-requires-clause-corners
 sweep_some-requires-clause-corners c = λ e m side h.
-    c.requires.small e (subst (λ (es : List Edge). Contains es e) c.in_ok-live.ensures m) side
+    c.requires.small e (subst (λ (es : List Edge). Contains es e) (c.of-live.ensures ∙ ap edges_in c.places.ensures) m) side
     (subst (λ (z : ℤ). has_small_corner c.args.ratio z e.points ≡ true) (to_z-of_z w128 c.args.loser_area c.ranges.loser_area) h)
 
 pub returns-then-is_empty-clause-removals : goal.returns-then-is_empty-clause-removals

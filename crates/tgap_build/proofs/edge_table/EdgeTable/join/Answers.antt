@@ -2,8 +2,8 @@
 use Rattle.std.proofs.Common.{◌≡◌, ◌∷◌, ◌++◌, [], ℕ, List, set, IsPermutation, Option, Some, sym, ap, ap₂, ◌∙◌, subst, arith}
 use Rattle.tgap_model.specs.declared.geometry.Point.{Point}
 use Rattle.tgap_model.specs.declared.slice.Edge.{Edge}
+use Rattle.grid_index.specs.Keyed.{edges_in}
 use Rattle.grid_index.specs.Live.{without_keys}
-use Rattle.tgap_build.specs.EdgeTable.{edges_in}
 use Rattle.tgap_build.specs.Table.{edge_with, joined_edge, old_keys, IsTableOf}
 use Rattle.tgap_build.proofs.TableChanges.{joined_table, joined_moved}
 use Rattle.tgap_build.proofs.TakenRows.{joined_there, key_within, with_read}

@@ -1,7 +1,7 @@
 -- The keys of the edges so far.
 use Rattle.std.proofs.Common.{◌≡◌, take}
+use Rattle.grid_index.specs.Keyed.{edges_in}
 use Rattle.grid_index.specs.Live.{keys}
-use Rattle.tgap_build.specs.EdgeTable.{edges_in}
 use Rattle.tgap_build.proofs.edge_table.EdgeTable.keys.Given as goal
 
 abbrev pub invariant-loop-place : goal.invariant-loop-place

@@ -6,9 +6,9 @@ use Rattle.std.proofs.lemmas.List.{take_all, length-set}
 use Rattle.std.proofs.lemmas.List.Elements.{Contains-get_or}
 use Rattle.tgap_model.specs.declared.slice.Edge.{Edge}
 use Rattle.tgap_model.specs.History.{relabel}
+use Rattle.grid_index.specs.Keyed.{edge_in, edges_in}
 use Rattle.edge_forest.specs.declared.face_labels.FaceLabels.{FaceLabels}
 use Rattle.edge_forest.specs.FaceLabels.{face_of, label_of, HasLabel, IsCurrent, moved}
-use Rattle.tgap_build.specs.EdgeTable.{edge_in, edges_in}
 use Rattle.tgap_build.specs.Table.{faced, listed_at, IsTableOf, has_both, has_first}
 use Rattle.tgap_build.proofs.Merging.{to_visit, visits_listed, held_sides, label_made, labels_room, has_made, has_other, labels_within}
 use Rattle.tgap_build.proofs.Tables.{merged_labelled, merged_ended, merged_losing, merged_faced, merged_table}
@@ -184,7 +184,7 @@ pub returns-clause-ended : goal.returns-clause-ended
 returns-clause-ended c =
     let t = c.args.self.now.labels in
     let places = c.args.self.now.places.items in
-    c.loop-key.invariant.ended
+    c.trimmed.ensures ∙ c.loop-key.invariant.ended
     ∙ ap (λ (ks : List ℕ). map (faced t) (flat_map (λ k. filter (has_both c.label-loser.result c.label-winner.result) (option_to_list (edge_in places k))) ks)) (all_items c)
     ∙ ap₂ (λ (a b : ℕ). map (faced t) (flat_map (λ k. filter (has_both a b) (option_to_list (edge_in places k))) c.deref-key-items.result.now)) c.label-loser.ensures c.label-winner.ensures
     ∙ merged_ended t c.args.self.now.beside.items places c.requires.table c.args.step.now c.requires.loser.1 c.requires.winner.1 c.requires.apart

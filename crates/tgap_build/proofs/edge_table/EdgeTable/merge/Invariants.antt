@@ -2,7 +2,7 @@
 use Rattle.std.proofs.Common.{◌≡◌, map, filter, take}
 use Rattle.std.specs.Prelude.{option_to_list}
 use Rattle.std.specs.List.{flat_map}
-use Rattle.tgap_build.specs.EdgeTable.{edge_in}
+use Rattle.grid_index.specs.Keyed.{edge_in}
 use Rattle.tgap_build.specs.Table.{faced, has_both, has_first}
 use Rattle.tgap_build.proofs.Visits.{visited, listing}
 use Rattle.tgap_build.proofs.edge_table.EdgeTable.merge.Given as goal

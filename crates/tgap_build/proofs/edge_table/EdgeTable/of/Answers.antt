@@ -4,9 +4,9 @@ use Rattle.std.proofs.lemmas.List.{append-nil, length-replicate}
 use Rattle.std.proofs.lemmas.List.Elements.{All-head, All-tail}
 use Rattle.std.proofs.lemmas.List.Sorted.{IsPermutation-sym}
 use Rattle.tgap_model.specs.declared.slice.Edge.{Edge}
+use Rattle.grid_index.specs.Keyed.{edges_in}
 use Rattle.edge_forest.specs.declared.face_labels.FaceLabels.{FaceLabels}
 use Rattle.edge_forest.specs.FaceLabels.{IsCurrent}
-use Rattle.tgap_build.specs.EdgeTable.{edges_in}
 use Rattle.tgap_build.specs.Table.{faced, labelled_edges, IsTableOf}
 use Rattle.tgap_build.proofs.EdgeTables.{ascending, IsPutting, put_next}
 use Rattle.tgap_build.proofs.KeyedEdges.{ascending_same}
