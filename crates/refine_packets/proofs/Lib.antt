@@ -1,2 +1,2 @@
-mod Down
+pub mod Down
 mod Packets

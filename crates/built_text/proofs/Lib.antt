@@ -1,0 +1,2 @@
+mod SliceParts
+mod PacketParts
