@@ -14,12 +14,12 @@ use Rattle.edge_forest.specs.Spent.{is_left}
 
 -- ---- parts of longer lists
 
-range_before : (xs ys : List ℕ) (a b : ℕ) → a ≤ b → b ≤ length xs → slice_range (xs ++ ys) a b ≡ slice_range xs a b
+pub range_before : (xs ys : List ℕ) (a b : ℕ) → a ≤ b → b ≤ length xs → slice_range (xs ++ ys) a b ≡ slice_range xs a b
 range_before xs ys a b order within =
     ap (take (b - a)) (drop-append-le a xs ys (omega (arith, order, within)))
     ∙ take-append-le (b - a) (drop a xs) ys (omega (arith, order, within, length-drop a xs))
 
-range_behind : (xs ys : List ℕ) (n : ℕ) → n ≡ length ys → slice_range (xs ++ ys) (length xs) (length xs + n) ≡ ys
+pub range_behind : (xs ys : List ℕ) (n : ℕ) → n ≡ length ys → slice_range (xs ++ ys) (length xs) (length xs + n) ≡ ys
 range_behind xs ys n same =
     ap (take (length xs + n - length xs)) (drop-append_seam xs ys) ∙ take_all (length xs + n - length xs) ys (omega (arith, same))
 

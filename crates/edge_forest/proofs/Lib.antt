@@ -44,5 +44,6 @@ mod StartJoints
 mod Steps
 mod Few
 mod LaidSteps
+mod FlatRows
 pub mod Forests
 pub mod RemovedPoints

@@ -140,7 +140,7 @@ module _ (edges : List ForestEdge) (last id : ℕ) (e : ForestEdge) (high : ℕ)
 
 pub all_listed : (edges : List ForestEdge) (last id : ℕ) (index : RangeIndex) → index.leaves ≡ 2 ^ index.depth → last < index.leaves
     → ((d : ℕ) → last < 2 ^ d → index.depth ≤ d) → id ≡ length edges
-    → AreListed (map (closed_edge (last + 1)) edges) index.depth (2 * index.leaves) id index.nodes.items → IsIndex last (map (closed_edge (last + 1)) edges) index
+    → AreListed (map (closed_edge (last + 1)) edges) index.depth (2 * index.leaves) id index.nodes → IsIndex last (map (closed_edge (last + 1)) edges) index
 all_listed edges last id index leaves wide least all w = record {
   leaves = leaves;
   wide = wide;

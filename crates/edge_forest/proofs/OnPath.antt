@@ -14,7 +14,7 @@ use Rattle.edge_forest.proofs.PathCounts.{path_below, met, holds, met_is, nothin
 
 -- the edges that are listed on the way
 abbrev pub on_path : RangeIndex → ℕ → List ℕ
-on_path index k = flat_map (λ x. get_or index.nodes.items x []) (path_up (suc index.depth) (index.leaves + k))
+on_path index k = flat_map (λ x. get_or index.nodes x []) (path_up (suc index.depth) (index.leaves + k))
 
 -- the numbers of the edges whose range holds k
 abbrev pub alive_numbers : List ForestEdge → ℕ → List ℕ
@@ -45,9 +45,9 @@ module _ (last k : ℕ) (edges : List ForestEdge) (index : RangeIndex) (w : IsIn
   times_on_path : (i : ℕ) → times i (on_path index k) ≡ times i (alive_numbers edges k)
   unfolding path
   times_on_path i =
-      times-flat_map i (λ x. get_or index.nodes.items x []) path
-      ∙ sum_by-agree (λ x. times i (get_or index.nodes.items x [])) (λ x. cond (nat_lt i (length edges)) (times x (nodes_of_edge index.depth (edge_at edges i))) 0) path
-      (All-weaker (λ (x : ℕ). x < 2 ^ suc index.depth) (λ x. times i (get_or index.nodes.items x []) ≡ cond (nat_lt i (length edges)) (times x (nodes_of_edge index.depth (edge_at edges i))) 0)
+      times-flat_map i (λ x. get_or index.nodes x []) path
+      ∙ sum_by-agree (λ x. times i (get_or index.nodes x [])) (λ x. cond (nat_lt i (length edges)) (times x (nodes_of_edge index.depth (edge_at edges i))) 0) path
+      (All-weaker (λ (x : ℕ). x < 2 ^ suc index.depth) (λ x. times i (get_or index.nodes x []) ≡ cond (nat_lt i (length edges)) (times x (nodes_of_edge index.depth (edge_at edges i))) 0)
       (λ x l. let double = pow-succ' 2 index.depth in let leaves = w.leaves in let count = w.count in w.listed x i (omega arith))
       path (path_below (suc index.depth) (index.leaves + k) (let double = pow-succ' 2 index.depth in let leaves = w.leaves in let wide = w.wide in omega arith)))
       ∙ by (cases_lt i (length edges))

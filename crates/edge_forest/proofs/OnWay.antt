@@ -25,11 +25,11 @@ times-member i (x ∷ xs) (suc k, l, e) = elim (cases_eq x i) [
   | inr f ↦ omega (arith, times-other i x xs f, times-member i xs (k, omega arith, e))
 ]
 
-pub listed_are_edges : (last : ℕ) (edges : List ForestEdge) (index : RangeIndex) → IsIndex last edges index → (x : ℕ) → x < length index.nodes.items
-    → All (λ i. i < length edges) (get_or index.nodes.items x [])
+pub listed_are_edges : (last : ℕ) (edges : List ForestEdge) (index : RangeIndex) → IsIndex last edges index → (x : ℕ) → x < length index.nodes
+    → All (λ i. i < length edges) (get_or index.nodes x [])
 listed_are_edges last edges index w x h m d short =
-    let i = get_or (get_or index.nodes.items x []) m d in
-    let some = times-member i (get_or index.nodes.items x []) (m, short, get_or_default (get_or index.nodes.items x []) m i d short) in
+    let i = get_or (get_or index.nodes x []) m d in
+    let some = times-member i (get_or index.nodes x []) (m, short, get_or_default (get_or index.nodes x []) m i d short) in
     elim (cases_lt i (length edges)) [
       | inl less ↦ less
       | inr more ↦
@@ -52,8 +52,8 @@ pub record IsOnWay (edges : List ForestEdge) (index : RangeIndex) (k count node 
   pub levels : count + left ≡ index.depth + 1
   pub path : path_up (suc index.depth) (index.leaves + k) ≡ done ++ path_up left node
   pub node_within : node ≤ index.leaves + k
-  pub read : ids ≡ filter (λ i. is_alive k (edge_at edges i)) (flat_map (λ x. get_or index.nodes.items x []) done)
-  pub looked : looks ≡ before + count + length (flat_map (λ x. get_or index.nodes.items x []) done)
+  pub read : ids ≡ filter (λ i. is_alive k (edge_at edges i)) (flat_map (λ x. get_or index.nodes x []) done)
+  pub looked : looks ≡ before + count + length (flat_map (λ x. get_or index.nodes x []) done)
 
 pub way_up_begins : (edges : List ForestEdge) (index : RangeIndex) (k before : ℕ) → IsOnWay edges index k 0 (index.leaves + k) [] before before
 way_up_begins edges index k before = record {
@@ -68,13 +68,13 @@ way_up_begins edges index k before = record {
 
 module _ (edges : List ForestEdge) (index : RangeIndex) (k : ℕ) where
   abbrev listed : ℕ → List ℕ
-  listed x = get_or index.nodes.items x []
+  listed x = get_or index.nodes x []
 
   abbrev holds_step : ℕ → Bool
   holds_step i = is_alive k (edge_at edges i)
 
   pub way_up_goes_on : (count node : ℕ) (ids new : List ℕ) (before looks now : ℕ) → count < index.depth + 1 → IsOnWay edges index k count node ids before looks
-      → new ≡ ids ++ filter (λ i. is_alive k (edge_at edges i)) (get_or index.nodes.items node []) → now ≡ looks + 1 + length (get_or index.nodes.items node [])
+      → new ≡ ids ++ filter (λ i. is_alive k (edge_at edges i)) (get_or index.nodes node []) → now ≡ looks + 1 + length (get_or index.nodes node [])
       → IsOnWay edges index k (count + 1) (node / 2) new before now
   way_up_goes_on count node ids new before looks now less w e f = by w.left w.levels w.path
     where
@@ -102,11 +102,11 @@ module _ (edges : List ForestEdge) (index : RangeIndex) (k : ℕ) where
 
     -- no more so far
     pub looks_so_far : (count node : ℕ) (ids : List ℕ) (before looks : ℕ) → count < index.depth + 1 → IsOnWay edges index k count node ids before looks
-        → looks + 1 + length (get_or index.nodes.items node []) ≤ before + length (alive_edges edges k) + index.depth + 1
+        → looks + 1 + length (get_or index.nodes node []) ≤ before + length (alive_edges edges k) + index.depth + 1
     looks_so_far count node ids before looks less v = by v.left v.levels v.path
       where
         by : (left : ℕ) → count + left ≡ index.depth + 1 → path_up (suc index.depth) (index.leaves + k) ≡ v.done ++ path_up left node
-            → looks + 1 + length (get_or index.nodes.items node []) ≤ before + length (alive_edges edges k) + index.depth + 1
+            → looks + 1 + length (get_or index.nodes node []) ≤ before + length (alive_edges edges k) + index.depth + 1
         by zero g h = absurd (omega arith)
         by (suc left) g h =
             let whole : length (on_path index k) ≡ length (flat_map listed v.done) + (length (listed node) + length (flat_map listed (path_up left (node / 2))))
@@ -116,7 +116,7 @@ module _ (edges : List ForestEdge) (index : RangeIndex) (k : ℕ) where
             omega (arith, whole, count_on_path, v.looked)
 
     -- the node is one of the tree
-    pub node_of_tree : (count node : ℕ) (ids : List ℕ) (before looks : ℕ) → IsOnWay edges index k count node ids before looks → node < length index.nodes.items
+    pub node_of_tree : (count node : ℕ) (ids : List ℕ) (before looks : ℕ) → IsOnWay edges index k count node ids before looks → node < length index.nodes
     node_of_tree count node ids before looks v = omega (arith, v.node_within, w.count, w.wide)
 
     -- at the root all are read

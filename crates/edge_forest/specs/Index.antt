@@ -41,9 +41,9 @@ pub record IsIndex (last : ℕ) (edges : List ForestEdge) (index : RangeIndex) :
   pub leaves : index.leaves ≡ 2 ^ index.depth
   pub wide : last < index.leaves
   pub least : (d : ℕ) → last < 2 ^ d → index.depth ≤ d
-  pub count : length index.nodes.items ≡ 2 * index.leaves
-  pub listed : (x i : ℕ) → x < length index.nodes.items
-      → times i (slice_index_or index.nodes.items x []) ≡ (if nat_lt i (length edges) then times x (nodes_of_edge index.depth (edge_at edges i)) else 0)
+  pub count : length index.nodes ≡ 2 * index.leaves
+  pub listed : (x i : ℕ) → x < length index.nodes
+      → times i (slice_index_or index.nodes x []) ≡ (if nat_lt i (length edges) then times x (nodes_of_edge index.depth (edge_at edges i)) else 0)
 
 -- an index over steps of which k is one, and the leaves of which are enough for the ranges
 pub record IsIndexFor (k : ℕ) (edges : List ForestEdge) (index : RangeIndex) : Type 0 where

@@ -10,6 +10,7 @@ pub mod Walks
 pub mod Growth
 pub mod Start
 pub mod Settle
+pub mod FlatLists
 pub mod Index
 pub mod Spent
 pub mod Kept

@@ -6,7 +6,7 @@ ghost use Rattle.edge_forest.specs.Index.{IsIndexFor};
 
 use crate::edge::ForestEdge;
 use crate::index::RangeIndex;
-use crate::looks::look;
+use crate::looks::{look, look_list};
 use std::alloc::Global;
 use std::sync::ledger::Ledger;
 use tgap_model::{List, Memory, Steps};
@@ -59,8 +59,8 @@ pub fn alive_at<L: Ledger>(
     let mut ids = Vec::new(alloc);
     let mut node = index.leaves + k as usize;
     for _ in 0..index.depth + 1 {
-        let listed = look(index.nodes.as_slice(), node, looks);
-        read_ranges(&mut ids, edges, listed.as_slice(), k, looks)?;
+        let listed = look_list(&index.nodes, node, looks);
+        read_ranges(&mut ids, edges, listed, k, looks)?;
         node /= 2;
     }
     ids.sort_unstable_by_key(|id| edges.get(*id as usize).map_or(0, |edge| edge.key));

@@ -66,11 +66,12 @@ fn close_edges(edges: &mut Vec<ForestEdge>, high: u32)
     }
 }
 
-/// Gives up what is kept while the history goes on.
+/// Gives up what is kept while the history goes on, and the room for more edges.
 fn give_up(alloc: Global, growth: &mut Growth)
     ensures base { growth.new.base ≡ growth.old.base }
-    ensures edges { growth.new.edges ≡ growth.old.edges }
+    ensures edges { growth.new.edges.items ≡ growth.old.edges.items }
 {
+    growth.edges.shrink_to_fit();
     growth.nodes = Nodes {
         node_of: Vec::new(alloc),
         places: Vec::new(alloc),

@@ -20,6 +20,15 @@ pub struct GoneSteps {
     pub starts: Vec<usize>,
 }
 
+/// How many points these arcs have, for the room that their steps take.
+fn room_of(arcs: &[BaseArc]) -> usize {
+    let mut count = 0usize;
+    for arc in arcs {
+        count = count.saturating_add(arc.points.len());
+    }
+    count
+}
+
 /// Puts the steps of these points at the end.
 fn push_steps(steps: &mut Vec<u32>, removed: &Removed, points: &[Point]) -> Result<(), Memory>
     ensures { OnOk result (steps.new.items ≡ steps.old.items ++ map (step_of removed.now) points.now) }
@@ -43,7 +52,7 @@ impl GoneSteps {
     pub fn of(alloc: Global, arcs: &[BaseArc], removed: &Removed) -> Result<GoneSteps, Memory>
         ensures { IfOk result (λ gone. AreGoneSteps arcs.now removed.now gone) }
     {
-        let mut steps = Vec::new(alloc);
+        let mut steps = Vec::with_capacity(alloc, room_of(arcs))?;
         let mut starts = Vec::with_capacity(alloc, arcs.len())?;
         for arc in arcs {
             starts.push(steps.len())?;

@@ -7,6 +7,7 @@ ghost use Rattle.edge_forest.specs.Kept.{closed_edge};
 ghost use Rattle.edge_forest.specs.Index.{listed_nodes, IsListed, IsIndex};
 
 use crate::edge::ForestEdge;
+use crate::flat_lists::FlatLists;
 use crate::growth::closed_high;
 use crate::nodes::empty_lists;
 use std::alloc::Global;
@@ -19,7 +20,7 @@ use tgap_model::{List, Memory};
 pub struct RangeIndex {
     pub depth: u32,
     pub leaves: usize,
-    pub nodes: Vec<List<u32>>,
+    pub nodes: FlatLists,
 }
 
 impl RangeIndex {
@@ -28,7 +29,7 @@ impl RangeIndex {
         RangeIndex {
             depth: 0,
             leaves: 1,
-            nodes: Vec::new(alloc),
+            nodes: FlatLists::none(alloc),
         }
     }
 }
@@ -121,6 +122,6 @@ pub fn index_of(alloc: Global, edges: &[ForestEdge], last: u32) -> Result<RangeI
     Ok(RangeIndex {
         depth,
         leaves,
-        nodes,
+        nodes: FlatLists::of(alloc, nodes.as_slice())?,
     })
 }

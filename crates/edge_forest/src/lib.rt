@@ -6,6 +6,7 @@ mod alive;
 mod copy;
 mod edge;
 mod face_labels;
+mod flat_lists;
 mod forest;
 mod gone_steps;
 mod growth;

@@ -1,6 +1,6 @@
 -- There are few levels; node by node the listed edges are read, and at the root they are those that hold the step.
-use Rattle.std.proofs.Common.{rules, Bool, ◌≡◌, ◌<◌, ◌≤◌, ◌+◌, ◌∙◌, ◌++◌, ℕ, List, [], filter, length, get_or, sym, ap, subst, All, arith}
-use Rattle.std.proofs.lemmas.List.{get_or_read}
+use Rattle.std.proofs.Common.{rules, Bool, ◌≡◌, ◌<◌, ◌≤◌, ◌+◌, ◌^◌, ◌∙◌, ◌++◌, ℕ, List, [], filter, length, get_or, sym, ap, subst, All, arith}
+use Rattle.std.proofs.Math.Pow.{pow_mono}
 use Rattle.std.proofs.lemmas.List.Sorted.{IsNonDecreasingBy-from_sort_by_key, IsPermutation-trans}
 use Rattle.edge_forest.specs.Edges.{edge_at, is_alive}
 use Rattle.edge_forest.proofs.AliveNumbers.{alive_sorted}
@@ -8,17 +8,18 @@ use Rattle.edge_forest.proofs.OnPath.{alive_numbers}
 use Rattle.edge_forest.proofs.OnWay.{IsOnWay, listed_are_edges, way_up_begins, way_up_goes_on, looks_so_far, node_of_tree, way_up_ends}
 use Rattle.edge_forest.proofs.alive.alive_at.Goals as goal
 
--- what is read of a node is its list
-read_at : (nodes slice : List (List ℕ)) (node : ℕ) (found listed : List ℕ) → node < length nodes → slice ≡ nodes → found ≡ get_or slice node found → listed ≡ found
-    → listed ≡ get_or nodes node []
-read_at nodes slice node found listed short same read is = is ∙ get_or_read nodes node found short (read ∙ ap (λ (ns : List (List ℕ)). get_or ns node found) same) []
-
--- and so are the numbers that are put behind others
+-- the numbers that are put behind others
 put_behind : (test : ℕ → Bool) (ids new listed found : List ℕ) → new ≡ ids ++ filter test listed → listed ≡ found → new ≡ ids ++ filter test found
 put_behind test ids new listed found put same = put ∙ ap (λ (xs : List ℕ). ids ++ filter test xs) same
 
 pub overflow_add-end : goal.overflow_add-end
 overflow_add-end g c = let few : c.args.index.now.depth ≤ 32 = c.requires.index.is.least 32 c.requires.index.few in omega arith
+
+pub overflow_add-node : goal.overflow_add-node
+overflow_add-node g c =
+    let is = c.requires.index.is in
+    let most : 2 ^ c.args.index.now.depth ≤ 2 ^ 32 = pow_mono (is.least 32 c.requires.index.few) in
+    omega (arith, most, is.leaves, is.wide, c.requires.index.within)
 
 pub loop-init : goal.loop-init
 loop-init g c =
@@ -32,11 +33,9 @@ read_ranges-requires g c =
     let edges = c.args.edges.now in
     let index = c.args.index.now in
     let node = c.loop.node in
-    let short : node < length index.nodes.items
+    let short : node < length index.nodes
     = node_of_tree edges index c.args.k need.last need.is need.within need.ranges c.loop.counter node c.loop.ids.items c.args.looks.now c.loop.looks c.loop.invariant in
-    let read = read_at index.nodes.items c.as_slice.result.now node c.look-listed.result.now c.as_slice-in-loop.result.now short c.as_slice.ensures.value c.look-listed.ensures.value
-    c.as_slice-in-loop.ensures in
-    subst (All (λ (i : ℕ). i < length edges)) (sym read) (listed_are_edges need.last edges index need.is node short)
+    subst (All (λ (i : ℕ). i < length edges)) (sym c.look_list-listed.ensures.value) (listed_are_edges need.last edges index need.is node short)
 
 pub returns-in_err-read_ranges-clause-most : goal.returns-in_err-read_ranges-clause-most
 returns-in_err-read_ranges-clause-most g c =
@@ -44,13 +43,11 @@ returns-in_err-read_ranges-clause-most g c =
     let edges = c.args.edges.now in
     let index = c.args.index.now in
     let node = c.loop.node in
-    let short : node < length index.nodes.items
+    let short : node < length index.nodes
     = node_of_tree edges index c.args.k need.last need.is need.within need.ranges c.loop.counter node c.loop.ids.items c.args.looks.now c.loop.looks c.loop.invariant in
-    let read = read_at index.nodes.items c.as_slice.result.now node c.look-listed.result.now c.as_slice-in-loop.result.now short c.as_slice.ensures.value c.look-listed.ensures.value
-    c.as_slice-in-loop.ensures in
     let so_far = looks_so_far edges index c.args.k need.last need.is need.within need.ranges c.loop.counter node c.loop.ids.items c.args.looks.now c.loop.looks c.loop-test.true
     c.loop.invariant in
-    omega (arith, so_far, c.look-listed.ensures.counted, c.in_err-read_ranges.ensures.most, ap (λ (xs : List ℕ). length xs) read)
+    omega (arith, so_far, c.look_list-listed.ensures.counted, c.in_err-read_ranges.ensures.most, ap (λ (xs : List ℕ). length xs) c.look_list-listed.ensures.value)
 
 pub loop-preserved : goal.loop-preserved
 loop-preserved g c =
@@ -58,14 +55,12 @@ loop-preserved g c =
     let edges = c.args.edges.now in
     let index = c.args.index.now in
     let node = c.loop.node in
-    let short : node < length index.nodes.items
+    let short : node < length index.nodes
     = node_of_tree edges index c.args.k need.last need.is need.within need.ranges c.loop.counter node c.loop.ids.items c.args.looks.now c.loop.looks c.loop.invariant in
-    let read = read_at index.nodes.items c.as_slice.result.now node c.look-listed.result.now c.as_slice-in-loop.result.now short c.as_slice.ensures.value c.look-listed.ensures.value
-    c.as_slice-in-loop.ensures in
     way_up_goes_on edges index c.args.k c.loop.counter node c.loop.ids.items c.read_ranges.new.ids.items c.args.looks.now c.loop.looks c.read_ranges.new.looks c.loop-test.true c.loop.invariant
-    (put_behind (λ i. is_alive c.args.k (edge_at edges i)) c.loop.ids.items c.read_ranges.new.ids.items c.as_slice-in-loop.result.now (get_or index.nodes.items node [])
-    c.in_ok-read_ranges.ensures.ids read)
-    (omega (arith, c.look-listed.ensures.counted, c.in_ok-read_ranges.ensures.all, ap (λ (xs : List ℕ). length xs) read))
+    (put_behind (λ i. is_alive c.args.k (edge_at edges i)) c.loop.ids.items c.read_ranges.new.ids.items c.look_list-listed.result.now (get_or index.nodes node [])
+    c.in_ok-read_ranges.ensures.ids c.look_list-listed.ensures.value)
+    (omega (arith, c.look_list-listed.ensures.counted, c.in_ok-read_ranges.ensures.all, ap (λ (xs : List ℕ). length xs) c.look_list-listed.ensures.value))
 
 pub returns-clause-ids : goal.returns-clause-ids
 returns-clause-ids g c =

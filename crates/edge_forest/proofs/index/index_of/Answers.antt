@@ -1,11 +1,11 @@
 -- One more edge is listed at its nodes, and at last all are.
-use Rattle.std.proofs.Common.{◌≡◌, suc, ◌+◌, ◌≤◌, ◌^◌, ◌*◌, map, subst, [], arith}
+use Rattle.std.proofs.Common.{◌≡◌, suc, ◌+◌, ◌≤◌, ◌^◌, ◌*◌, map, sym, ◌∙◌, subst, [], arith}
 use Rattle.std.proofs.Math.Nat.{pow-succ'}
 use Rattle.std.proofs.lemmas.List.{get_or_read}
 use Rattle.edge_forest.specs.declared.edge.ForestEdge.{ForestEdge}
 use Rattle.edge_forest.specs.Index.{IsListed}
 use Rattle.edge_forest.specs.Kept.{closed_edge}
-use Rattle.edge_forest.proofs.Listing.{closed_high_is, closed_nodes, one_more_listed, all_listed}
+use Rattle.edge_forest.proofs.Listing.{AreListed, closed_high_is, closed_nodes, one_more_listed, all_listed}
 use Rattle.edge_forest.proofs.index.index_of.Goals as goal
 
 abbrev no_edge : ForestEdge
@@ -39,5 +39,10 @@ loop-id-preserved c =
 
 pub returns : goal.returns
 returns c =
-    all_listed c.args.edges.now c.args.last c.loop-id.id (record { depth = c.levels_over-depth.result.0; leaves = c.levels_over-depth.result.1; nodes = c.loop-id.nodes })
-    c.levels_over-depth.ensures.leaves c.levels_over-depth.ensures.wide c.levels_over-depth.ensures.least (omega (arith, c.loop-id-test.false, c.loop-id.auto.id-end)) c.loop-id.invariant
+    let edges = c.args.edges.now in
+    let depth = c.levels_over-depth.result.0 in
+    let leaves = c.levels_over-depth.result.1 in
+    let flat = c.in_ok-of.ensures ∙ c.as_slice.ensures.value in
+    all_listed edges c.args.last c.loop-id.id (record { depth = depth; leaves = leaves; nodes = c.in_ok-of.field-0 })
+    c.levels_over-depth.ensures.leaves c.levels_over-depth.ensures.wide c.levels_over-depth.ensures.least (omega (arith, c.loop-id-test.false, c.loop-id.auto.id-end))
+    (subst (AreListed (map (closed_edge (c.args.last + 1)) edges) depth (2 * leaves) c.loop-id.id) (sym flat) c.loop-id.invariant)

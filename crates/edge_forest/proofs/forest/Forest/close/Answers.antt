@@ -46,7 +46,7 @@ invariant_of-self c =
     let growth = c.self.inside.growth in
     let removed = c.self.inside.removed in
     let unclosed = ap (λ (f : EdgeForest). f.closed) c.self.view_is ∙ c.requires.open in
-    let edges = ap (λ v. v.items) c.give_up.ensures.edges ∙ c.close_edges.ensures in
+    let edges = c.give_up.ensures.edges ∙ c.close_edges.ensures in
     record {
       kept = closed_is_kept made growth c.give_up.new.growth removed
           (subst (λ (b : Bool). IsForest (forest_of made b growth removed)) unclosed c.self.invariant.kept.forest) c.self.invariant.kept.few
