@@ -1,5 +1,5 @@
 -- A base map is a planar partition exactly where it has no fault.
-use Rattle.std.proofs.Common.{◌≡◌, ℕ, ◌+◌, ◌==◌, true, false, List, [], ◌∷◌, All, Option, Some, None, get_or, ap, ◌∙◌, subst₂}
+use Rattle.std.proofs.Common.{◌≡◌, ℕ, ◌+◌, ◌==◌, true, false, List, [], ◌∷◌, All, Option, Some, None, get_or, AllPairs, sym, ap, ◌∙◌, subst, subst₂}
 use Rattle.std.specs.List.{list_all}
 use Rattle.std.proofs.lemmas.Bool.{and_parts}
 use Rattle.std.proofs.lemmas.List.Elements.{All-nil, All-cons, All-append}
@@ -8,7 +8,7 @@ use Rattle.tgap_model.specs.declared.base.BaseArc.{BaseArc}
 use Rattle.tgap_model.specs.declared.segment.LabelledSegment.{LabelledSegment}
 use Rattle.tgap_model.specs.declared.fault.MapFault.{MapFault}
 use Rattle.tgap_model.specs.Base.{BaseMap, is_arc, is_base}
-use Rattle.tgap_model.specs.Partition.{AreApart, AgreesAtNodes, path_segments, arc_segments, base_segments, node_fault, nodes, or_else, meeting_fault, ring_fault_of, stack_fault_of, arc_fault, map_fault}
+use Rattle.tgap_model.specs.Partition.{AreApart, AgreesAtNodes, path_segments, arc_segments, base_segments, node_fault, nodes, or_else, meeting_from, stack_fault_of, arc_fault, map_fault}
 use Rattle.tgap_model.specs.declared.geometry.Fraction.{Fraction}
 use Rattle.grid_geo.specs.Evidence.{IsFirstMeeting}
 use Rattle.std.proofs.lemmas.Option.{slice_get_within, get_or_from_slice_get}
@@ -18,6 +18,7 @@ use Rattle.tgap_model.proofs.FirstFault.{none_from_faults}
 use Rattle.planar_apart.specs.declared.meeting.Meeting.{Meeting}
 use Rattle.planar_apart.specs.Meetings.{meets}
 use Rattle.base_check.specs.declared.ring.NodeGap.{NodeGap}
+use Rattle.base_check.specs.Faults.{first_node_fault, first_arc_fault}
 use Rattle.base_check.specs.Spokes.{disagrees}
 
 -- ---- the two faces of a segment
@@ -41,35 +42,41 @@ two_faces m h = arc_faces _ 0 m.arcs (base_facts m h).arcs
 
 -- ---- the first fault
 
-pub meeting_is_fault : (m : BaseMap) (found : Meeting) → meeting_fault m ≡ Some (meets found) → arc_fault m ≡ Some (meets found)
-unfolding arc_fault
-meeting_is_fault m found e = ap (λ (o : Option MapFault). or_else o (ring_fault_of m)) e
+pub meeting_is_fault : (segments : List LabelledSegment) (found : Meeting) → meeting_from 0 segments ≡ Some (meets found) → first_arc_fault segments ≡ Some (meets found)
+meeting_is_fault segments found e = ap (λ (o : Option MapFault). or_else o (first_node_fault segments)) e
 
-pub node_is_fault : (m : BaseMap) (o : Option MapFault) → meeting_fault m ≡ None → ring_fault_of m ≡ o → arc_fault m ≡ o
-unfolding arc_fault
-node_is_fault m o e f = ap (λ (p : Option MapFault). or_else p (ring_fault_of m)) e ∙ f
+pub node_is_fault : (segments : List LabelledSegment) (o : Option MapFault) → meeting_from 0 segments ≡ None → first_node_fault segments ≡ o → first_arc_fault segments ≡ o
+node_is_fault segments o e f = ap (λ (p : Option MapFault). or_else p (first_node_fault segments)) e ∙ f
 
 -- ---- maps that agree have none
 
-pub no_meeting : (m : BaseMap) (i j : ℕ) (at : Fraction) → AgreesAtNodes (base_segments m) → IsFirstMeeting (base_segments m) i j at → ⊥
-no_meeting m i j at agrees h =
-    let segments = base_segments m in
+pub no_meeting : (segments : List LabelledSegment) (i j : ℕ) (at : Fraction) → AgreesAtNodes segments → IsFirstMeeting segments i j at → ⊥
+no_meeting segments i j at agrees h =
     let apart = agrees.apart i j no_segment h.order (slice_get_within segments j h.second h.at_second) in
     let first : get_or segments i no_segment ≡ h.first = get_or_from_slice_get segments i h.first no_segment h.at_first in
     let second : get_or segments j no_segment ≡ h.second = get_or_from_slice_get segments j h.second no_segment h.at_second in
     subst₂ AreApart first second apart at h.common
 
-pub no_node_gap : (m : BaseMap) (gap : NodeGap) → AgreesAtNodes (base_segments m) → Some (disagrees gap) ≡ ring_fault_of m → ⊥
-no_node_gap m gap agrees e =
-    let none = e ∙ none_from_faults (node_fault (base_segments m)) (nodes (base_segments m)) (λ k d l. agrees.nodes (get_or (nodes (base_segments m)) k d)) in
+pub no_node_gap : (segments : List LabelledSegment) (gap : NodeGap) → AgreesAtNodes segments → Some (disagrees gap) ≡ first_node_fault segments → ⊥
+no_node_gap segments gap agrees e =
+    let none = e ∙ none_from_faults (node_fault segments) (nodes segments) (λ k d l. agrees.nodes (get_or (nodes segments) k d)) in
     absurd cc
 
--- ---- stacks after arcs
+-- ---- a base map, by the list of its segments
 
-pub map_fault-sound : (m : BaseMap) (o : Option MapFault) → arc_fault m ≡ None → stack_fault_of m ≡ o → map_fault m ≡ o
-unfolding map_fault
-map_fault-sound m o e f = ap (λ (p : Option MapFault). or_else p (stack_fault_of m)) e ∙ f
+module _ (m : BaseMap) (segments : List LabelledSegment) (listed : segments ≡ base_segments m) where
+  pub agrees_at_nodes : is_base m ≡ true → AllPairs AreApart segments → ((v : Point) → node_fault segments v ≡ None) → AgreesAtNodes (base_segments m)
+  agrees_at_nodes holds apart nodes_agree = record {
+    apart = subst (λ (ss : List LabelledSegment). AllPairs AreApart ss) listed apart;
+    two_faces = two_faces m holds;
+    nodes = subst (λ (ss : List LabelledSegment). (v : Point) → node_fault ss v ≡ None) listed nodes_agree;
+  }
 
-pub map_fault-arcs : (m : BaseMap) (fault : MapFault) → arc_fault m ≡ Some fault → map_fault m ≡ Some fault
-unfolding map_fault
-map_fault-arcs m fault e = ap (λ (p : Option MapFault). or_else p (stack_fault_of m)) e
+  -- stacks after arcs
+  pub map_fault-sound : (o : Option MapFault) → first_arc_fault segments ≡ None → stack_fault_of m ≡ o → map_fault m ≡ o
+  unfolding arc_fault map_fault
+  map_fault-sound o e f = ap (λ (p : Option MapFault). or_else p (stack_fault_of m)) (ap first_arc_fault (sym listed) ∙ e) ∙ f
+
+  pub map_fault-arcs : (fault : MapFault) → first_arc_fault segments ≡ Some fault → map_fault m ≡ Some fault
+  unfolding arc_fault map_fault
+  map_fault-arcs fault e = ap (λ (p : Option MapFault). or_else p (stack_fault_of m)) (ap first_arc_fault (sym listed) ∙ e)

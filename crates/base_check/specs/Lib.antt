@@ -1,1 +1,2 @@
 pub mod Spokes
+pub mod Faults
