@@ -54,10 +54,10 @@ pub fn first_disagreement<R: Threads + Sync>(
 ///
 /// It reads the lines one half beyond each abscissa of a vertex that has a next one, from left to right. On each line it
 /// looks only at the places where a segment came or went, or at all where these are many, so the cost is that of sorting
-/// the segments, and for each of them a few searches, each the logarithm of the
-/// height of its stack, and two moves of some hundred numbers. It fails on want of memory alone. Where there are many segments, the lines are cut into a part for each processor,
-/// and the parts are swept side by side, each from the stack of its first line. The sweep is that of Shamos and Hoey,
-/// 1976.
+/// the segments, and for each of them a few searches, each the logarithm of the height of its stack, and two moves of
+/// some hundred numbers. It fails on want of memory alone. Where there are many segments, the lines are cut into a part
+/// for each processor, and the parts are swept side by side, each from the stack of its first line. The sweep is that of
+/// Shamos and Hoey, 1976.
 pub fn first_disagreement_of<R: Threads + Sync>(
     rt: &R,
     alloc: Global,
