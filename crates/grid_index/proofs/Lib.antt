@@ -17,3 +17,5 @@ pub mod Placing
 pub mod Emptied
 pub mod Sought
 pub mod Skipping
+pub mod KeyedPlaces
+pub mod SoughtAreas

@@ -21,7 +21,7 @@ abbrev pub no_point : Point
 no_point = record { x = pos 0; y = pos 0 }
 
 -- only one edge has a key
-only : (edges : List Edge) (i k : ℕ) (d : Edge) → AllPairs (λ e f. e.key < f.key) edges → i < length edges → k < length edges → (edge_at edges i).key ≡ (get_or edges k d).key → get_or edges k d ≡ edge_at edges i
+pub only : (edges : List Edge) (i k : ℕ) (d : Edge) → AllPairs (λ e f. e.key < f.key) edges → i < length edges → k < length edges → (edge_at edges i).key ≡ (get_or edges k d).key → get_or edges k d ≡ edge_at edges i
 only edges i k d up l m e = elim (cases_lt i k) [
   | inl less ↦ let u = up i k d less m in let f = ap (λ (x : Edge). x.key) (get_or_default edges i d no_edge l) in absurd (omega arith)
   | inr le ↦ elim (cases_lt k i) [
@@ -40,7 +40,7 @@ itself a b = both_true (range a.x b.x) (range a.y b.y)
     range : (u v : ℤ) → overlap (int_min u v) (int_max u v) (int_min u v) (int_max u v) ≡ true
     range u v = let t = (Decides-int_le (int_min u v) (int_max u v)).1 (in_order u v) in both_true t t
 
-near_first : (points : List Point) (d : Point) → 2 ≤ length points → not (nat_eq (length (boxes_near (segment_box (get_or points 0 d) (get_or points 1 d)) 0 (segment_boxes points))) 0) ≡ true
+pub near_first : (points : List Point) (d : Point) → 2 ≤ length points → not (nat_eq (length (boxes_near (segment_box (get_or points 0 d) (get_or points 1 d)) 0 (segment_boxes points))) 0) ≡ true
 near_first [] d l = absurd (omega arith)
 near_first (a ∷ []) d l = absurd (omega arith)
 near_first (a ∷ b ∷ points) d l =

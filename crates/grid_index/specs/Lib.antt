@@ -7,3 +7,4 @@ pub mod Slots
 pub mod Merged
 pub mod Changes
 pub mod Wider
+pub mod Keyed

@@ -1,6 +1,6 @@
 //! Slots for the boxes of edges, with a tree over them. What comes takes the slot of what goes.
 
-ghost use Rattle.std.specs.Prelude.{◌≡◌, ◌<◌, ◌≤◌, ◌+◌, ◌++◌, [], List, length, map, filter, slice_set, replicate, Some, None, Option, option_to_list, ◌∷◌, All, AllPairs, IfOk, OnOk, OnErr, IfNone, IfSome, IsPermutation};
+ghost use Rattle.std.specs.Prelude.{◌≡◌, ◌<◌, ◌≤◌, ◌+◌, ◌^◌, ◌++◌, [], List, length, map, filter, slice_set, replicate, Some, None, Option, option_to_list, ◌∷◌, All, AllPairs, IfOk, OnOk, OnErr, IfNone, IfSome, IsPermutation};
 ghost use Rattle.std.specs.Vec.{vec_capacity, vec_len};
 ghost use Rattle.std.specs.List.{flat_map};
 ghost use Rattle.std.specs.List.Sorted.{IsNonDecreasingBy};
@@ -166,6 +166,7 @@ impl Slots {
     pub fn widen(&mut self, alloc: Global, count: usize) -> Result<(), Memory>
         ensures held { held self.new ≡ held self.old }
         ensures room { OnOk result (count ≤ length self.new) }
+        ensures small { OnOk result (length self.new < 2 ^ 63) }
     {
         if count <= self.slots.len() {
             return Ok(());

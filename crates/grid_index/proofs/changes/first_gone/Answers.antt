@@ -1,5 +1,4 @@
 -- The edge with the first key is the first one that goes.
-use Rattle.std.proofs.Common.{rules}
 use Rattle.grid_index.proofs.Placing.{none_before}
 use Rattle.grid_index.proofs.changes.first_gone.Goals as goal
 
