@@ -19,7 +19,7 @@ ghost use Rattle.slice_read.specs.declared.fail.ReadFail.TheVariants.{StepTooHig
 ghost use Rattle.slice_read.specs.Reading.{live_rows};
 ghost use Rattle.slice_read.specs.Windows.{row_of};
 
-use edge_forest::Forest;
+use edge_forest::{Forest, PointRoom};
 use face_tree::FaceTree;
 use slice_read::ReadFail;
 use std::alloc::Global;
@@ -100,6 +100,13 @@ fn put_faces(out: &mut Text, tree: &FaceTree, faces: &[u32]) -> Result<(), Memor
     Ok(())
 }
 
+/// Room for one edge after the other: for its points, and for its row.
+#[derive(Drop)]
+struct EdgeRoom {
+    points: PointRoom,
+    row: RowRoom,
+}
+
 /// Appends a line for each of these edges, as they are after k steps, less the vertices that were removed by then.
 fn put_edges_at(
     alloc: Global,
@@ -117,7 +124,10 @@ fn put_edges_at(
     ensures { (removals : List Removal) → AreGone forest.now k removals
         → OnOk result (out.new ≡ out.old ++ lines (map edge_words (edges_of (merged forest.now.base) k removals (map (chain_of forest.now.edges) ids.now)))) }
 {
-    let mut room = RowRoom::new();
+    let mut room = EdgeRoom {
+        points: PointRoom::new(alloc),
+        row: RowRoom::new(),
+    };
     for id in ids {
         put_edge_at(alloc, out, &mut room, tree, forest, *id, k)?;
     }
@@ -129,7 +139,7 @@ fn put_edges_at(
 fn put_edge_at(
     alloc: Global,
     out: &mut Text,
-    room: &mut RowRoom,
+    room: &mut EdgeRoom,
     tree: &FaceTree,
     forest: &Forest,
     id: u32,
@@ -146,6 +156,7 @@ fn put_edge_at(
     let edge = forest.edge(id);
     let left = tree.ancestor(edge.left, k);
     let right = tree.ancestor(edge.right, k);
-    let points = forest.points_at(alloc, id, k)?;
-    put_edge(out, room, edge.key, left, right, points.as_slice())
+    forest.read_points(alloc, id, k, &mut room.points)?;
+    let points = room.points.as_slice();
+    put_edge(out, &mut room.row, edge.key, left, right, points)
 }

@@ -47,6 +47,6 @@ returns c removals gone =
     let right_is = c.ancestor-right.ensures.label
     ∙ (side_label forest.base base c.args.tree.now c.requires.history edge.low k c.requires.low c.requires.step arc.right _ (arc_sides forest.base base edge.key).1 right
     ∙ ap (λ (i : ℕ). label_at h k (arc_number forest.base.arcs i).right) known.key) in
-    let points_are = c.as_slice.ensures ∙ c.in_ok-points.ensures ∙ left_points forest k removals gone (chain_points forest.base.arcs (chain_of forest.edges c.args.id)) in
+    let points_are = c.as_slice-points.ensures ∙ c.in_ok-read_points.ensures ∙ left_points forest k removals gone (chain_points forest.base.arcs (chain_of forest.edges c.args.id)) in
     subst (λ (e : Edge). OnOk c.put_edge.result (c.put_edge.new.out ≡ c.args.out.now ++ line (edge_words e)))
     (same_edge _ _ _ _ (edge_of h k removals (chain_of forest.edges c.args.id)) key_is left_is right_is points_are) c.put_edge.ensures
