@@ -5,6 +5,7 @@ use Rattle.std.specs.Prelude.{◌≡◌, ◌<◌, ◌≤◌, ℕ, zero, suc, ◌
 use Rattle.lemmas.specs.Parity.{is_odd}
 use Rattle.edge_forest.specs.declared.edge.ForestEdge.{ForestEdge}
 use Rattle.edge_forest.specs.declared.index.RangeIndex.{RangeIndex}
+use Rattle.edge_forest.specs.declared.alive.KeyedEdge.{KeyedEdge}
 use Rattle.edge_forest.specs.Edges.{edge_at}
 
 -- The nodes at which a range is listed, of one level and the levels above it: on this level the range goes from node `low` on and before
@@ -52,3 +53,7 @@ pub record IsIndexFor (k : ℕ) (edges : List ForestEdge) (index : RangeIndex) :
   pub few : last < 2 ^ 32
   pub is : IsIndex last edges index
   pub ranges : (i : ℕ) → i < length edges → (edge_at edges i).high ≤ index.leaves
+
+-- the edge with this number, and its key beside it
+abbrev pub keyed : List ForestEdge → ℕ → KeyedEdge
+keyed edges i = record { key = (edge_at edges i).key; id = i }

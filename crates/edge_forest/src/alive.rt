@@ -1,8 +1,8 @@
 //! The edges whose range holds a step.
 
-ghost use Rattle.std.specs.Prelude.{◌≡◌, ◌≢◌, ◌<◌, ◌≤◌, ◌+◌, ◌^◌, ◌++◌, ℕ, true, length, filter, All, IfOk, OnOk};
+ghost use Rattle.std.specs.Prelude.{◌≡◌, ◌≢◌, ◌<◌, ◌≤◌, ◌+◌, ◌^◌, ◌++◌, ℕ, true, length, map, filter, All, IfOk, OnOk};
 ghost use Rattle.edge_forest.specs.Edges.{edge_at, is_alive, alive_edges};
-ghost use Rattle.edge_forest.specs.Index.{IsIndexFor};
+ghost use Rattle.edge_forest.specs.Index.{IsIndexFor, keyed};
 
 use crate::edge::ForestEdge;
 use crate::index::RangeIndex;
@@ -11,6 +11,13 @@ use std::alloc::Global;
 use std::sync::ledger::Ledger;
 use tgap_model::{List, Memory, Steps};
 
+/// An edge by its number, with its key beside it.
+#[derive(Clone, Copy, Debug)]
+pub struct KeyedEdge {
+    pub key: u32,
+    pub id: u32,
+}
+
 /// Whether the range of the edge holds k.
 pub fn holds(edge: &ForestEdge, k: u32) -> bool
     ensures { result ≡ is_alive k edge.now }
@@ -18,26 +25,40 @@ pub fn holds(edge: &ForestEdge, k: u32) -> bool
     edge.low <= k && k < edge.high
 }
 
-/// Reads the ranges of these edges, and puts those after `ids` that hold k.
+/// Reads the ranges of these edges, and puts those of them behind `found` that hold k, with their keys.
 fn read_ranges<L: Ledger>(
-    ids: &mut Vec<u32>,
+    found: &mut Vec<KeyedEdge>,
     edges: &[ForestEdge],
     listed: &[u32],
     k: u32,
     looks: &mut Steps<L>,
 ) -> Result<(), Memory>
     requires { All (λ i. i < length edges.now) listed.now }
-    ensures ids { IfOk result (λ _. ids.new.items ≡ ids.old.items ++ filter (λ i. is_alive k (edge_at edges.now i)) listed.now) }
+    ensures found { IfOk result (λ _. found.new.items ≡ found.old.items ++ map (keyed edges.now) (filter (λ i. is_alive k (edge_at edges.now i)) listed.now)) }
     ensures most { looks.new ≤ looks.old + length listed.now }
     ensures all { OnOk result (looks.new ≡ looks.old + length listed.now) }
 {
     for id in listed {
         let edge = look(edges, *id as usize, looks);
         if holds(edge, k) {
-            ids.push(*id)?;
+            found.push(KeyedEdge {
+                key: edge.key,
+                id: *id,
+            })?;
         }
     }
     Ok(())
+}
+
+/// The numbers of these edges, in their order.
+fn numbers_of(alloc: Global, found: &[KeyedEdge]) -> Result<List<u32>, Memory>
+    ensures { IfOk result (λ ids. ids ≡ map (λ e. e.id) found.now) }
+{
+    let mut ids = Vec::with_capacity(alloc, found.len())?;
+    for edge in found {
+        ids.push(edge.id)?;
+    }
+    Ok(List::from(ids))
 }
 
 /// The numbers of the edges whose range holds k, in the order of their keys. The index is gone up from the leaf of the step
@@ -56,13 +77,13 @@ pub fn alive_at<L: Ledger>(
     ensures most { looks.new ≤ looks.old + length (alive_edges edges.now k) + index.now.depth + 1 }
     ensures all { OnOk result (looks.new ≡ looks.old + length (alive_edges edges.now k) + index.now.depth + 1) }
 {
-    let mut ids = Vec::new(alloc);
+    let mut found = Vec::new(alloc);
     let mut node = index.leaves + k as usize;
     for _ in 0..index.depth + 1 {
         let listed = look_list(&index.nodes, node, looks);
-        read_ranges(&mut ids, edges, listed, k, looks)?;
+        read_ranges(&mut found, edges, listed, k, looks)?;
         node /= 2;
     }
-    ids.sort_unstable_by_key(|id| edges.get(*id as usize).map_or(0, |edge| edge.key));
-    Ok(List::from(ids))
+    found.sort_unstable_by_key(|edge| edge.key);
+    numbers_of(alloc, &found)
 }
