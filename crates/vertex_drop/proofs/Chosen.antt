@@ -17,7 +17,7 @@ use Rattle.vertex_drop.specs.Sweep.{sweep_chosen}
 use Rattle.vertex_drop.proofs.Swept.{from_kept, rest_swept, rest_passed, swept_edges, sweep_all}
 
 module _ (ratio : ℕ) (area : ℤ) where
-  stays : (others : List Seg) (a b c : Point) → is_small_corner ratio area a b c ≡ false → is_removable ratio area others a b c ≡ false
+  pub stays : (others : List Seg) (a b c : Point) → is_small_corner ratio area a b c ≡ false → is_removable ratio area others a b c ≡ false
   unfolding is_removable
   stays others a b c h =
       let both = or_parts (area2 a b c == 0) (int_le (pos (ratio * area2 a b c)) area) h in
@@ -33,7 +33,7 @@ module _ (ratio : ℕ) (area : ℤ) where
       from_kept ratio area others done a b c points (stays (others ++ done ++ path (c ∷ points)) a b c both.0)
       ∙ ap (λ (s : Swept). record { kept = a ∷ s.kept; gone = s.gone }) (all_stay_from others (done ++ record { a = a; b = b } ∷ []) b (c ∷ points) both.1)
 
-  all_stay : (others : List Seg) (points : List Point) → has_small_corner ratio area points ≡ false
+  pub all_stay : (others : List Seg) (points : List Point) → has_small_corner ratio area points ≡ false
       → sweep_points ratio area others points ≡ record { kept = points; gone = [] }
   all_stay others [] h = refl
   all_stay others (a ∷ points) h = all_stay_from others [] a points h

@@ -141,19 +141,14 @@ module _ (rule : Rule) (made : ℕ) (keys : List ℕ) (edges : List Edge) where
       (passed_to kept gone h.place (length edges - h.place) (omega (arith, h.short))
       (λ i s l. not_swept i (λ m t. inl (h.above i m s (omega (arith, l, h.short)) (omega (arith, t, le)) t))) h.going))
 
--- the edge that has a key of the list is found at its place
-pub found_edge : (made : ℕ) (found live : List Edge) (keys : List ℕ) (j r : ℕ) → found ≡ live → j < length keys
+-- the edge that has a key of the list, by its place
+pub found_edge : (made : ℕ) (live : List Edge) (keys : List ℕ) (j : ℕ) → j < length keys
     → All (λ k. (e : Edge) × Contains live e × (e.key ≡ k) × (has_side made e ≡ true)) keys
-    → ((i : ℕ) (d : Edge) → i < length found → (get_or found i d).key ≡ get_or keys j 0 → r ≡ i)
-    → (r < length live) × ((get_or live r no_edge).key ≡ get_or keys j 0) × (has_side made (get_or live r no_edge) ≡ true)
-found_edge made found live keys j r e l there is =
+    → (i : ℕ) × (i < length live) × ((get_or live i no_edge).key ≡ get_or keys j 0) × (has_side made (get_or live i no_edge) ≡ true)
+found_edge made live keys j l there =
     let h = there j 0 l in
     let same : get_or live h.1.0 no_edge ≡ h.0 = get_or_default live h.1.0 no_edge h.0 h.1.1 ∙ h.1.2 in
-    let key = ap (λ (e : Edge). e.key) same ∙ h.2 in
-    let place : r ≡ h.1.0 =
-    subst (λ (es : List Edge). (i : ℕ) (d : Edge) → i < length es → (get_or es i d).key ≡ get_or keys j 0 → r ≡ i) e is h.1.0 no_edge h.1.1 key in
-    subst (λ (n : ℕ). (n < length live) × ((get_or live n no_edge).key ≡ get_or keys j 0) × (has_side made (get_or live n no_edge) ≡ true)) (sym place)
-    (h.1.1, key, ap (has_side made) same ∙ h.3)
+    (h.1.0, h.1.1, ap (λ (e : Edge). e.key) same ∙ h.2, ap (has_side made) same ∙ h.3)
 
 -- strictly ascending keys do not descend
 pub non_decreasing : (keys : List ℕ) → AllPairs (λ j k. j < k) keys → IsNonDecreasing keys

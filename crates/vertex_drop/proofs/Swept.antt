@@ -1,5 +1,5 @@
 -- The sweep depends on the segments that a triangle is tested against, and not on their order; and one vertex, and one edge, more.
-use Rattle.std.proofs.Common.{◌≡◌, ◌<◌, ◌≤◌, ◌+◌, ◌==◌, ℕ, ℤ, pos, ◌*◌, int_le, Bool, true, false, ◌&&◌, ◌||◌, List, [], ◌∷◌, ◌++◌, take, drop, length, get_or, if◌then◌else◌, All, refl, sym, ap, ◌∙◌, subst, arith}
+use Rattle.std.proofs.Common.{◌≡◌, ◌<◌, ◌≤◌, ◌+◌, ◌==◌, ℕ, ℤ, pos, ◌*◌, int_le, Bool, true, false, ◌&&◌, ◌||◌, List, [], ◌∷◌, ◌++◌, take, drop, length, get_or, if◌then◌else◌, refl, sym, ap, ◌∙◌, subst, arith}
 use Rattle.std.specs.List.{flat_map, list_all}
 use Rattle.std.proofs.lemmas.Bool.{eq-eqb, ne_eqb}
 use Rattle.std.proofs.lemmas.Grind.{flat_map-append}
@@ -13,7 +13,6 @@ use Rattle.tgap_model.specs.Clear.{is_clear}
 use Rattle.tgap_model.specs.Removals.{path, is_removable, Swept, sweep, sweep_from, sweep_points, sweep_edges, live_segments, has_side}
 use Rattle.vertex_drop.specs.declared.removable.Rule.{Rule}
 use Rattle.vertex_drop.specs.declared.near.Stand.{Stand}
-use Rattle.vertex_drop.specs.Held.{IsNearPoint}
 use Rattle.vertex_drop.specs.Left.{swept_by, left_segments, unswept_path, other_segments}
 use Rattle.vertex_drop.specs.Sweep.{sweep_after, swept_edge, sweep_chosen, IsEdgeSwept}
 use Rattle.vertex_drop.proofs.Unswept.{Ascend, left_around}
@@ -147,16 +146,14 @@ module _ (ratio : ℕ) (area : ℤ) where
     pub record IsSweeping (kept : List Seg) (gone : List Point) (a : Point) (place : ℕ) : Type 0 where
       pub left : kept ++ path (sweep_from ratio area others kept a (drop place points)).kept ≡ first ++ path (sweep_after ratio area others first points).kept
       pub removed : gone ++ (sweep_from ratio area others kept a (drop place points)).gone ≡ before ++ (sweep_after ratio area others first points).gone
-      pub near : IsNearPoint a
 
-    pub sweep_begins : (d : Point) → 0 < length points → All IsNearPoint points → IsSweeping first before (get_or points 0 d) 1
-    sweep_begins d lt near =
+    pub sweep_begins : (d : Point) → 0 < length points → IsSweeping first before (get_or points 0 d) 1
+    sweep_begins d lt =
         let all : sweep_after ratio area others first points ≡ sweep_from ratio area others first (get_or points 0 d) (drop 1 points) =
         at_drop_more (sweep_after ratio area others first) points 0 d lt in
         record {
           left = ap (λ (t : Swept). first ++ path t.kept) (sym all);
           removed = ap (λ (t : Swept). before ++ t.gone) (sym all);
-          near = near 0 d lt;
         }
 
     module _ (kept : List Seg) (gone : List Point) (a : Point) (place : ℕ) (d : Point) (short : place + 1 < length points) where
@@ -189,12 +186,11 @@ module _ (ratio : ℕ) (area : ℤ) where
           record {
             left = ap (λ (u : Swept). kept ++ path u.kept) (sym now) ∙ h.left;
             removed = append_assoc gone (b ∷ []) t.gone ∙ ap (λ (u : Swept). gone ++ u.gone) (sym now) ∙ h.removed;
-            near = h.near;
           }
 
-      pub vertex_kept : is_removable ratio area (others ++ kept ++ path rest) a b c ≡ false → All IsNearPoint points → IsSweeping kept gone a place
+      pub vertex_kept : is_removable ratio area (others ++ kept ++ path rest) a b c ≡ false → IsSweeping kept gone a place
           → IsSweeping (kept ++ s ∷ []) gone b (place + 1)
-      vertex_kept e near h =
+      vertex_kept e h =
           let t = sweep_from ratio area others (kept ++ s ∷ []) b rest in
           let now : sweep_from ratio area others kept a (drop place points) ≡ record { kept = a ∷ t.kept; gone = t.gone } =
           ahead Swept (sweep_from ratio area others kept a)
@@ -205,7 +201,6 @@ module _ (ratio : ℕ) (area : ℤ) where
                 append_assoc kept (s ∷ []) (path t.kept) ∙ ap (λ (l : List Seg). kept ++ l) (sym (begins others (kept ++ s ∷ []) a b rest))
                 ∙ ap (λ (u : Swept). kept ++ path u.kept) (sym now) ∙ h.left;
             removed = ap (λ (u : Swept). gone ++ u.gone) (sym now) ∙ h.removed;
-            near = near place d (omega arith);
           }
 
     -- the last point stays

@@ -1,8 +1,7 @@
 -- What a sweep has not come to: the edges before that are not swept, the rest of the edge that is, and all edges after it.
-use Rattle.std.proofs.Common.{◌≡◌, ◌⊎◌, inl, inr, ℕ, zero, suc, ◌+◌, ◌<◌, ◌≤◌, nat_lt, Bool, true, false, cond, ◌&&◌, ◌||◌, List, [], ◌∷◌, ◌++◌, take, drop, length, get_or, if◌then◌else◌, All, AllPairs, refl, sym, ap, ap₂, ◌∙◌, subst, arith}
+use Rattle.std.proofs.Common.{◌≡◌, ℕ, zero, suc, ◌+◌, ◌<◌, ◌≤◌, nat_lt, Bool, true, false, cond, ◌&&◌, ◌||◌, List, [], ◌∷◌, ◌++◌, take, drop, length, get_or, if◌then◌else◌, All, AllPairs, refl, sym, ap, ap₂, ◌∙◌, subst, arith}
 use Rattle.std.specs.List.{flat_map}
-use Rattle.std.specs.List.Sorted.{IsPartitionedBy, IsPartitionPoint}
-use Rattle.std.proofs.lemmas.Bool.{eq-eqb, ne_eqb, cases_lt}
+use Rattle.std.proofs.lemmas.Bool.{eq-eqb, ne_eqb}
 use Rattle.std.proofs.lemmas.Bool.Decides.{nat_tests}
 use Rattle.std.proofs.lemmas.List.{drop_all, append_assoc}
 use Rattle.std.proofs.lemmas.List.Elements.{All-head, All-tail}
@@ -24,29 +23,6 @@ no_edge = record { key = 0; left = 0; right = 0; points = [] }
 -- keys ascend from any place to any later one
 abbrev pub Ascend : List Edge → Type 0
 Ascend edges = AllPairs (λ e f. e.key < f.key) edges
-
--- the edges with keys below this one come before all others
-pub parted_by_key : (edges : List Edge) (key : ℕ) → Ascend edges → IsPartitionedBy (λ e. nat_lt e.key key) edges
-parted_by_key edges key up i k f le within h = by (cases_lt i k)
-  where
-    by : (i < k) ⊎ (k ≤ i) → nat_lt (get_or edges i f).key key ≡ true
-    by (inl less) = grind (arith, nat_tests, up i k f less within, h)
-    by (inr more) = let e : i ≡ k = omega arith in ap (λ n. nat_lt (get_or edges n f).key key) e ∙ h
-
--- so the first of these others is the edge that has the key
-pub found_place : (edges : List Edge) (key r : ℕ) → Ascend edges → r ≤ length edges
-    → IsPartitionPoint (λ e. nat_lt e.key key ≡ true) (λ e. nat_lt e.key key ≡ false) edges r
-    → (j : ℕ) (d : Edge) → j < length edges → (get_or edges j d).key ≡ key → r ≡ j
-found_place edges key r up bound point j d short same = by (cases_lt r j) (cases_lt j r)
-  where
-    by : (r < j) ⊎ (j ≤ r) → (j < r) ⊎ (r ≤ j) → r ≡ j
-    by (inl less) _ =
-        let first : key ≤ (get_or edges r d).key = grind (arith, nat_tests, point.1 r d (omega arith) (omega arith)) in
-        absurd (omega (arith, up r j d less short, first, same))
-    by (inr _) (inl more) =
-        let last : (get_or edges j d).key < key = grind (arith, nat_tests, point.0 j d (omega arith) more) in
-        absurd (omega (arith, last, same))
-    by (inr le) (inr ge) = omega arith
 
 -- ---- the segment with a place
 

@@ -1,16 +1,15 @@
 //! Whether a triangle is clear of what a sweep left as it was.
 
-ghost use Rattle.std.specs.Prelude.{◌≡◌, ◌<◌, ◌+◌, ◌^◌, ◌&&◌, ◌==◌, nat_lt, ℕ, length, get_or, AllPairs, IfOk};
+ghost use Rattle.std.specs.Prelude.{◌≡◌, ◌<◌, ◌+◌, ◌^◌, ◌&&◌, ◌==◌, nat_lt, length, AllPairs, IfOk};
 ghost use Rattle.std.specs.List.{list_all, list_any};
-ghost use Rattle.tgap_model.specs.declared.slice.Edge.{Edge as Line};
 ghost use Rattle.tgap_model.specs.Clear.{is_clear};
-ghost use Rattle.grid_index.specs.Live.{AreLive, IsLiveEdge};
+ghost use Rattle.grid_index.specs.Live.{IsLiveEdge};
 ghost use Rattle.vertex_drop.specs.Left.{is_swept, first_left, left_segments, passes_on, passes_at, IsPlaceIn};
 ghost use Rattle.vertex_drop.specs.Outside.{IsTriangle};
 
 use crate::triangle::Triangle;
 use grid_geo::clear_of;
-use grid_index::{Live, SegmentPlace};
+use grid_index::{LiveTable, SegmentPlace};
 use std::alloc::Global;
 use tgap_model::{Edge, Memory, Seg};
 
@@ -63,14 +62,6 @@ fn first_left(at: Stand<'_>, edge: &Edge) -> usize
     }
 }
 
-/// The place of the edge with this key, if there is one.
-pub fn place_of(edges: &[Edge], key: u32) -> usize
-    requires { AllPairs (λ e f. e.key < f.key) edges.now }
-    ensures { (j : ℕ) (d : Line) → j < length edges.now → (get_or edges.now j d).key ≡ key → result ≡ j }
-{
-    edges.partition_point(|edge| edge.key < key)
-}
-
 /// Whether the segment of an edge is one that the sweep has come to, or the triangle is clear of it.
 fn is_clear_on(t: &Triangle, at: Stand<'_>, edge: &Edge, place: usize) -> bool
     requires triangle { IsTriangle t.now }
@@ -92,34 +83,34 @@ fn is_clear_on(t: &Triangle, at: Stand<'_>, edge: &Edge, place: usize) -> bool
 }
 
 /// Whether the segment with this place is one that the sweep has come to, or the triangle is clear of it.
-fn is_clear_at(t: &Triangle, at: Stand<'_>, edges: &[Edge], segment: SegmentPlace) -> bool
+fn is_clear_at<L: LiveTable>(t: &Triangle, at: Stand<'_>, live: &L, segment: SegmentPlace) -> bool
     requires triangle { IsTriangle t.now }
     requires keys { AllPairs (λ j k. j < k) at.keys.now }
     requires at { at.place + 1 < 2 ^ 32 }
-    requires edges { AreLive edges.now }
-    requires segment { IsPlaceIn edges.now segment }
-    ensures { result ≡ passes_at (is_clear t.now.a t.now.b t.now.c) at.entry edges.now segment }
+    requires segment { IsPlaceIn (L.edges live.now) segment }
+    ensures { result ≡ passes_at (is_clear t.now.a t.now.b t.now.c) at.entry (L.edges live.now) segment }
 {
-    let edge = &edges[place_of(edges, segment.key)];
-    is_clear_on(t, at, edge, segment.place as usize)
+    match live.with_key(segment.key) {
+        Some(edge) => is_clear_on(t, at, edge, segment.place as usize),
+        None => true,
+    }
 }
 
 /// Whether the triangle is clear of each segment that the sweep has not come to.
-pub fn is_clear_of_left(
+pub fn is_clear_of_left<L: LiveTable>(
     alloc: Global,
     t: &Triangle,
     at: Stand<'_>,
-    live: &Live,
+    live: &L,
 ) -> Result<bool, Memory>
     requires triangle { IsTriangle t.now }
     requires keys { AllPairs (λ j k. j < k) at.keys.now }
     requires at { at.place + 1 < 2 ^ 32 }
-    ensures { IfOk result (λ clear. clear ≡ list_all (is_clear t.now.a t.now.b t.now.c) (left_segments at.entry live.now)) }
+    ensures { IfOk result (λ clear. clear ≡ list_all (is_clear t.now.a t.now.b t.now.c) (left_segments at.entry (L.edges live.now))) }
 {
-    let edges = live.edges().as_slice();
     let near = live.near(alloc, t.bounds)?;
     for segment in near.as_slice() {
-        if !is_clear_at(t, at, edges, *segment) {
+        if !is_clear_at(t, at, live, *segment) {
             return Ok(false);
         }
     }

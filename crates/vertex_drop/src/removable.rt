@@ -16,7 +16,7 @@ use crate::kept::Kept;
 use crate::near::{Stand, is_clear_of_left};
 use crate::triangle::Triangle;
 use grid_geo::area2;
-use grid_index::Live;
+use grid_index::LiveTable;
 use std::alloc::Global;
 use tgap_model::{Memory, Point};
 
@@ -78,17 +78,17 @@ fn triangle_of(corner: Corner) -> Triangle
 }
 
 /// Whether the triangle is clear of each segment that was kept and of each that the sweep has not come to.
-fn is_clear_of_all(
+fn is_clear_of_all<L: LiveTable>(
     alloc: Global,
     t: &Triangle,
     at: Stand<'_>,
-    live: &Live,
+    live: &L,
     kept: &Kept,
 ) -> Result<bool, Memory>
     requires triangle { IsTriangle t.now }
     requires keys { AllPairs (λ j k. j < k) at.keys.now }
     requires at { at.place + 1 < 2 ^ 32 }
-    ensures { IfOk result (λ clear. clear ≡ list_all (is_clear t.now.a t.now.b t.now.c) (kept.now ++ left_segments at.entry live.now)) }
+    ensures { IfOk result (λ clear. clear ≡ list_all (is_clear t.now.a t.now.b t.now.c) (kept.now ++ left_segments at.entry (L.edges live.now))) }
 {
     if !kept.is_clear_of(t) {
         return Ok(false);
@@ -97,12 +97,12 @@ fn is_clear_of_all(
 }
 
 /// Whether the vertex of a corner is removed, at which the sweep stands, where these segments were kept so far.
-pub fn is_removable(
+pub fn is_removable<L: LiveTable>(
     alloc: Global,
     rule: Rule,
     corner: Corner,
     at: Stand<'_>,
-    live: &Live,
+    live: &L,
     kept: &Kept,
 ) -> Result<bool, Memory>
     requires a { IsNearPoint corner.a }
@@ -110,7 +110,7 @@ pub fn is_removable(
     requires c { IsNearPoint corner.c }
     requires keys { AllPairs (λ j k. j < k) at.keys.now }
     requires at { at.place + 1 < 2 ^ 32 }
-    ensures { IfOk result (λ removed. removed ≡ is_removable rule.ratio rule.area (kept.now ++ left_segments at.entry live.now) corner.a corner.b corner.c) }
+    ensures { IfOk result (λ removed. removed ≡ is_removable rule.ratio rule.area (kept.now ++ left_segments at.entry (L.edges live.now)) corner.a corner.b corner.c) }
 {
     let area = area2(corner.a, corner.b, corner.c);
     if area == 0 {

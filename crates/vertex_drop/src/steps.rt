@@ -1,37 +1,39 @@
 //! The sweep of one step.
 
-ghost use Rattle.std.specs.Prelude.{◌≡◌, ◌<◌, [], true, map, length, All, AllPairs, Contains, OnOk, IfOk};
+ghost use Rattle.std.specs.Prelude.{◌≡◌, ◌<◌, ℕ, [], true, map, length, get_or, All, AllPairs, Contains, OnOk, IfOk};
 ghost use Rattle.tgap_model.specs.declared.slice.Edge.{Edge as Line};
 ghost use Rattle.tgap_model.specs.Removals.{has_side, sweep};
+ghost use Rattle.grid_index.specs.Live.{AreLive, IsLiveEdge};
 ghost use Rattle.vertex_drop.specs.Corners.{has_small_corner};
 ghost use Rattle.vertex_drop.specs.Left.{is_swept};
 ghost use Rattle.vertex_drop.specs.Sweep.{IsEdgeSwept, sweep_chosen};
 
 use crate::corners::small_keys;
 use crate::kept::Kept;
-use crate::near::{Stand, place_of};
+use crate::near::Stand;
 use crate::removable::{Corner, Rule, is_removable};
-use grid_index::Live;
+use grid_index::{Live, LiveTable};
 use std::alloc::Global;
-use tgap_model::{List, Memory, Point, Removal, Seg};
+use tgap_model::{Edge, List, Memory, Point, Removal, Seg};
 
-/// Sweeps edge number `i` for the new face `made`, where the edges with these keys are swept. The segments that are
-/// left of it are put at the end of `kept`, and the points that are removed at the end of `gone`.
-fn sweep_edge(
+/// Sweeps an edge for the new face `made`, where the edges with these keys are swept. The segments that are left of it
+/// are put at the end of `kept`, and the points that are removed at the end of `gone`.
+fn sweep_edge<L: LiveTable>(
     alloc: Global,
     rule: Rule,
     made: u32,
     keys: &[u32],
-    live: &Live,
-    i: usize,
+    live: &L,
+    edge: &Edge,
     kept: &mut Kept,
     gone: &mut Vec<Point>,
 ) -> Result<(), Memory>
     requires keys { AllPairs (λ j k. j < k) keys.now }
-    requires place { i < length live.now }
-    ensures { (d : Line) → OnOk result (IsEdgeSwept rule (is_swept made keys.now) live.now i d kept.old kept.new gone.old.items gone.new.items) }
+    requires live { AreLive (L.edges live.now) }
+    requires edge { IsLiveEdge edge.now }
+    ensures { (i : ℕ) (d : Line) → i < length (L.edges live.now) → edge.now ≡ get_or (L.edges live.now) i d
+        → OnOk result (IsEdgeSwept rule (is_swept made keys.now) (L.edges live.now) i d kept.old kept.new gone.old.items gone.new.items) }
 {
-    let edge = &live.edges().as_slice()[i];
     let points = edge.points.as_slice();
     let key = edge.key;
     let last = points.len() - 1;
@@ -57,24 +59,44 @@ fn sweep_edge(
     kept.close(alloc)
 }
 
-/// The vertices that are removed, by this rule, of the edges that have these keys and border the face `made`.
-fn sweep_keys(
+/// Sweeps the edge with this key.
+fn sweep_key<L: LiveTable>(
     alloc: Global,
     rule: Rule,
     made: u32,
     keys: &[u32],
-    live: &Live,
+    live: &L,
+    key: u32,
+    kept: &mut Kept,
+    gone: &mut Vec<Point>,
+) -> Result<(), Memory>
+    requires keys { AllPairs (λ j k. j < k) keys.now }
+    ensures swept { (i : ℕ) (d : Line) → i < length (L.edges live.now) → (get_or (L.edges live.now) i d).key ≡ key
+        → OnOk result (IsEdgeSwept rule (is_swept made keys.now) (L.edges live.now) i d kept.old kept.new gone.old.items gone.new.items) }
+    ensures live { AreLive (L.edges live.now) }
+{
+    match live.with_key(key) {
+        Some(edge) => sweep_edge(alloc, rule, made, keys, live, edge, kept, gone),
+        None => Ok(()),
+    }
+}
+
+/// The vertices that are removed, by this rule, of the edges that have these keys and border the face `made`.
+fn sweep_keys<L: LiveTable>(
+    alloc: Global,
+    rule: Rule,
+    made: u32,
+    keys: &[u32],
+    live: &L,
 ) -> Result<Vec<Point>, Memory>
     requires ascending { AllPairs (λ j k. j < k) keys.now }
-    requires there { All (λ k. (e : Line) × Contains live.now e × (e.key ≡ k) × (has_side made e ≡ true)) keys.now }
-    ensures { IfOk result (λ gone. gone.items ≡ sweep_chosen rule.ratio rule.area (is_swept made keys.now) [] live.now) }
+    requires there { All (λ k. (e : Line) × Contains (L.edges live.now) e × (e.key ≡ k) × (has_side made e ≡ true)) keys.now }
+    ensures { IfOk result (λ gone. gone.items ≡ sweep_chosen rule.ratio rule.area (is_swept made keys.now) [] (L.edges live.now)) }
 {
-    let edges = live.edges().as_slice();
     let mut kept = Kept::new(alloc);
     let mut gone = Vec::new(alloc);
     for key in keys {
-        let i = place_of(edges, *key);
-        sweep_edge(alloc, rule, made, keys, live, i, &mut kept, &mut gone)?;
+        sweep_key(alloc, rule, made, keys, live, *key, &mut kept, &mut gone)?;
     }
     Ok(gone)
 }
@@ -98,13 +120,13 @@ fn removals_of(alloc: Global, points: &[Point], step: u32) -> Result<List<Remova
 /// times `ratio` is at most `loser_area`. There may be keys of other edges among them that border that face. Only the
 /// edges with these keys are read and swept, since no vertex of another one goes.
 ///
-/// It finds each edge by halving the keys of the live edges. Of a vertex whose triangle is too large, or has no area,
-/// no segment is looked at. For any other one it asks once for the segments whose boxes meet that of the triangle,
-/// finds the edge of each by halving the keys, and goes over the boxes of what is left of the edges swept so far, a box
+/// It finds each edge by its key. Of a vertex whose triangle is too large, or has no area, no segment is looked at. For
+/// any other one it asks once for the segments whose boxes meet that of the triangle, finds the edge of each by its
+/// key, and goes over the boxes of what is left of the edges swept so far, a box
 /// for every 32 segments of an edge or fewer.
-pub fn sweep_some(
+pub fn sweep_some<L: LiveTable>(
     alloc: Global,
-    live: &Live,
+    live: &L,
     keys: &[u32],
     made: u32,
     loser_area: i128,
@@ -112,9 +134,9 @@ pub fn sweep_some(
     step: u32,
 ) -> Result<List<Removal>, Memory>
     requires ascending { AllPairs (λ j k. j < k) keys.now }
-    requires there { All (λ k. (e : Line) × Contains live.now e × (e.key ≡ k) × (has_side made e ≡ true)) keys.now }
-    requires corners { (e : Line) → Contains live.now e → has_side made e ≡ true → has_small_corner ratio loser_area e.points ≡ true → Contains keys.now e.key }
-    ensures { IfOk result (λ removals. removals ≡ map (λ p. record { point = p; step = step }) (sweep ratio loser_area made live.now)) }
+    requires there { All (λ k. (e : Line) × Contains (L.edges live.now) e × (e.key ≡ k) × (has_side made e ≡ true)) keys.now }
+    requires corners { (e : Line) → Contains (L.edges live.now) e → has_side made e ≡ true → has_small_corner ratio loser_area e.points ≡ true → Contains keys.now e.key }
+    ensures { IfOk result (λ removals. removals ≡ map (λ p. record { point = p; step = step }) (sweep ratio loser_area made (L.edges live.now))) }
 {
     if ratio == 0 {
         return Ok(List::new(alloc));

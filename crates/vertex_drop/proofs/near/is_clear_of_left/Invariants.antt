@@ -6,6 +6,6 @@ use Rattle.vertex_drop.specs.Left.{left_segments, passes_at}
 use Rattle.vertex_drop.proofs.near.is_clear_of_left.Given as goal
 
 abbrev pub invariant-loop-segment : goal.invariant-loop-segment
-invariant-loop-segment l =
-    list_all (passes_at (is_clear l.t.a l.t.b l.t.c) l.at l.edges) (drop l.segment-index l.segment-items)
-    ≡ list_all (is_clear l.t.a l.t.b l.t.c) (left_segments l.at l.live)
+invariant-loop-segment g l =
+    list_all (passes_at (is_clear l.t.a l.t.b l.t.c) l.at (g.L.LiveTable.edges l.live)) (drop l.segment-index l.segment-items)
+    ≡ list_all (is_clear l.t.a l.t.b l.t.c) (left_segments l.at (g.L.LiveTable.edges l.live))

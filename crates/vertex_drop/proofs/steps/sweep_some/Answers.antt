@@ -10,15 +10,15 @@ use Rattle.vertex_drop.proofs.Chosen.{some_swept}
 use Rattle.vertex_drop.proofs.steps.sweep_some.Goals as goal
 
 pub returns-then-ratio-eq0 : goal.returns-then-ratio-eq0
-returns-then-ratio-eq0 c =
+returns-then-ratio-eq0 g c =
     c.new.ensures
     ∙ ap (λ (l : List Point). map (λ (p : Point). record { point = p; step = c.args.step }) l)
-    (sym (sweep_none c.args.ratio c.args.loser_area c.args.made c.args.live.now c.if-ratio-eq0.true))
+    (sym (sweep_none c.args.ratio c.args.loser_area c.args.made (g.L.LiveTable.edges c.args.live.now) c.if-ratio-eq0.true))
 
 pub returns : goal.returns
-returns c =
+returns g c =
     let area = to_z-of_z w128 c.args.loser_area c.ranges.loser_area in
-    let live = c.args.live.now in
+    let live = g.L.LiveTable.edges c.args.live.now in
     let keys = c.args.keys.now in
     let removed =
     c.deref.ensures.value ∙ c.in_ok-gone.ensures
