@@ -1,5 +1,5 @@
 -- A sweep may pass over edges without a small corner: it removes nothing of them.
-use Rattle.std.proofs.Common.{◌≡◌, ◌⊎◌, ◌∙◌, inl, inr, ℕ, ℤ, pos, ◌*◌, ◌==◌, ◌&&◌, int_le, Bool, true, false, List, [], ◌∷◌, ◌++◌, All, Contains, refl, sym, ap, ap₂}
+use Rattle.std.proofs.Common.{◌≡◌, ◌⊎◌, ◌∙◌, inl, inr, ℕ, ℤ, pos, ◌*◌, ◌==◌, ◌&&◌, int_le, not, Bool, true, false, List, [], ◌∷◌, ◌++◌, All, Contains, refl, sym, ap, ap₂}
 use Rattle.std.specs.List.{list_all, list_any}
 use Rattle.std.proofs.lemmas.List.Folds.{list_any-from_Any}
 use Rattle.std.proofs.lemmas.Bool.{or_parts, or_from, and_left, eq-eqb}
@@ -11,10 +11,11 @@ use Rattle.tgap_model.specs.declared.slice.Edge.{Edge}
 use Rattle.tgap_model.specs.Clear.{is_clear}
 use Rattle.tgap_model.specs.Point.{area2}
 use Rattle.tgap_model.specs.Removals.{Swept, path, is_removable, sweep, sweep_from, sweep_points, live_segments, has_side}
-use Rattle.vertex_drop.specs.Corners.{is_small_corner, has_small_corner}
+use Rattle.vertex_drop.specs.Corners.{is_small_corner, any_small_corner, has_small_corner, is_triangle}
 use Rattle.vertex_drop.specs.Left.{is_swept}
 use Rattle.vertex_drop.specs.Sweep.{sweep_chosen}
 use Rattle.vertex_drop.proofs.Swept.{from_kept, rest_swept, rest_passed, swept_edges, sweep_all}
+use Rattle.vertex_drop.proofs.Triangles.{triangle_stays}
 
 module _ (ratio : ℕ) (area : ℤ) where
   pub stays : (others : List Seg) (a b c : Point) → is_small_corner ratio area a b c ≡ false → is_removable ratio area others a b c ≡ false
@@ -24,19 +25,28 @@ module _ (ratio : ℕ) (area : ℤ) where
       or_from (area2 a b c == 0) (int_le (pos (ratio * area2 a b c)) area && list_all (is_clear a b c) others) both.0
       (and_left (int_le (pos (ratio * area2 a b c)) area) (list_all (is_clear a b c) others) both.1)
 
-  all_stay_from : (others done : List Seg) (a : Point) (points : List Point) → has_small_corner ratio area (a ∷ points) ≡ false
+  all_stay_from : (others done : List Seg) (a : Point) (points : List Point) → any_small_corner ratio area (a ∷ points) ≡ false
       → sweep_from ratio area others done a points ≡ record { kept = a ∷ points; gone = [] }
   all_stay_from others done a [] h = refl
   all_stay_from others done a (b ∷ []) h = refl
   all_stay_from others done a (b ∷ c ∷ points) h =
-      let both = or_parts (is_small_corner ratio area a b c) (has_small_corner ratio area (b ∷ c ∷ points)) h in
+      let both = or_parts (is_small_corner ratio area a b c) (any_small_corner ratio area (b ∷ c ∷ points)) h in
       from_kept ratio area others done a b c points (stays (others ++ done ++ path (c ∷ points)) a b c both.0)
       ∙ ap (λ (s : Swept). record { kept = a ∷ s.kept; gone = s.gone }) (all_stay_from others (done ++ record { a = a; b = b } ∷ []) b (c ∷ points) both.1)
 
+  none_small : (others : List Seg) (points : List Point) → any_small_corner ratio area points ≡ false
+      → sweep_points ratio area others points ≡ record { kept = points; gone = [] }
+  none_small others [] h = refl
+  none_small others (a ∷ points) h = all_stay_from others [] a points h
+
   pub all_stay : (others : List Seg) (points : List Point) → has_small_corner ratio area points ≡ false
       → sweep_points ratio area others points ≡ record { kept = points; gone = [] }
-  all_stay others [] h = refl
-  all_stay others (a ∷ points) h = all_stay_from others [] a points h
+  unfolding has_small_corner
+  all_stay others points h = by (is_triangle points) refl
+    where
+      by : (t : Bool) → is_triangle points ≡ t → sweep_points ratio area others points ≡ record { kept = points; gone = [] }
+      by true e = triangle_stays ratio area others points e
+      by false e = none_small others points (sym (ap (λ (t : Bool). not t && any_small_corner ratio area points) e) ∙ h)
 
   -- so whether such an edge is swept makes no difference
   wide_passed : (swept : Edge → Bool) (before : List Seg) (e : Edge) (edges : List Edge) → has_small_corner ratio area e.points ≡ false

@@ -1,5 +1,5 @@
 -- The least corner of a row of points decides whether it has a small one.
-use Rattle.std.proofs.Common.{◌≡◌, ◌⊎◌, inl, inr, ℕ, ◌+◌, ◌-◌, ◌*◌, ◌≤◌, ◌<◌, ◌==◌, ◌||◌, ℤ, pos, ◌≤ℤ◌, int_le, min, Bool, true, false, Option, None, Some, List, [], ◌∷◌, length, drop, length-drop, get_or, refl, sym, ap, ap₂, ◌∙◌, true≢false, arith}
+use Rattle.std.proofs.Common.{◌≡◌, ◌⊎◌, inl, inr, ℕ, ◌+◌, ◌-◌, ◌*◌, ◌≤◌, ◌<◌, ◌==◌, ◌||◌, ◌&&◌, not, if◌then◌else◌, ℤ, pos, ◌≤ℤ◌, int_le, min, Bool, true, false, Option, None, Some, List, [], ◌∷◌, length, drop, length-drop, get_or, refl, sym, ap, ap₂, ◌∙◌, true≢false, arith}
 use Rattle.std.specs.Option.{option_map}
 use Rattle.std.proofs.Math.Bool.{or-false}
 use Rattle.std.proofs.Math.Nat.{mul-le-mul_left}
@@ -11,7 +11,7 @@ use Rattle.lemmas.proofs.Signs.{Decides-int_le, le_le_trans}
 use Rattle.tgap_model.specs.declared.geometry.Point.{Point}
 use Rattle.tgap_model.specs.Bounds.{max_cross}
 use Rattle.tgap_model.specs.Point.{area2}
-use Rattle.vertex_drop.specs.Corners.{small_area, has_small_corner, less_of, least_corner}
+use Rattle.vertex_drop.specs.Corners.{small_area, any_small_corner, has_small_corner, is_triangle, less_of, least_area, least_corner}
 
 -- ---- the rule
 
@@ -59,14 +59,23 @@ module _ (ratio : ℕ) (area : ℤ) where
 
   -- ---- a row of points
 
+  -- three points in a row have a small triangle exactly where the least one is small
+  area_decides : (points : List Point) → any_small_corner ratio area points ≡ is_small_least (least_area points)
+  area_decides [] = refl
+  area_decides (a ∷ []) = refl
+  area_decides (a ∷ b ∷ []) = refl
+  area_decides (a ∷ b ∷ c ∷ points) =
+      ap (λ (t : Bool). small_area ratio area (area2 a b c) || t) (area_decides (b ∷ c ∷ points))
+      ∙ sym (less_is_small (area2 a b c) (least_area (b ∷ c ∷ points)))
+
   -- a row has a small corner exactly where its least one is small
   pub least_decides : (points : List Point) → has_small_corner ratio area points ≡ is_small_least (least_corner points)
-  least_decides [] = refl
-  least_decides (a ∷ []) = refl
-  least_decides (a ∷ b ∷ []) = refl
-  least_decides (a ∷ b ∷ c ∷ points) =
-      ap (λ (t : Bool). small_area ratio area (area2 a b c) || t) (least_decides (b ∷ c ∷ points))
-      ∙ sym (less_is_small (area2 a b c) (least_corner (b ∷ c ∷ points)))
+  unfolding has_small_corner least_corner
+  least_decides points = by (is_triangle points)
+    where
+      by : (t : Bool) → (not t && any_small_corner ratio area points) ≡ is_small_least (if t then None else least_area points)
+      by true = refl
+      by false = area_decides points
 
   pub small_from_least : (points : List Point) (n : ℕ) → least_corner points ≡ Some n → small_area ratio area n ≡ true → has_small_corner ratio area points ≡ true
   small_from_least points n e h = least_decides points ∙ ap is_small_least e ∙ h
@@ -82,18 +91,18 @@ module _ (ratio : ℕ) (area : ℤ) where
 
 -- the corner that begins at a point, or one after it
 from_place : (points : List Point) (i : ℕ) (d : Point) → i + 2 < length points
-    → least_corner (drop i points) ≡ Some (less_of (area2 (get_or points i d) (get_or points (i + 1) d) (get_or points (i + 2) d)) (least_corner (drop (i + 1) points)))
+    → least_area (drop i points) ≡ Some (less_of (area2 (get_or points i d) (get_or points (i + 1) d) (get_or points (i + 2) d)) (least_area (drop (i + 1) points)))
 from_place points i d l =
     let a = get_or points i d in
     let b = get_or points (i + 1) d in
-    at_drop_more least_corner points i d (omega (arith, l))
-    ∙ at_drop_more (λ (rest : List Point). least_corner (a ∷ rest)) points (i + 1) d (omega (arith, l))
-    ∙ at_drop_more (λ (rest : List Point). least_corner (a ∷ b ∷ rest)) points (i + 1 + 1) d (omega (arith, l))
+    at_drop_more least_area points i d (omega (arith, l))
+    ∙ at_drop_more (λ (rest : List Point). least_area (a ∷ rest)) points (i + 1) d (omega (arith, l))
+    ∙ at_drop_more (λ (rest : List Point). least_area (a ∷ b ∷ rest)) points (i + 1 + 1) d (omega (arith, l))
     ∙ ap₂ (λ (n : ℕ) (later : Option ℕ). Some (less_of (area2 a b (get_or points n d)) later)) (omega arith)
-    (sym (at_drop_more least_corner points (i + 1) d (omega (arith, l)) ∙ at_drop_more (λ (rest : List Point). least_corner (b ∷ rest)) points (i + 1 + 1) d (omega (arith, l))))
+    (sym (at_drop_more least_area points (i + 1) d (omega (arith, l)) ∙ at_drop_more (λ (rest : List Point). least_area (b ∷ rest)) points (i + 1 + 1) d (omega (arith, l))))
 
 -- two points have none
-none_of_two : (points : List Point) → length points ≤ 2 → least_corner points ≡ None
+none_of_two : (points : List Point) → length points ≤ 2 → least_area points ≡ None
 none_of_two [] h = refl
 none_of_two (a ∷ []) h = refl
 none_of_two (a ∷ b ∷ []) h = refl
@@ -111,7 +120,7 @@ pub record IsLeastBefore (points : List Point) (i : ℕ) (least : ℤ) : Type 0 
   pub is : least ≡ pos n
   pub small : n ≤ max_cross
   pub from : 3 ≤ i
-  pub left : Some (less_of n (least_corner (drop (i - 2) points))) ≡ least_corner points
+  pub left : Some (less_of n (least_area (drop (i - 2) points))) ≡ least_area points
 
 pub least_begins : (points : List Point) (d : Point) (least : ℤ) → 3 ≤ length points → least ≡ pos (area2 (get_or points 0 d) (get_or points 1 d) (get_or points 2 d))
     → area2 (get_or points 0 d) (get_or points 1 d) (get_or points 2 d) ≤ max_cross → IsLeastBefore points 3 least
@@ -130,25 +139,25 @@ least_more points i d least next a l e s h f =
     let middle : i - 1 ≡ i - 2 + 1 = omega (arith, h.from) in
     let last : i ≡ i - 2 + 2 = omega (arith, h.from) in
     let after : i + 1 - 2 ≡ i - 2 + 1 = omega (arith, h.from) in
-    let here : least_corner (drop (i - 2) points) ≡ Some (less_of a (least_corner (drop (i + 1 - 2) points))) =
+    let here : least_area (drop (i - 2) points) ≡ Some (less_of a (least_area (drop (i + 1 - 2) points))) =
     from_place points (i - 2) d (omega (arith, h.from, l))
-    ∙ ap₂ (λ (m n : ℕ). Some (less_of (area2 (get_or points (i - 2) d) (get_or points m d) (get_or points n d)) (least_corner (drop (i - 2 + 1) points)))) (sym middle) (sym last)
-    ∙ ap₂ (λ (m n : ℕ). Some (less_of m (least_corner (drop n points)))) (sym e) (sym after) in
+    ∙ ap₂ (λ (m n : ℕ). Some (less_of (area2 (get_or points (i - 2) d) (get_or points m d) (get_or points n d)) (least_area (drop (i - 2 + 1) points)))) (sym middle) (sym last)
+    ∙ ap₂ (λ (m n : ℕ). Some (less_of m (least_area (drop n points)))) (sym e) (sym after) in
     record {
       n = min h.n a;
       is = f;
       small = omega (arith, h.small, s);
       from = omega (arith, h.from);
       left =
-          ap Some (sym (less_in_turn h.n a (least_corner (drop (i + 1 - 2) points))))
+          ap Some (sym (less_in_turn h.n a (least_area (drop (i + 1 - 2) points))))
           ∙ ap (λ (o : Option ℕ). Some (less_of h.n o)) (sym here) ∙ h.left;
     }
 
-pub least_ends : (points : List Point) (i : ℕ) (least : ℤ) → length points ≤ i → (h : IsLeastBefore points i least) → Some h.n ≡ least_corner points
+pub least_ends : (points : List Point) (i : ℕ) (least : ℤ) → length points ≤ i → (h : IsLeastBefore points i least) → Some h.n ≡ least_area points
 least_ends points i least l h =
     ap (λ (o : Option ℕ). Some (less_of h.n o)) (sym (none_of_two (drop (i - 2) points) (omega (arith, l, length-drop {A = Point})))) ∙ h.left
 
-pub none_of_few : (points : List Point) → length points < 3 → least_corner points ≡ None
+pub none_of_few : (points : List Point) → length points < 3 → least_area points ≡ None
 none_of_few points l = none_of_two points (omega (arith, l))
 
 -- the less of two numbers that are not negative

@@ -7,6 +7,7 @@ pub mod NearPlaces
 pub mod Unswept
 pub mod Swept
 pub mod Least
+pub mod Triangles
 pub mod Chosen
 pub mod Reached
 pub mod Candidates

@@ -1,7 +1,8 @@
 -- Three points in a row that a sweep may cut short.
-use Rattle.std.specs.Prelude.{ℕ, ℤ, pos, ◌*◌, ◌==◌, ◌||◌, ◌&&◌, int_le, min, Bool, false, List, [], ◌∷◌, Option, None, Some}
+use Rattle.std.specs.Prelude.{ℕ, ℤ, pos, ◌*◌, ◌==◌, ◌||◌, ◌&&◌, int_le, min, not, Bool, false, List, [], ◌∷◌, length, get_or, if◌then◌else◌, Option, None, Some}
 use Rattle.tgap_model.specs.declared.geometry.Point.{Point}
 use Rattle.tgap_model.specs.declared.slice.Edge.{Edge}
+use Rattle.tgap_model.specs.Base.{same_point}
 use Rattle.tgap_model.specs.Point.{area2}
 use Rattle.tgap_model.specs.Removals.{has_side}
 
@@ -14,11 +15,11 @@ abbrev pub is_small_corner : ℕ → ℤ → Point → Point → Point → Bool
 is_small_corner ratio area a b c = small_area ratio area (area2 a b c)
 
 -- some three points in a row of these are such
-abbrev pub has_small_corner : ℕ → ℤ → List Point → Bool
-has_small_corner ratio area [] = false
-has_small_corner ratio area (a ∷ []) = false
-has_small_corner ratio area (a ∷ b ∷ []) = false
-has_small_corner ratio area (a ∷ b ∷ c ∷ points) = is_small_corner ratio area a b c || has_small_corner ratio area (b ∷ c ∷ points)
+abbrev pub any_small_corner : ℕ → ℤ → List Point → Bool
+any_small_corner ratio area [] = false
+any_small_corner ratio area (a ∷ []) = false
+any_small_corner ratio area (a ∷ b ∷ []) = false
+any_small_corner ratio area (a ∷ b ∷ c ∷ points) = is_small_corner ratio area a b c || any_small_corner ratio area (b ∷ c ∷ points)
 
 -- the less of a number and another one that may be missing
 abbrev pub less_of : ℕ → Option ℕ → ℕ
@@ -26,11 +27,30 @@ less_of n None = n
 less_of n (Some m) = min n m
 
 -- twice the area of the least triangle of three points in a row of these
-abbrev pub least_corner : List Point → Option ℕ
-least_corner [] = None
-least_corner (a ∷ []) = None
-least_corner (a ∷ b ∷ []) = None
-least_corner (a ∷ b ∷ c ∷ points) = Some (less_of (area2 a b c) (least_corner (b ∷ c ∷ points)))
+abbrev pub least_area : List Point → Option ℕ
+least_area [] = None
+least_area (a ∷ []) = None
+least_area (a ∷ b ∷ []) = None
+least_area (a ∷ b ∷ c ∷ points) = Some (less_of (area2 a b c) (least_area (b ∷ c ∷ points)))
+
+-- the point at a place
+abbrev pub point_at : List Point → ℕ → Point
+point_at points i = get_or points i (record { x = pos 0; y = pos 0 })
+
+-- A closed row of four points of which three have a triangle with an area. No corner of it goes: the segment across is
+-- one of its own.
+abbrev pub is_triangle : List Point → Bool
+is_triangle points =
+    (length points == 4)
+    && (same_point (point_at points 0) (point_at points 3) && not (area2 (point_at points 0) (point_at points 1) (point_at points 2) == 0))
+
+-- some three points in a row of these are such, and they are no triangle
+unfoldable pub has_small_corner : ℕ → ℤ → List Point → Bool
+has_small_corner ratio area points = not (is_triangle points) && any_small_corner ratio area points
+
+-- twice the area of the least triangle of three points in a row of these, where they are no triangle
+unfoldable pub least_corner : List Point → Option ℕ
+least_corner points = if is_triangle points then None else least_area points
 
 -- the edge borders the face, and has three such points
 abbrev pub may_lose : ℕ → ℤ → ℕ → Edge → Bool

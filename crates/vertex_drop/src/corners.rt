@@ -1,9 +1,11 @@
 //! How small the corners of edges are.
 
-ghost use Rattle.std.specs.Prelude.{◌≡◌, ◌≤◌, ℕ, pos, Some, map, filter, All, IfOk};
+ghost use Rattle.std.specs.Prelude.{◌≡◌, ◌≤◌, ◌==◌, not, ℕ, pos, Some, map, filter, All, IfOk};
 ghost use Rattle.std.specs.Option.{option_map};
+ghost use Rattle.tgap_model.specs.Base.{same_point};
 ghost use Rattle.tgap_model.specs.Bounds.{max_cross};
-ghost use Rattle.vertex_drop.specs.Corners.{has_small_corner, least_corner, may_lose};
+ghost use Rattle.tgap_model.specs.Point.{area2};
+ghost use Rattle.vertex_drop.specs.Corners.{has_small_corner, is_triangle, least_area, least_corner, may_lose};
 ghost use Rattle.vertex_drop.specs.Held.{IsNearPoint};
 
 use crate::removable::is_small_area;
@@ -11,12 +13,40 @@ use grid_geo::area2;
 use std::alloc::Global;
 use tgap_model::{Edge, Memory, Point};
 
-/// Twice the area of the least triangle of three points in a row of these, in square grid units: 0 where three are on
-/// one line, and none where there are fewer than three points. It takes one pass over them.
-pub fn least_corner(points: &[Point]) -> Option<i128>
+/// Whether the triangle of three points has an area.
+fn has_area(a: Point, b: Point, c: Point) -> bool
+    requires a { IsNearPoint a }
+    requires b { IsNearPoint b }
+    requires c { IsNearPoint c }
+    ensures { result ≡ not (area2 a b c == 0) }
+{
+    area2(a, b, c) != 0
+}
+
+/// Whether two points are one.
+fn is_same(a: Point, b: Point) -> bool
+    ensures { result ≡ same_point a b }
+{
+    a.x == b.x && a.y == b.y
+}
+
+/// Whether these are the corners of a triangle that has an area, and the first of them again.
+fn is_triangle(points: &[Point]) -> bool
     requires { All IsNearPoint points.now }
-    ensures exact { result ≡ option_map pos (least_corner points.now) }
-    ensures small { (n : ℕ) → least_corner points.now ≡ Some n → n ≤ max_cross }
+    ensures { result ≡ is_triangle points.now }
+{
+    if points.len() != 4 {
+        return false;
+    }
+    is_same(points[0], points[3]) && has_area(points[0], points[1], points[2])
+}
+
+/// Twice the area of the least triangle of three points in a row of these, in square grid units: 0 where three are on
+/// one line, and none where there are fewer than three points.
+fn least_area(points: &[Point]) -> Option<i128>
+    requires { All IsNearPoint points.now }
+    ensures exact { result ≡ option_map pos (least_area points.now) }
+    ensures small { (n : ℕ) → least_area points.now ≡ Some n → n ≤ max_cross }
 {
     if points.len() < 3 {
         return None;
@@ -28,7 +58,23 @@ pub fn least_corner(points: &[Point]) -> Option<i128>
     Some(least)
 }
 
-/// Whether three points in a row of these are on one line, or have a triangle that is small enough.
+/// Twice the area of the least triangle of three points in a row of these, in square grid units: 0 where three are on
+/// one line, and none where there are fewer than three points. There is none too where they are the corners of a
+/// triangle with an area and the first of them again: of such a row no point ever goes. It takes one pass over them.
+#[tactic(auto, unfolding(crate::specs::Corners::least_corner))]
+pub fn least_corner(points: &[Point]) -> Option<i128>
+    requires { All IsNearPoint points.now }
+    ensures exact { result ≡ option_map pos (least_corner points.now) }
+    ensures small { (n : ℕ) → least_corner points.now ≡ Some n → n ≤ max_cross }
+{
+    if is_triangle(points) {
+        return None;
+    }
+    least_area(points)
+}
+
+/// Whether three points in a row of these are on one line, or have a triangle that is small enough, where the points
+/// are not those of a triangle alone.
 fn has_small_corner(points: &[Point], loser_area: i128, ratio: u32) -> bool
     requires { All IsNearPoint points.now }
     ensures { result ≡ has_small_corner ratio loser_area points.now }

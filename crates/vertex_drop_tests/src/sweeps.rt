@@ -19,6 +19,8 @@ const RING: [(u8, u8); 4] = [(4, 2), (6, 2), (5, 4), (4, 2)];
 
 const FAR_RING: [(u8, u8); 4] = [(14, 2), (16, 2), (15, 4), (14, 2)];
 
+const FLAT_RING: [(u8, u8); 4] = [(4, 2), (6, 2), (8, 2), (4, 2)];
+
 /// The points with these coordinates.
 fn points_of(alloc: Global, coordinates: &[(u8, u8)]) -> Result<List<Point>, Memory>
     ensures { IfOk result (λ points. All IsNearPoint points) }
@@ -109,8 +111,9 @@ fn vertices_of_one_edge(rt: HostRuntime) -> Result<(), Fail> {
         // Points on one line go whatever the area is, but with ratio 0 nothing goes.
         (9, STRAIGHT.as_slice(), FAR_RING.as_slice(), 1, 0, 2),
         (9, STRAIGHT.as_slice(), FAR_RING.as_slice(), 0, 1000, 0),
-        // A ring of three points stays.
+        // A ring of three points stays, unless they are on one line.
         (9, RING.as_slice(), FAR_RING.as_slice(), 1, 1000, 0),
+        (9, FLAT_RING.as_slice(), FAR_RING.as_slice(), 1, 0, 2),
     ] {
         let removals = removed(alloc, left, first, second, ratio, loser_area)?;
         assert_eq!(rt; removals.len(), count, "at {left} {ratio} {loser_area}");

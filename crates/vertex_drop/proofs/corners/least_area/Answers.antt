@@ -7,7 +7,7 @@ use Rattle.tgap_model.specs.Bounds.{max_cross}
 use Rattle.tgap_model.specs.Point.{area2}
 use Rattle.vertex_drop.proofs.Least.{none_of_few, least_begins, least_more, least_ends, min_is}
 use Rattle.vertex_drop.proofs.Small.{area_small, wide_area}
-use Rattle.vertex_drop.proofs.corners.least_corner.Goals as goal
+use Rattle.vertex_drop.proofs.corners.least_area.Goals as goal
 
 pub returns-then-points-lt3-clause-exact : goal.returns-then-points-lt3-clause-exact
 returns-then-points-lt3-clause-exact c = ap (option_map pos) (sym (none_of_few c.args.points.now c.if-points-lt3.true))
