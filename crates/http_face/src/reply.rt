@@ -1,6 +1,6 @@
 //! The bytes of a reply.
 
-ghost use Rattle.std.specs.Prelude.{◌≡◌, ◌≤◌, length, IfOk};
+ghost use Rattle.std.specs.Prelude.{◌≡◌, ◌≤◌, ◌++◌, length, IfOk};
 ghost use Rattle.http_face.specs.Replies.{IsReply, reply_text, reply_head, reason_of, allow_line, close_line, memory_reply};
 
 use crate::fixed_text::FixedText;
@@ -21,21 +21,29 @@ pub struct Reply {
 }
 
 /// The bytes of a reply: its status line, its headers, an empty line and its body. Its status is one of the server's, and
-/// it names a method exactly where that is 405.
+/// it names a method exactly where that is 405. Memory is taken once, for the bytes and no more.
 pub fn reply_bytes(alloc: Global, reply: &Reply) -> Result<Text, Memory>
     requires { IsReply reply.now }
     ensures { IfOk result (λ text. text ≡ reply_text reply.now) }
 {
-    let mut text = head_bytes(
-        alloc,
+    let head = reply_head(
         reply.status,
         reply.pin,
         reply.allow,
         reply.close,
         reply.body.len(),
-    )?;
-    text.push_slice(reply.body.as_slice())?;
-    Ok(text)
+    );
+    joined(alloc, head.as_slice(), reply.body.as_slice())
+}
+
+/// Two rows of bytes, one behind the other, in a text that has room for them and for no more.
+fn joined(alloc: Global, first: &[u8], rest: &[u8]) -> Result<Text, Memory>
+    ensures { IfOk result (λ text. text ≡ first.now ++ rest.now) }
+{
+    let mut bytes = Vec::with_capacity(alloc, first.len() + rest.len())?;
+    bytes.extend_from_slice(first)?;
+    bytes.extend_from_slice(rest)?;
+    Ok(Text::from(bytes))
 }
 
 /// The head of a reply to a body of `size` bytes, with the empty line after it, for a body that is sent by itself.
