@@ -6,7 +6,7 @@ use Rattle.std.proofs.Math.Seq.{take-append_seam}
 use Rattle.std.proofs.lemmas.List.{length-drop}
 use Rattle.std.proofs.lemmas.List.Elements.{All-append, All-push, All-take, All-drop, All-weaker, All-contains, All-contains_itself, Contains-get_or}
 use Rattle.std.proofs.lemmas.List.Sums.{sum_by-append, sum_by-remove, sum_by-drop_more}
-use Rattle.http_face.specs.declared.request.Route.{Route}
+use Rattle.session.specs.declared.kept_texts.ReplyKey.{ReplyKey}
 use Rattle.session.specs.declared.kept_texts.KeptText.{KeptText}
 use Rattle.session.specs.KeptTexts.{size_of, IsFor}
 
@@ -64,16 +64,15 @@ pub all_pushed : {X : Type 0} (xs : List X) (x : X) → All (λ y. Contains xs y
 all_pushed xs x = All-push (λ y. Contains xs y ⊎ (y ≡ x)) xs x (all_same_or xs x) (inr refl)
 
 -- what is found has what was kept with it
-pub found_text : (kept : List KeptText) (place number : ℕ) (asked : Route) (text : List ℕ) (d : KeptText)
-    → place < length kept → HoldsAt (IsFor number asked) kept place → text ≡ (slice_index_or kept place d).text
-    → Contains kept (record { number = number; asked = asked; text = text })
-found_text kept place number asked text d within is same =
+pub found_text : (kept : List KeptText) (place : ℕ) (key : ReplyKey) (text : List ℕ) (d : KeptText)
+    → place < length kept → HoldsAt (IsFor key) kept place → text ≡ (slice_index_or kept place d).text
+    → Contains kept (record { key = key; text = text })
+found_text kept place key text d within is same =
     let P = Contains kept in
     let e = slice_index_or kept place d in
-    let A : Route → Type 0 = λ a. P (record { number = e.number; asked = a; text = e.text }) in
-    let N : ℕ → Type 0 = λ n. P (record { number = n; asked = asked; text = e.text }) in
-    let T : List ℕ → Type 0 = λ t. P (record { number = number; asked = asked; text = t }) in
-    subst T (sym same) (subst N (is d).0 (subst A (is d).1 (Contains-get_or kept place d within)))
+    let K : ReplyKey → Type 0 = λ k. P (record { key = k; text = e.text }) in
+    let T : List ℕ → Type 0 = λ t. P (record { key = key; text = t }) in
+    subst T (sym same) (subst K (is d) (Contains-get_or kept place d within))
 
 -- one text more stays
 pub stays_more : (kept : List KeptText) (passed room bytes size : ℕ) (d : KeptText) → passed < length kept

@@ -1,11 +1,10 @@
 -- What is kept is right over the list of versions, and over a longer one.
-use Rattle.std.proofs.Common.{◌≡◌, ◌⊎◌, ◌∙◌, ◌++◌, ℕ, Bool, List, [], All, Option, Some, None, IsSome, refl, sym, ap, subst, inl, inr, slice_get}
+use Rattle.std.proofs.Common.{◌≡◌, ◌∙◌, ◌++◌, ℕ, Bool, List, [], Option, Some, None, IsSome, refl, sym, ap, subst, slice_get}
 use Rattle.std.specs.Arc.{arc_value}
 use Rattle.std.specs.List.{Contains}
 use Rattle.std.specs.Option.{option_and_then}
 use Rattle.std.proofs.lemmas.List.Elements.{All-nil, All-same, All-weaker, All-contains}
 use Rattle.tgap_model.specs.Base.{BaseMap}
-use Rattle.http_face.specs.declared.request.Allow.{Allow}
 use Rattle.http_face.specs.declared.request.Route.{Route}
 use Rattle.version_store.specs.declared.pin.Pin.{Pin}
 use Rattle.map_version.specs.declared.version.Version.{Version}
@@ -13,7 +12,7 @@ use Rattle.session.specs.declared.answer.Answer.{Answer}
 use Rattle.session.specs.declared.kept_texts.KeptText.{KeptText}
 use Rattle.session.specs.declared.row.Row.TheVariants.{Read}
 use Rattle.session.specs.Items.{Route as RouteAsked}
-use Rattle.session.specs.Answers.{plain, route_answer, read_answer}
+use Rattle.session.specs.Answers.{route_answer, read_answer}
 use Rattle.session.specs.Outcomes.{sent}
 use Rattle.session.specs.Versions.{Seen, Continues, IsPin}
 use Rattle.session.specs.Turns.{IsTurned}
@@ -26,7 +25,7 @@ none_kept history kept e = All-same (IsKept history) kept [] e (All-nil (IsKept 
 
 -- more versions were seen
 kept_longer : (history more : List BaseMap) (kept : KeptText) → IsKept history kept → IsKept (history ++ more) kept
-kept_longer history more kept (m, there, is) = (m, get_longer history more kept.number m there, is)
+kept_longer history more kept (m, answer, there, is, text) = (m, answer, get_longer history more kept.key.number m there, is, text)
 
 pub are_kept_longer : (before now : Seen) (kept : List KeptText) → Continues before now → AreKept before.history kept → AreKept now.history kept
 are_kept_longer before now kept c all =
@@ -37,50 +36,21 @@ are_kept_longer before now kept c all =
 some_same : {X : Type 0} (x y : X) → Some x ≡ Some y → x ≡ y
 some_same x y e = cc
 
--- what is kept for the version that is pinned is its answer
-pub kept_answer : (history : List BaseMap) (pin : Pin Version) (asked : Route) (text : List ℕ) → IsPin history pin
-    → IsKept history (record { number = pin.number; asked = asked; text = text })
-    → route_answer pin.number (arc_value pin.held).built asked ≡ Some (plain 200 text)
-kept_answer history pin asked text p (m, there, is) =
-    let same : m ≡ (arc_value pin.held).built = some_same m (arc_value pin.held).built (sym there ∙ p.there) in
-    ap (λ b. route_answer pin.number b asked) (sym same) ∙ is
+-- what is kept for the version that is pinned is the reply with its answer
+pub found_reply : (history : List BaseMap) (pin : Pin Version) (asked : Route) (close : Bool) (kept : List KeptText) (reply : List ℕ)
+    → IsPin history pin → AreKept history kept
+    → Contains kept (record { key = record { number = pin.number; asked = asked; close = close }; text = reply })
+    → (answer : Answer) × (route_answer pin.number (arc_value pin.held).built asked ≡ Some answer) × (reply ≡ sent pin.number close answer)
+found_reply history pin asked close kept reply p all there =
+    let is = All-contains (IsKept history) kept _ all there in
+    let same : is.0 ≡ (arc_value pin.held).built = some_same is.0 (arc_value pin.held).built (sym is.2 ∙ p.there) in
+    (is.1, ap (λ b. route_answer pin.number b asked) (sym same) ∙ is.3, is.4)
 
--- the answer of the version that is pinned may be kept, where it is a text
-pub answer_kept : (history : List BaseMap) (pin : Pin Version) (asked : Route) (answer : Answer) → IsPin history pin
-    → route_answer pin.number (arc_value pin.held).built asked ≡ Some answer → answer ≡ plain 200 answer.body
-    → IsKept history (record { number = pin.number; asked = asked; text = answer.body })
-answer_kept history pin asked answer p is text = ((arc_value pin.held).built, p.there, is ∙ ap Some text)
-
--- an answer of status 200 that names no method gives a text
-pub is_text : (status : ℕ) (allow : Option Allow) (body : List ℕ) → status ≡ 200 → allow ≡ None
-    → plain 200 body ≡ record { status = status; allow = allow; body = body }
-is_text status allow body s a =
-    let by_status : ℕ → Answer = λ n. record { status = n; allow = allow; body = body } in
-    let by_allow : Option Allow → Answer = λ o. record { status = 200; allow = o; body = body } in
-    sym (ap by_status s ∙ ap by_allow a)
-
--- an answer that is kept is that of the version that is pinned
-pub found_answer : (history : List BaseMap) (pin : Pin Version) (asked : Route) (kept : List KeptText) (answer : Answer) → IsPin history pin
-    → AreKept history kept → answer ≡ plain 200 answer.body
-    → Contains kept (record { number = pin.number; asked = asked; text = answer.body })
-    → route_answer pin.number (arc_value pin.held).built asked ≡ Some answer
-found_answer history pin asked kept answer p all text there =
-    kept_answer history pin asked answer.body p (All-contains (IsKept history) kept _ all there) ∙ ap Some (sym text)
-
--- and so are all, where one that the version that is pinned gives is kept too
-pub kept_more : (history : List BaseMap) (pin : Pin Version) (asked : Route) (answer : Answer) (old new : List KeptText) → IsPin history pin
-    → route_answer pin.number (arc_value pin.held).built asked ≡ Some answer → AreKept history old
-    → All (λ text. Contains old text
-    ⊎ ((text ≡ record { number = pin.number; asked = asked; text = answer.body }) × (answer ≡ plain 200 answer.body))) new
-    → AreKept history new
-kept_more history pin asked answer old new p is all among =
-    let Q : KeptText → Type 0 = λ text. Contains old text
-    ⊎ ((text ≡ record { number = pin.number; asked = asked; text = answer.body }) × (answer ≡ plain 200 answer.body)) in
-    All-weaker Q (IsKept history)
-    (λ text there. elim there [
-      | inl before ↦ All-contains (IsKept history) old text all before
-      | inr one ↦ subst (IsKept history) (sym one.0) (answer_kept history pin asked answer p is one.1)
-    ]) new among
+-- the reply with the answer of the version that is pinned may be kept
+pub reply_kept : (history : List BaseMap) (pin : Pin Version) (asked : Route) (close : Bool) (answer : Answer) (reply : List ℕ)
+    → IsPin history pin → route_answer pin.number (arc_value pin.held).built asked ≡ Some answer → reply ≡ sent pin.number close answer
+    → IsKept history (record { key = record { number = pin.number; asked = asked; close = close }; text = reply })
+reply_kept history pin asked close answer reply p is text = ((arc_value pin.held).built, answer, p.there, is, text)
 
 some_is : {X : Type 0} (o : Option X) (x : X) → o ≡ Some x → IsSome o
 some_is (Some y) x e = refl

@@ -1,13 +1,7 @@
 -- Bytes that are put in two calls.
 use Rattle.std.proofs.Common.{◌≡◌, ℕ, zero, suc, ◌+◌, List, [], ◌∷◌, ◌++◌, take, length, Option, Some, None, Result, Ok, Err, refl, sym, ap, ◌∙◌, subst, append_assoc}
 use Rattle.std.proofs.Math.Seq.{take-append-add}
-use Rattle.std.proofs.lemmas.List.{append-nil}
 use Rattle.plain_io.specs.Puts.{Appends, AppendsFront, Puts}
-
--- none were put
-pub put_none : (told : Option (List ℕ)) (bytes : List ℕ) → bytes ≡ [] → Appends told told bytes
-put_none None bytes e = tt
-put_none (Some before) bytes e = ap Some (sym (append-nil before) ∙ ap (λ xs. before ++ xs) (sym e))
 
 -- so many of the first are a front of all
 take_front_first : (n : ℕ) (first rest : List ℕ) → (m : ℕ) × (take n first ≡ take m (first ++ rest))

@@ -1,9 +1,10 @@
 pub mod Reading
 pub mod Items
 pub mod Coming
-pub mod Bodies
+pub mod Sendings
 pub mod Answers
 pub mod KeptTexts
+pub mod Desks
 pub mod Outcomes
 pub mod Versions
 pub mod Keeping

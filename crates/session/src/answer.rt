@@ -3,12 +3,12 @@
 ghost use Rattle.std.specs.Prelude.{◌≡◌, ◌∷◌, [], IfOk};
 ghost use Rattle.line_forms.specs.Texts.{line};
 ghost use Rattle.http_face.specs.declared.head.TheConstants.{CONTENT_TOO_LARGE};
+ghost use Rattle.http_face.specs.Replies.{IsReply, reply_text};
 ghost use Rattle.session.specs.Answers.{IsAnswer, plain, numbered, fault_answer};
 ghost use Rattle.session.specs.Outcomes.{sent};
 
-use crate::body::Body;
 use crate::sending::Sending;
-use http_face::{Allow, CONTENT_TOO_LARGE, head_bytes};
+use http_face::{Allow, CONTENT_TOO_LARGE, Reply};
 use plain_io::put_field;
 use std::alloc::Global;
 use tgap_model::{Memory, Text};
@@ -18,7 +18,7 @@ use tgap_model::{Memory, Text};
 pub(crate) struct Answer {
     pub status: u16,
     pub allow: Option<Allow>,
-    pub body: Body,
+    pub body: Text,
 }
 
 /// An answer that names no method.
@@ -28,7 +28,7 @@ pub(crate) fn plain(status: u16, body: Text) -> Answer
     Answer {
         status,
         allow: None,
-        body: Body::made(body),
+        body,
     }
 }
 
@@ -63,16 +63,25 @@ pub(crate) fn fault_answer(alloc: Global, status: u16) -> Result<Answer, Memory>
     }
 }
 
-/// The bytes of a reply. A long body is not copied.
+/// The reply of an answer, with what the connection adds to it.
+pub(crate) fn reply_of(answer: Answer, pin: u64, close: bool) -> Reply
+    requires { IsAnswer answer }
+    ensures text { reply_text result ≡ sent pin close answer }
+    ensures sendable { IsReply result }
+{
+    Reply {
+        status: answer.status,
+        pin,
+        allow: answer.allow,
+        close,
+        body: answer.body,
+    }
+}
+
+/// The bytes of a reply that is not kept. A long body is not copied.
 pub(crate) fn sent(alloc: Global, answer: Answer, pin: u64, close: bool) -> Result<Sending, Memory>
     requires { IsAnswer answer }
     ensures { IfOk result (λ sending. sending ≡ sent pin close answer) }
 {
-    let Answer {
-        status,
-        allow,
-        body,
-    } = answer;
-    let head = head_bytes(alloc, status, pin, allow, close, body.len())?;
-    Sending::new(alloc, head, body)
+    Sending::of(alloc, reply_of(answer, pin, close))
 }

@@ -19,6 +19,13 @@ pub(crate) struct NextRequest {
     pub asked: Route,
 }
 
+/// A request that is to be answered, and whether the connection ends after the reply.
+#[derive(Clone, Copy)]
+pub(crate) struct Due {
+    pub request: NextRequest,
+    pub ends: bool,
+}
+
 /// What the bytes that are held begin with.
 #[derive(Clone, Copy)]
 pub(crate) enum Coming {

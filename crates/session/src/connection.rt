@@ -8,9 +8,9 @@ ghost use Rattle.session.specs.Keeping.{AreKept, IsDeskOf};
 ghost use Rattle.session.specs.Versions.{seen_of};
 
 use crate::desk::{Desk, Fittings};
-use crate::kept_texts::KeptTexts;
 use crate::log::Log;
 use crate::serve::serve;
+use crate::talk::Talk;
 use crate::versions::Versions;
 use map_version::Version;
 use plain_io::{ConnectionEnd, EndKind, Link};
@@ -36,43 +36,31 @@ fn unserved(alloc: Global) -> ConnectionEnd
 /// Pins the newest version, and serves the requests of a connection from then on. What is kept is that of the versions.
 fn converse<R: Threads + Wait + Sync, L: Link, P, V: Versions<P>>(
     rt: &R,
-    alloc: Global,
     link: &mut L,
     versions: &mut V,
     press: &P,
     fittings: &mut Fittings,
-    kept: &mut KeptTexts,
-    mut log: Log,
+    log: Log,
 ) -> ConnectionEnd
     requires numbers { log.numbers ≡ [] }
     requires rows { log.rows ≡ [] }
-    requires texts { AreKept (V.seen versions.old).history kept.old }
+    requires texts { AreKept (V.seen versions.old).history fittings.old.kept }
     requires open { L.ended link.old ≡ false }
     ensures connection { IsConnection (V.seen versions.old) (V.seen versions.new) (L.taken link.old) (L.taken link.new)
         (L.told link.old) (L.told link.new) (L.ended link.new) result }
     ensures read_fault { result.how ≡ ReadFault → Rose (L.take_faults link.old) (L.take_faults link.new) }
     ensures write_fault { result.how ≡ WriteFault → Rose (L.put_faults link.old) (L.put_faults link.new) }
-    ensures texts { AreKept (V.seen versions.new).history kept.new }
+    ensures texts { AreKept (V.seen versions.new).history fittings.new.kept }
 {
-    let Ok(mut pin) = versions.pin(alloc) else {
-        return unserved(alloc);
+    let Ok(pin) = versions.pin(fittings.alloc) else {
+        return unserved(fittings.alloc);
     };
     fittings.room.clear();
     let first = pin.number;
-    let how = serve(
-        rt,
-        alloc,
-        link,
-        versions,
-        press,
-        &mut pin,
-        &fittings.routes,
-        kept,
-        &mut log,
-        &mut fittings.room,
-    );
-    let last = pin.number;
-    let (numbers, rows) = log.into_lists();
+    let mut talk = Talk { pin, log };
+    let how = serve(rt, link, versions, press, &mut talk, fittings);
+    let last = talk.pin.number;
+    let (numbers, rows) = talk.log.into_lists();
     ConnectionEnd {
         how,
         first,
@@ -89,8 +77,9 @@ fn converse<R: Threads + Wait + Sync, L: Link, P, V: Versions<P>>(
 /// All that it holds (room for 1,056,768 bytes, the two lists of 10,000 entries and the table of routes) is taken
 /// before the first pin; without that memory, or that of the pin, the end is `Memory`. What it keeps of the texts that
 /// were asked for takes memory as they come, and is given up where there is none. The press is locked for a moment for
-/// each edit that is good and for each `/pin/{seen}` above the newest version that the seat sees; an edit is applied,
-/// checked and built before that.
+/// each `/pin/{seen}` above the newest version that the seat sees, and twice for each edit that is good: once it is
+/// applied and checked, to see whether it would be stale or there is no room for it, and again to publish the version
+/// that was built in between.
 pub fn serve_connection<L: Link, N: StoreName, R: Threads + Wait + Sync>(
     rt: &R,
     alloc: Global,
@@ -114,8 +103,8 @@ pub fn serve_connection<L: Link, N: StoreName, R: Threads + Wait + Sync>(
 
 /// Serves the requests of a connection as `serve_connection` does, at a desk. The room for what comes in and the table
 /// of routes are taken at the desk's first connection and stay there; the two lists of 10,000 entries are taken for
-/// each. Where that memory is wanting, the end is `Memory`, and the next connection tries again. A text that was asked
-/// for at this desk before, in the same version, is sent again as it was made then.
+/// each. Where that memory is wanting, the end is `Memory`, and the next connection tries again. What was asked for at
+/// this desk before, in the same version, is answered by the bytes of the reply that was made then.
 pub fn serve_connection_at<L: Link, N: StoreName, R: Threads + Wait + Sync>(
     rt: &R,
     alloc: Global,
@@ -137,12 +126,12 @@ pub fn serve_connection_at<L: Link, N: StoreName, R: Threads + Wait + Sync>(
     // The texts at the desk are those of the versions that the seat has seen.
     ensures desk { IsDeskOf (seen_of seat.new) desk.new }
 {
-    desk.furnish(alloc);
+    desk.furnish();
     let Some(fittings) = &mut desk.fittings else {
         return unserved(alloc);
     };
     let Ok(log) = Log::new(alloc) else {
         return unserved(alloc);
     };
-    converse(rt, alloc, link, seat, press, fittings, &mut desk.kept, log)
+    converse(rt, link, seat, press, fittings, log)
 }

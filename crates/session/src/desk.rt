@@ -1,6 +1,6 @@
 //! What a worker keeps from one connection to the next.
 
-ghost use Rattle.std.specs.Prelude.{◌≡◌};
+ghost use Rattle.std.specs.Prelude.{◌≡◌, [], IfOk};
 ghost use Rattle.session.specs.Keeping.{IsDeskOf};
 ghost use Rattle.session.specs.Versions.{Seen};
 
@@ -11,39 +11,46 @@ use std::alloc::Global;
 use std::marker::Model;
 use tgap_model::Memory;
 
-/// What a connection wants to have before it begins, and what the next one takes over: room for what comes in, and the
-/// table of routes.
+/// What a connection wants to have before it begins, and what the next one takes over: where memory comes from, room
+/// for what comes in, the table of routes, and the texts that are kept.
 #[derive(Drop)]
 pub(crate) struct Fittings {
+    pub alloc: Global,
     pub room: Room,
     pub routes: Routes,
+    pub kept: KeptTexts,
 }
 
 impl Fittings {
-    /// Room that holds no byte, and the table.
-    fn new(alloc: Global) -> Result<Fittings, Memory> {
+    /// Room that holds no byte, the table, and no text.
+    fn new(alloc: Global) -> Result<Fittings, Memory>
+        ensures { IfOk result (λ fittings. fittings.kept ≡ []) }
+    {
         Ok(Fittings {
+            alloc,
             room: Room::new(alloc)?,
             routes: routes(alloc)?,
+            kept: KeptTexts::new(alloc),
         })
     }
 }
 
-/// What a worker keeps from one connection to the next: room for what comes in, the table of routes, and the texts that
-/// were asked for last, 8,388,608 bytes at most. It is seen as those texts.
+/// What a worker keeps from one connection to the next: room for what comes in, the table of routes, and the replies
+/// that were asked for last, 8,388,608 bytes at most. It is seen as those replies.
 #[derive(Drop)]
 pub struct Desk {
+    alloc: Global,
     pub(crate) fittings: Option<Fittings>,
-    pub(crate) kept: KeptTexts,
 }
 
 impl Model for Desk {
     ghost use Rattle.std.specs.Prelude.{List};
+    ghost use Rattle.session.specs.Desks.{texts_of};
     ghost use Rattle.session.specs.declared.kept_texts.KeptText.{KeptText};
 
     ghost Value = { List KeptText };
 
-    ghost view = { λ desk. desk.kept };
+    ghost view = { λ desk. texts_of desk.fittings };
 }
 
 impl Desk {
@@ -52,18 +59,18 @@ impl Desk {
         ensures { (seen : Seen) → IsDeskOf seen result }
     {
         Desk {
+            alloc,
             fittings: None,
-            kept: KeptTexts::new(alloc),
         }
     }
 
     /// Makes what a connection wants to have before it begins, where it is not there yet. Without memory it is still
     /// not there.
-    pub(crate) fn furnish(&mut self, alloc: Global)
+    pub(crate) fn furnish(&mut self)
         ensures { self.new ≡ self.old }
     {
         if self.fittings.is_none() {
-            self.fittings = Fittings::new(alloc).ok();
+            self.fittings = Fittings::new(self.alloc).ok();
         }
     }
 }

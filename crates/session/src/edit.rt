@@ -156,6 +156,13 @@ fn commit<R: Wait, P, V: Versions<P>>(
     }
 }
 
+/// What a batch made, checked, and whether the connection ends after the reply to it.
+#[derive(Drop)]
+struct Revision {
+    map: Checked,
+    close: bool,
+}
+
 /// Builds the version of a checked map that a batch made of the one that is pinned, and publishes it.
 fn publish_built<R: Threads + Wait + Sync, P, V: Versions<P>>(
     rt: &R,
@@ -163,21 +170,21 @@ fn publish_built<R: Threads + Wait + Sync, P, V: Versions<P>>(
     versions: &mut V,
     press: &P,
     pin: &mut Pin<Version>,
-    checked: Checked,
+    revision: Revision,
     batch: &[u8],
-    close: bool,
 ) -> Result<Turned, Memory>
     requires pin { IsPin (V.seen versions.old).history pin.old }
-    requires sound { map_fault checked ≡ None }
-    ensures turned { IfOk result (λ t. edited (arc_value pin.old.held).built batch.now ≡ Ok checked
-        → IsTurned (V.seen versions.old) (V.seen versions.new) pin.old.number pin.new.number (RouteAsked EditRoute batch.now) close t) }
+    requires sound { map_fault revision.map ≡ None }
+    ensures turned { IfOk result (λ t. edited (arc_value pin.old.held).built batch.now ≡ Ok revision.map
+        → IsTurned (V.seen versions.old) (V.seen versions.new) pin.old.number pin.new.number (RouteAsked EditRoute batch.now) revision.close t) }
     ensures pin { IsPin (V.seen versions.new).history pin.new }
     ensures kept { OnErr result (pin.new ≡ pin.old) }
     ensures continues { Continues (V.seen versions.old) (V.seen versions.new) }
     ensures published { CountsPublished (V.seen versions.old) (V.seen versions.new) result }
     ensures told { CountsTold (V.seen versions.old) (V.seen versions.new) result }
 {
-    let next = successor(rt, alloc, &pin.held, checked, batch)?;
+    let Revision { map, close } = revision;
+    let next = successor(rt, alloc, &pin.held, map, batch)?;
     commit(rt, alloc, versions, press, pin, next, close)
 }
 
@@ -189,14 +196,13 @@ fn advance<R: Threads + Wait + Sync, P, V: Versions<P>>(
     versions: &mut V,
     press: &P,
     pin: &mut Pin<Version>,
-    checked: Checked,
+    revision: Revision,
     batch: &[u8],
-    close: bool,
 ) -> Result<Turned, Memory>
     requires pin { IsPin (V.seen versions.old).history pin.old }
-    requires sound { map_fault checked ≡ None }
-    ensures turned { IfOk result (λ t. edited (arc_value pin.old.held).built batch.now ≡ Ok checked
-        → IsTurned (V.seen versions.old) (V.seen versions.new) pin.old.number pin.new.number (RouteAsked EditRoute batch.now) close t) }
+    requires sound { map_fault revision.map ≡ None }
+    ensures turned { IfOk result (λ t. edited (arc_value pin.old.held).built batch.now ≡ Ok revision.map
+        → IsTurned (V.seen versions.old) (V.seen versions.new) pin.old.number pin.new.number (RouteAsked EditRoute batch.now) revision.close t) }
     ensures pin { IsPin (V.seen versions.new).history pin.new }
     ensures kept { OnErr result (pin.new ≡ pin.old) }
     ensures continues { Continues (V.seen versions.old) (V.seen versions.new) }
@@ -204,8 +210,8 @@ fn advance<R: Threads + Wait + Sync, P, V: Versions<P>>(
     ensures told { CountsTold (V.seen versions.old) (V.seen versions.new) result }
 {
     match versions.ready(rt, press, pin.number) {
-        Ok(()) => publish_built(rt, alloc, versions, press, pin, checked, batch, close),
-        Err(fail) => refuse_commit(alloc, pin, fail, close),
+        Ok(()) => publish_built(rt, alloc, versions, press, pin, revision, batch),
+        Err(fail) => refuse_commit(alloc, pin, fail, revision.close),
     }
 }
 
@@ -230,7 +236,10 @@ pub(crate) fn edit<R: Threads + Wait + Sync, P, V: Versions<P>>(
     ensures told { CountsTold (V.seen versions.old) (V.seen versions.new) result }
 {
     match revised(rt, alloc, &pin.held, batch) {
-        Ok(checked) => advance(rt, alloc, versions, press, pin, checked, batch, close),
+        Ok(map) => {
+            let revision = Revision { map, close };
+            advance(rt, alloc, versions, press, pin, revision, batch)
+        }
         Err(RebuildFail::Edit(fault)) => refuse_batch(alloc, pin, &fault, close),
         Err(RebuildFail::Map(fault)) => refuse_map(alloc, pin, &fault, close),
         Err(RebuildFail::Memory) => Err(Memory),

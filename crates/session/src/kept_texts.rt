@@ -1,14 +1,16 @@
-//! The texts that were asked for last, which are kept for who asks for them again.
+//! The replies that were asked for last, which are kept for who asks for them again.
 
 ghost use Rattle.std.specs.Prelude.{◌≡◌, ◌⊎◌, ◌≤◌, ◌<◌, ◌+◌, [], All, length, drop, sum_by, IfSome, IsTrue};
 ghost use Rattle.std.specs.List.{Contains, HoldsAt};
 ghost use Rattle.session.specs.KeptTexts.{size_of, IsFor};
 ghost use Rattle.session.specs.declared.kept_texts.TheConstants.{KEPT_BYTES, KEPT_TEXTS};
 
-use crate::body::Body;
+use crate::sending::Sending;
+use crate::shared_text::SharedText;
 use http_face::Route;
 use std::alloc::Global;
 use std::marker::Model;
+use tgap_model::Text;
 
 /// How many bytes the texts that are kept have at most, together.
 pub const KEPT_BYTES: usize = 8_388_608;
@@ -16,28 +18,38 @@ pub const KEPT_BYTES: usize = 8_388_608;
 /// How many texts are kept at most. They are few, so that a text is found by looking at one after the other.
 pub const KEPT_TEXTS: usize = 128;
 
-/// A text that is kept: what the version of this number answers to what was asked.
-#[derive(Drop)]
-pub(crate) struct KeptText {
+/// What a reply is kept for: what is asked of the version of a number, and whether the connection ends after the reply.
+#[derive(Clone, Copy)]
+pub(crate) struct ReplyKey {
     pub number: u64,
     pub asked: Route,
-    pub text: Body,
+    pub close: bool,
+}
+
+/// A text that is kept: the bytes of the whole reply to what is asked.
+#[derive(Drop)]
+pub(crate) struct KeptText {
+    pub key: ReplyKey,
+    pub text: SharedText,
 }
 
 impl KeptText {
-    /// Whether it is what the version of this number answers to this.
-    fn is_for(&self, number: u64, asked: Route) -> bool
-        ensures { IsTrue result → IsFor number asked self.now }
+    /// Whether it is the reply to this.
+    fn is_for(&self, key: ReplyKey) -> bool
+        ensures { IsTrue result → IsFor key self.now }
     {
-        self.number == number && is_same(self.asked, asked)
+        self.key.number == key.number
+            && self.key.close == key.close
+            && is_same(self.key.asked, key.asked)
     }
 }
 
-/// Whether both ask for the same slice, packet or topology.
+/// Whether both ask for the numbers of the version, or for the same slice, packet or topology.
 fn is_same(a: Route, b: Route) -> bool
     ensures { IsTrue result → a ≡ b }
 {
     match (a, b) {
+        (Route::Info, Route::Info) => true,
         (Route::Slice(step), Route::Slice(other)) => step == other,
         (Route::Packet(from, to), Route::Packet(other, last)) => from == other && to == last,
         (Route::Topo(step), Route::Topo(other)) => step == other,
@@ -64,13 +76,14 @@ impl Model for KeptTexts {
     ghost invariant = { λ kept. sum_by size_of kept.texts.items ≤ KEPT_BYTES };
 }
 
-/// Where the text stands that is kept for this version and what was asked.
+/// Where the text stands that is kept for this. The one that was used last is looked at first.
 #[tactic(auto, using(std::proofs::lemmas::List::Elements::at_read))]
-fn place_of(texts: &[KeptText], number: u64, asked: Route) -> Option<usize>
-    ensures { IfSome result (λ place. (place < length texts.now) × HoldsAt (IsFor number asked) texts.now place) }
+fn place_of(texts: &[KeptText], key: ReplyKey) -> Option<usize>
+    ensures { IfSome result (λ place. (place < length texts.now) × HoldsAt (IsFor key) texts.now place) }
 {
-    for (place, kept) in texts.iter().enumerate() {
-        if kept.is_for(number, asked) {
+    for passed in 0..texts.len() {
+        let place = texts.len() - 1 - passed;
+        if texts[place].is_for(key) {
             return Some(place);
         }
     }
@@ -117,14 +130,13 @@ impl KeptTexts {
         }
     }
 
-    /// The text that is kept for this version and what was asked, if there is one. It is the one that was used last
-    /// from then on.
-    pub(crate) fn find(&mut self, number: u64, asked: Route) -> Option<Body>
-        ensures found { IfSome result (λ text. Contains self.old (record { number = number; asked = asked; text = text })) }
+    /// The text that is kept for this, if there is one. It is the one that was used last from then on.
+    pub(crate) fn find(&mut self, key: ReplyKey) -> Option<SharedText>
+        ensures found { IfSome result (λ text. Contains self.old (record { key = key; text = text })) }
         // No text is kept that was not.
         ensures texts { All (Contains self.old) self.new }
     {
-        let place = place_of(self.texts.as_slice(), number, asked)?;
+        let place = place_of(self.texts.as_slice(), key)?;
         let text = self.texts[place].text.share()?;
         self.use_last(place);
         Some(text)
@@ -139,29 +151,34 @@ impl KeptTexts {
         self.texts.push_reserved(kept);
     }
 
-    /// Keeps what the version of this number answers to what was asked, and gives the same bytes. Those go that were
-    /// not used for the longest time, as many as must. A text of more than [`KEPT_BYTES`] is not kept, nor is one where
-    /// memory is wanting.
-    pub(crate) fn keep(&mut self, alloc: Global, number: u64, asked: Route, body: Body) -> Body
-        ensures body { result ≡ body }
+    /// Keeps the bytes of the reply to this, and gives them to be put. Those go that were not used for the longest
+    /// time, as many as must. A text of more than [`KEPT_BYTES`] is not kept, nor is one where memory is wanting.
+    pub(crate) fn keep(&mut self, alloc: Global, key: ReplyKey, text: Text) -> Sending
+        ensures reply { result ≡ text }
         // No text is kept but those that were, and this one.
-        ensures texts { All (λ text. Contains self.old text
-            ⊎ (text ≡ record { number = number; asked = asked; text = body })) self.new }
+        ensures texts { All (λ kept. Contains self.old kept ⊎ (kept ≡ record { key = key; text = text })) self.new }
     {
-        let size = body.len();
-        if size > KEPT_BYTES {
-            return body;
+        if text.len() > KEPT_BYTES {
+            return Sending::whole(text);
         }
-        let body = body.into_shared(alloc);
-        if let Some(text) = body.share() {
-            self.make_room(size);
-            self.add(KeptText {
-                number,
-                asked,
-                text,
-            });
+        match SharedText::new(alloc, text) {
+            Ok(text) => {
+                self.keep_shared(key, &text);
+                Sending::kept(text)
+            }
+            Err(text) => Sending::whole(text),
         }
-        body
+    }
+
+    /// Keeps a text that is shared, of at most [`KEPT_BYTES`].
+    fn keep_shared(&mut self, key: ReplyKey, text: &SharedText)
+        requires { length text.now ≤ KEPT_BYTES }
+        ensures { All (λ kept. Contains self.old kept ⊎ (kept ≡ record { key = key; text = text.now })) self.new }
+    {
+        if let Some(text) = text.share() {
+            self.make_room(text.len());
+            self.add(KeptText { key, text });
+        }
     }
 
     /// Lets go those that were not used for the longest time, until there is room for one of this size.

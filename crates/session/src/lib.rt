@@ -2,7 +2,6 @@
 #![tactic(auto)]
 
 mod answer;
-mod body;
 mod coming;
 mod connection;
 mod desk;
@@ -14,7 +13,9 @@ mod room;
 mod row;
 mod sending;
 mod serve;
+mod shared_text;
 mod store;
+mod talk;
 mod topology;
 mod turn;
 mod versions;

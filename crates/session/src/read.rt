@@ -12,16 +12,19 @@ ghost use Rattle.tgap_model.specs.Merged.{merged};
 ghost use Rattle.tgap_model.specs.Records.{packet_of};
 ghost use Rattle.wire_text.specs.SliceTexts.{slice_text, window_text, packet_text};
 ghost use Rattle.plain_io.specs.Fields.{fields};
+ghost use Rattle.http_face.specs.Replies.{IsReply, reply_text};
+ghost use Rattle.session.specs.declared.answer.Answer.{Answer};
+ghost use Rattle.session.specs.Outcomes.{sent};
 ghost use Rattle.session.specs.Keeping.{AreKept};
 ghost use Rattle.session.specs.Versions.{IsPin};
 ghost use Rattle.session.specs.Answers.{IsAnswer, plain, info_words, not_coarser_words, route_answer, packet_answer, window_answer, at_step};
 ghost use Rattle.session.specs.Turns.{Reads};
 
-use crate::answer::{Answer, line, plain};
-use crate::body::Body;
-use crate::kept_texts::KeptTexts;
+use crate::answer::{Answer, line, plain, reply_of};
+use crate::kept_texts::{KEPT_BYTES, KeptTexts, ReplyKey};
+use crate::sending::Sending;
 use crate::topology::topology_answer;
-use http_face::{Allow, Route};
+use http_face::{Reply, Route, reply_bytes};
 use map_version::Version;
 use plain_io::{put_count, put_field, put_size};
 use refine_packets::{PacketFail, packet};
@@ -172,88 +175,75 @@ pub(crate) fn route_answer(
         Route::WrongMethod(allow) => Ok(Answer {
             status: 405,
             allow: Some(allow),
-            body: Body::made(line(alloc, b"wrong method")?),
+            body: line(alloc, b"wrong method")?,
         }),
         Route::NoRoute => Ok(plain(404, line(alloc, b"no route")?)),
         Route::Pin | Route::PinSeen(_) | Route::Edit => unreachable!(),
     }
 }
 
-/// Whether the answers to this are kept for who asks again: slices, packets and topologies.
+/// Whether the replies to this are kept for who asks again: the numbers of the version, slices, packets and topologies.
 fn is_kept(asked: Route) -> bool {
     match asked {
-        Route::Slice(_) | Route::Packet(_, _) | Route::Topo(_) => true,
+        Route::Info | Route::Slice(_) | Route::Packet(_, _) | Route::Topo(_) => true,
         _ => false,
     }
 }
 
-/// The answer of the version of this number that is kept, if one is.
-fn find_answer(kept: &mut KeptTexts, number: u64, asked: Route) -> Option<Answer>
-    ensures text { IfSome result (λ a. a ≡ plain 200 a.body) }
-    ensures found { IfSome result (λ a. Contains kept.old (record { number = number; asked = asked; text = a.body })) }
-    ensures sendable { IfSome result IsAnswer }
+/// The reply that is kept for this, if one is.
+fn find_reply(kept: &mut KeptTexts, key: ReplyKey) -> Option<Sending>
+    ensures found { IfSome result (λ reply. Contains kept.old (record { key = key; text = reply })) }
     ensures texts { All (Contains kept.old) kept.new }
 {
-    if !is_kept(asked) {
+    if !is_kept(key.asked) {
         return None;
     }
-    let body = kept.find(number, asked)?;
-    Some(Answer {
-        status: 200,
-        allow: None,
-        body,
-    })
+    Some(Sending::kept(kept.find(key)?))
 }
 
-/// Keeps the text of an answer of the version of this number, where it is one that is kept, and gives the same answer.
-fn keep_answer(
+/// The bytes of the reply to this, which are kept where it is of status 200 and one of those that are. For that they
+/// are laid out in one text; where memory is wanting for it, or the body is too long, they are put as they are.
+fn keep_reply(
     alloc: Global,
     kept: &mut KeptTexts,
-    number: u64,
-    asked: Route,
-    answer: Answer,
-) -> Answer
-    ensures answer { result ≡ answer }
-    ensures texts { All (λ text. Contains kept.old text
-        ⊎ ((text ≡ record { number = number; asked = asked; text = answer.body }) × (answer ≡ plain 200 answer.body))) kept.new }
+    key: ReplyKey,
+    reply: Reply,
+) -> Result<Sending, Memory>
+    requires { IsReply reply }
+    ensures reply { IfOk result (λ sending. sending ≡ reply_text reply) }
+    ensures texts { All (λ text. Contains kept.old text ⊎ (text ≡ record { key = key; text = reply_text reply })) kept.new }
 {
-    let Answer {
-        status,
-        allow,
-        body,
-    } = answer;
-    if is_kept(asked) && status == 200 && allow.is_none() {
-        Answer {
-            status,
-            allow,
-            body: kept.keep(alloc, number, asked, body),
-        }
-    } else {
-        Answer {
-            status,
-            allow,
-            body,
+    if is_kept(key.asked) && reply.status == 200 && reply.body.len() <= KEPT_BYTES {
+        if let Ok(text) = reply_bytes(alloc, &reply) {
+            return Ok(kept.keep(alloc, key, text));
         }
     }
+    Sending::of(alloc, reply)
 }
 
-/// The answer to what only reads the version that is pinned. A slice, a packet or a topology that is kept is not made again, and one that
-/// is made is kept.
-pub(crate) fn pinned_answer(
+/// The reply to what only reads the version that is pinned. One that is kept is not made again, and one that is made
+/// may be kept.
+pub(crate) fn pinned_reply(
     alloc: Global,
     pin: &Pin<Version>,
     kept: &mut KeptTexts,
     asked: Route,
-) -> Result<Answer, Memory>
+    close: bool,
+) -> Result<Sending, Memory>
     requires { Reads asked }
-    ensures exact { IfOk result (λ a. (history : List BaseMap) → IsPin history pin.now → AreKept history kept.old
-        → route_answer pin.now.number (arc_value pin.now.held).built asked ≡ Some a) }
-    ensures sendable { IfOk result IsAnswer }
+    ensures exact { IfOk result (λ reply. (history : List BaseMap) → IsPin history pin.now → AreKept history kept.old
+        → (answer : Answer) × (route_answer pin.now.number (arc_value pin.now.held).built asked ≡ Some answer)
+        × (reply ≡ sent pin.now.number close answer)) }
     ensures texts { (history : List BaseMap) → IsPin history pin.now → AreKept history kept.old → AreKept history kept.new }
 {
-    if let Some(answer) = find_answer(kept, pin.number, asked) {
-        return Ok(answer);
+    let key = ReplyKey {
+        number: pin.number,
+        asked,
+        close,
+    };
+    if let Some(reply) = find_reply(kept, key) {
+        return Ok(reply);
     }
     let answer = route_answer(alloc, pin.number, &pin.held.built, asked)?;
-    Ok(keep_answer(alloc, kept, pin.number, asked, answer))
+    keep_reply(alloc, kept, key, reply_of(answer, pin.number, close))
 }

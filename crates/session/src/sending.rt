@@ -2,8 +2,10 @@
 
 ghost use Rattle.std.specs.Prelude.{◌≡◌, ◌++◌, IfOk};
 ghost use Rattle.plain_io.specs.Puts.{Puts, CountsPut};
+ghost use Rattle.http_face.specs.Replies.{IsReply, reply_text};
 
-use crate::body::Body;
+use crate::shared_text::SharedText;
+use http_face::{Reply, head_bytes, reply_bytes};
 use plain_io::{Failed, Link};
 use std::alloc::Global;
 use std::marker::Model;
@@ -12,37 +14,77 @@ use tgap_model::{Memory, Text};
 /// A body of at most so many bytes is put together with its head, since a copy of it costs less than a further call.
 const COPIED_AT_MOST: usize = 8_192;
 
-/// The bytes of a reply: those that are put first, and those that follow them.
+/// What holds the bytes of a reply.
+#[derive(Drop)]
+pub(crate) enum Holder {
+    /// A text that is kept, and that others may be sending too.
+    Kept(SharedText),
+    /// A text of this reply alone.
+    Whole(Text),
+    /// A head, and the body that is put behind it.
+    Parts { head: Text, body: Text },
+}
+
+/// The bytes of a reply.
 #[derive(Drop)]
 pub(crate) struct Sending {
-    first: Text,
-    rest: Body,
+    holder: Holder,
 }
 
 impl Model for Sending {
-    ghost use Rattle.std.specs.Prelude.{List, ℕ, ◌++◌};
+    ghost use Rattle.std.specs.Prelude.{List, ℕ};
+    ghost use Rattle.session.specs.Sendings.{bytes_of};
 
     ghost Value = { List ℕ };
 
-    ghost view = { λ sending. sending.first ++ sending.rest };
+    ghost view = { λ sending. bytes_of sending.holder };
 }
 
 impl Sending {
-    /// A head and the body behind it. A long body is not copied.
-    pub(crate) fn new(alloc: Global, head: Text, body: Body) -> Result<Sending, Memory>
-        ensures { IfOk result (λ sending. sending ≡ head ++ body) }
+    /// A reply that is kept.
+    pub(crate) fn kept(text: SharedText) -> Sending
+        ensures { result ≡ text }
     {
-        if body.len() > COPIED_AT_MOST {
-            return Ok(Sending {
-                first: head,
-                rest: body,
-            });
+        Sending {
+            holder: Holder::Kept(text),
         }
-        let mut first = head;
-        first.push_slice(body.as_slice())?;
+    }
+
+    /// A whole reply.
+    pub(crate) fn whole(text: Text) -> Sending
+        ensures { result ≡ text }
+    {
+        Sending {
+            holder: Holder::Whole(text),
+        }
+    }
+
+    /// A reply that is not kept. A long body is not copied.
+    pub(crate) fn of(alloc: Global, reply: Reply) -> Result<Sending, Memory>
+        requires { IsReply reply }
+        ensures { IfOk result (λ sending. sending ≡ reply_text reply) }
+    {
+        if reply.body.len() > COPIED_AT_MOST {
+            Sending::in_parts(alloc, reply)
+        } else {
+            Ok(Sending::whole(reply_bytes(alloc, &reply)?))
+        }
+    }
+
+    /// A reply of which the body is put by itself.
+    fn in_parts(alloc: Global, reply: Reply) -> Result<Sending, Memory>
+        ensures { IfOk result (λ sending. sending ≡ reply_text reply) }
+    {
+        let Reply {
+            status,
+            pin,
+            allow,
+            close,
+            body,
+        } = reply;
+        let head = head_bytes(alloc, status, pin, allow, close, body.len())?;
         Ok(Sending {
-            first,
-            rest: Body::made(Text::new(alloc)),
+            holder: Holder::Parts { head, body },
         })
     }
 
@@ -54,7 +96,11 @@ impl Sending {
         ensures take_faults { L.take_faults link.new ≡ L.take_faults link.old }
         ensures end { L.ended link.new ≡ L.ended link.old }
     {
-        put_both(link, self.first.as_slice(), self.rest.as_slice())
+        match &self.holder {
+            Holder::Kept(text) => link.put(text.as_slice()),
+            Holder::Whole(text) => link.put(text.as_slice()),
+            Holder::Parts { head, body } => put_both(link, head.as_slice(), body.as_slice()),
+        }
     }
 }
 
@@ -67,22 +113,7 @@ fn put_both<L: Link>(link: &mut L, first: &[u8], rest: &[u8]) -> Result<(), Fail
     ensures end { L.ended link.new ≡ L.ended link.old }
 {
     match link.put(first) {
-        Ok(()) => put_some(link, rest),
+        Ok(()) => link.put(rest),
         Err(failed) => Err(failed),
-    }
-}
-
-/// Puts bytes, where there are any.
-fn put_some<L: Link>(link: &mut L, bytes: &[u8]) -> Result<(), Failed>
-    ensures bytes { Puts (L.told link.old) (L.told link.new) bytes.now result }
-    ensures faults { CountsPut result (L.put_faults link.old) (L.put_faults link.new) }
-    ensures taken { L.taken link.new ≡ L.taken link.old }
-    ensures take_faults { L.take_faults link.new ≡ L.take_faults link.old }
-    ensures end { L.ended link.new ≡ L.ended link.old }
-{
-    if bytes.is_empty() {
-        Ok(())
-    } else {
-        link.put(bytes)
     }
 }

@@ -13,21 +13,20 @@ ghost use Rattle.session.specs.Progress.{Exchange};
 ghost use Rattle.session.specs.Turns.{settled};
 ghost use Rattle.session.specs.Versions.{Seen, IsPin};
 
-use crate::coming::{Arrival, NextRequest, next_item};
-use crate::kept_texts::KeptTexts;
+use crate::coming::{Arrival, Due, next_item};
+use crate::desk::Fittings;
 use crate::log::Log;
 use crate::room::Room;
 use crate::row::Row;
+use crate::talk::Talk;
 use crate::turn::{Turned, answer, refuse_head};
 use crate::versions::Versions;
-use http_face::{Routes, short_reply};
-use map_version::Version;
+use http_face::short_reply;
 use plain_io::{EndKind, Failed, Link};
 use std::alloc::Global;
 use std::sync::Wait;
 use std::thread::Threads;
 use tgap_model::Memory;
-use version_store::Pin;
 
 /// How many requests of one connection are answered.
 pub const MAX_REQUESTS: usize = 10_000;
@@ -73,14 +72,6 @@ fn respond<L: Link>(
     }
 }
 
-/// The bytes of a body of this size, behind a head of that size.
-fn body_of(held: &[u8], head: usize, body: usize) -> &[u8]
-    requires { head + body ≤ length held.now }
-    ensures { result.now ≡ take body (drop head held.now) }
-{
-    &held[head..head + body]
-}
-
 /// Whether the connection ends after the reply to the request of this number, from 1, which asks to close or not.
 fn is_final(count: usize, close: bool) -> bool
     ensures { result ≡ (close || (count == MAX_REQUESTS)) }
@@ -91,103 +82,87 @@ fn is_final(count: usize, close: bool) -> bool
 /// Answers the request that the bytes that are held begin with, and passes over it. The reply says whether the connection ends.
 fn serve_request<R: Threads + Wait + Sync, L: Link, P, V: Versions<P>>(
     rt: &R,
-    alloc: Global,
     link: &mut L,
     versions: &mut V,
     press: &P,
-    pin: &mut Pin<Version>,
-    kept: &mut KeptTexts,
-    log: &mut Log,
-    room: &mut Room,
-    request: NextRequest,
-    ends: bool,
+    talk: &mut Talk,
+    fittings: &mut Fittings,
+    due: Due,
 ) -> Result<(), Failed>
-    requires pin { IsPin (V.seen versions.old).history pin.old }
-    requires log { length log.old.numbers < MAX_REQUESTS }
-    requires sizes { request.head + request.body ≤ length room.old }
-    requires request { BeginsWith room.old request }
-    requires texts { AreKept (V.seen versions.old).history kept.old }
-    ensures exchange { Exchange (V.seen versions.old) (V.seen versions.new) pin.old pin.new room.old room.new log.old log.new
-        (L.told link.old) (L.told link.new) false request.close ends result }
+    requires pin { IsPin (V.seen versions.old).history talk.old.pin }
+    requires log { length talk.old.log.numbers < MAX_REQUESTS }
+    requires sizes { due.request.head + due.request.body ≤ length fittings.old.room }
+    requires request { BeginsWith fittings.old.room due.request }
+    requires texts { AreKept (V.seen versions.old).history fittings.old.kept }
+    ensures exchange { Exchange (V.seen versions.old) (V.seen versions.new) talk.old.pin talk.new.pin fittings.old.room fittings.new.room
+        talk.old.log talk.new.log (L.told link.old) (L.told link.new) false due.request.close due.ends result }
     ensures put_faults { CountsPut result (L.put_faults link.old) (L.put_faults link.new) }
     ensures taken { L.taken link.new ≡ L.taken link.old }
     ensures take_faults { L.take_faults link.new ≡ L.take_faults link.old }
     ensures end { L.ended link.new ≡ L.ended link.old }
-    ensures texts { AreKept (V.seen versions.new).history kept.new }
+    ensures texts { AreKept (V.seen versions.new).history fittings.new.kept }
 {
-    let NextRequest {
-        head,
-        body,
-        asked,
-        ..
-    } = request;
-    let bytes = body_of(room.bytes(), head, body);
-    let turned = answer(rt, alloc, versions, press, pin, kept, asked, bytes, ends);
-    room.pass(head + body);
-    respond(link, log, pin.number, turned, ends)
+    let turned = answer(rt, versions, press, &mut talk.pin, fittings, due);
+    fittings.room.pass(due.request.head);
+    fittings.room.pass(due.request.body);
+    respond(link, &mut talk.log, talk.pin.number, turned, due.ends)
 }
 
 /// Answers the head at fault that the bytes that are held begin with.
 fn serve_fault<L: Link>(
     alloc: Global,
     link: &mut L,
-    pin: &Pin<Version>,
-    log: &mut Log,
+    talk: &mut Talk,
     status: u16,
 ) -> Result<(), Failed>
-    requires log { length log.old.numbers < MAX_REQUESTS }
-    ensures exchange { (seen : Seen) (held : List ℕ) → IsPin seen.history pin.now → BeginsAtFault held status
-        → Exchange seen seen pin.now pin.now held held log.old log.new (L.told link.old) (L.told link.new) true true true result }
+    requires log { length talk.old.log.numbers < MAX_REQUESTS }
+    ensures exchange { (seen : Seen) (held : List ℕ) → IsPin seen.history talk.old.pin → BeginsAtFault held status
+        → Exchange seen seen talk.old.pin talk.new.pin held held talk.old.log talk.new.log (L.told link.old) (L.told link.new) true true true result }
     ensures put_faults { CountsPut result (L.put_faults link.old) (L.put_faults link.new) }
     ensures taken { L.taken link.new ≡ L.taken link.old }
     ensures take_faults { L.take_faults link.new ≡ L.take_faults link.old }
     ensures end { L.ended link.new ≡ L.ended link.old }
 {
-    let turned = refuse_head(alloc, pin, status);
-    respond(link, log, pin.number, turned, true)
+    let turned = refuse_head(alloc, &talk.pin, status);
+    respond(link, &mut talk.log, talk.pin.number, turned, true)
 }
 
 /// Serves the requests of a connection, each answered from the version that is pinned then, until it ends, and tells how it ended.
 pub(crate) fn serve<R: Threads + Wait + Sync, L: Link, P, V: Versions<P>>(
     rt: &R,
-    alloc: Global,
     link: &mut L,
     versions: &mut V,
     press: &P,
-    pin: &mut Pin<Version>,
-    routes: &Routes,
-    kept: &mut KeptTexts,
-    log: &mut Log,
-    room: &mut Room,
+    talk: &mut Talk,
+    fittings: &mut Fittings,
 ) -> EndKind
-    requires pin { IsPin (V.seen versions.old).history pin.old }
-    requires numbers { log.old.numbers ≡ [] }
-    requires rows { log.old.rows ≡ [] }
-    requires room { room.old ≡ [] }
-    requires texts { AreKept (V.seen versions.old).history kept.old }
+    requires pin { IsPin (V.seen versions.old).history talk.old.pin }
+    requires numbers { talk.old.log.numbers ≡ [] }
+    requires rows { talk.old.log.rows ≡ [] }
+    requires room { fittings.old.room ≡ [] }
+    requires texts { AreKept (V.seen versions.old).history fittings.old.kept }
     requires open { L.ended link.old ≡ false }
     ensures conversation { Conversation (V.seen versions.old) (V.seen versions.new) (L.taken link.old) (L.taken link.new)
         (L.told link.old) (L.told link.new) (L.ended link.new)
-        (record { how = result; first = pin.old.number; last = pin.new.number; numbers = log.new.numbers; rows = log.new.rows }) }
+        (record { how = result; first = talk.old.pin.number; last = talk.new.pin.number; numbers = talk.new.log.numbers; rows = talk.new.log.rows }) }
     ensures read_fault { result ≡ kind.ReadFault → Rose (L.take_faults link.old) (L.take_faults link.new) }
     ensures write_fault { result ≡ kind.WriteFault → Rose (L.put_faults link.old) (L.put_faults link.new) }
-    ensures texts { AreKept (V.seen versions.new).history kept.new }
+    ensures texts { AreKept (V.seen versions.new).history fittings.new.kept }
 {
     for count in 0..MAX_REQUESTS {
-        match next_item(link, routes, room) {
-            Arrival::End => return ended(room),
+        match next_item(link, &fittings.routes, &mut fittings.room) {
+            Arrival::End => return ended(&fittings.room),
             Arrival::Failed => return EndKind::ReadFault,
             Arrival::Fault { status } => {
-                return match serve_fault(alloc, link, pin, log, status) {
+                return match serve_fault(fittings.alloc, link, talk, status) {
                     Ok(()) => EndKind::BadHead,
                     Err(_) => EndKind::WriteFault,
                 };
             }
             Arrival::Request(request) => {
                 let ends = is_final(count + 1, request.close);
-                let Ok(()) = serve_request(
-                    rt, alloc, link, versions, press, pin, kept, log, room, request, ends,
-                ) else {
+                let due = Due { request, ends };
+                let Ok(()) = serve_request(rt, link, versions, press, talk, fittings, due) else {
                     return EndKind::WriteFault;
                 };
                 if ends {

@@ -1,6 +1,6 @@
 //! What becomes of a request, and the reply to it.
 
-ghost use Rattle.std.specs.Prelude.{◌≡◌, true, ◌<◌, ◌+◌, ℕ, List, Ok, Err, IfOk, OnErr};
+ghost use Rattle.std.specs.Prelude.{◌≡◌, true, ◌<◌, ◌≤◌, ◌+◌, ℕ, List, length, take, drop, Ok, Err, IfOk, OnErr};
 ghost use Rattle.http_face.specs.declared.request.Route.TheVariants.{Pin as PinRoute, PinSeen as PinSeenRoute};
 ghost use Rattle.session.specs.Items.{Route as RouteAsked, FaultyHead};
 ghost use Rattle.tgap_model.specs.Base.{BaseMap};
@@ -10,9 +10,11 @@ ghost use Rattle.session.specs.declared.row.Row.TheVariants.{Read as RowRead};
 ghost use Rattle.session.specs.Turns.{IsTurned, CountsPublished, CountsTold, IsSought, Reads};
 
 use crate::answer::{fault_answer, numbered_line, plain, sent};
+use crate::coming::Due;
+use crate::desk::Fittings;
 use crate::edit::edit;
 use crate::kept_texts::KeptTexts;
-use crate::read::pinned_answer;
+use crate::read::pinned_reply;
 use crate::row::Row;
 use crate::sending::Sending;
 use crate::versions::Versions;
@@ -145,8 +147,7 @@ pub(crate) fn read(
     ensures row { IfOk result (λ t. t.row ≡ RowRead) }
     ensures texts { (history : List BaseMap) → IsPin history pin.now → AreKept history kept.old → AreKept history kept.new }
 {
-    let answer = pinned_answer(alloc, pin, kept, asked)?;
-    let reply = sent(alloc, answer, pin.number, close)?;
+    let reply = pinned_reply(alloc, pin, kept, asked, close)?;
     Ok(Turned {
         number: pin.number,
         row: Row::Read,
@@ -168,33 +169,45 @@ pub(crate) fn refuse_head(alloc: Global, pin: &Pin<Version>, status: u16) -> Res
     })
 }
 
-/// Answers a request, by what its head asks for and the bytes of its body.
+/// The bytes of a body of this size, behind a head of that size.
+fn body_of(held: &[u8], head: usize, body: usize) -> &[u8]
+    requires { head + body ≤ length held.now }
+    ensures { result.now ≡ take body (drop head held.now) }
+{
+    &held[head..head + body]
+}
+
+/// Answers the request that the bytes that are held begin with. They stay.
 pub(crate) fn answer<R: Threads + Wait + Sync, P, V: Versions<P>>(
     rt: &R,
-    alloc: Global,
     versions: &mut V,
     press: &P,
     pin: &mut Pin<Version>,
-    kept: &mut KeptTexts,
-    asked: Route,
-    body: &[u8],
-    close: bool,
+    fittings: &mut Fittings,
+    due: Due,
 ) -> Result<Turned, Memory>
     requires pin { IsPin (V.seen versions.old).history pin.old }
-    requires texts { AreKept (V.seen versions.old).history kept.old }
-    ensures turned { IfOk result
-        (IsTurned (V.seen versions.old) (V.seen versions.new) pin.old.number pin.new.number (RouteAsked asked body.now) close) }
+    requires sizes { due.request.head + due.request.body ≤ length fittings.old.room }
+    requires texts { AreKept (V.seen versions.old).history fittings.old.kept }
+    ensures turned { IfOk result (IsTurned (V.seen versions.old) (V.seen versions.new) pin.old.number pin.new.number
+        (RouteAsked due.request.asked (take due.request.body (drop due.request.head fittings.old.room))) due.ends) }
     ensures pin { IsPin (V.seen versions.new).history pin.new }
     ensures kept { OnErr result (pin.new ≡ pin.old) }
     ensures continues { Continues (V.seen versions.old) (V.seen versions.new) }
     ensures published { CountsPublished (V.seen versions.old) (V.seen versions.new) result }
     ensures told { CountsTold (V.seen versions.old) (V.seen versions.new) result }
-    ensures texts { AreKept (V.seen versions.new).history kept.new }
+    ensures texts { AreKept (V.seen versions.new).history fittings.new.kept }
+    ensures room { fittings.new.room ≡ fittings.old.room }
 {
-    match asked {
-        Route::Pin => pin_newest(alloc, versions, pin, close),
-        Route::PinSeen(seen) => pin_seen(rt, alloc, versions, press, pin, seen, close),
-        Route::Edit => edit(rt, alloc, versions, press, pin, body, close),
-        reading => read(alloc, pin, kept, reading, close),
+    let Due { request, ends } = due;
+    let alloc = fittings.alloc;
+    match request.asked {
+        Route::Pin => pin_newest(alloc, versions, pin, ends),
+        Route::PinSeen(seen) => pin_seen(rt, alloc, versions, press, pin, seen, ends),
+        Route::Edit => {
+            let batch = body_of(fittings.room.bytes(), request.head, request.body);
+            edit(rt, alloc, versions, press, pin, batch, ends)
+        }
+        reading => read(alloc, pin, &mut fittings.kept, reading, ends),
     }
 }

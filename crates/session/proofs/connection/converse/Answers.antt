@@ -8,12 +8,12 @@ use Rattle.session.proofs.connection.converse.Goals as goal
 pub serve-how-requires-clause-texts : goal.serve-how-requires-clause-texts
 serve-how-requires-clause-texts g c κs within =
     let S = g.V.Versions.seen in
-    are_kept_longer (S c.args.versions.now) (S c.pin.new.self) c.args.kept.now c.pin.ensures.continues c.requires.texts
+    are_kept_longer (S c.args.versions.now) (S c.pin.new.self) c.args.fittings.now.kept c.pin.ensures.continues c.requires.texts
 
 pub returns-in_default-clause-texts : goal.returns-in_default-clause-texts
 returns-in_default-clause-texts g c =
     let S = g.V.Versions.seen in
-    are_kept_longer (S c.args.versions.now) (S c.pin.new.self) c.args.kept.now c.pin.ensures.continues c.requires.texts
+    are_kept_longer (S c.args.versions.now) (S c.pin.new.self) c.args.fittings.now.kept c.pin.ensures.continues c.requires.texts
 
 pub returns-clause-connection : goal.returns-clause-connection
 returns-clause-connection g c =
@@ -22,9 +22,9 @@ returns-clause-connection g c =
     let told = g.L.Link.told in
     let P : List ℕ → List ℕ → Type 0 = λ numbers rows. Conversation (S c.pin.new.self) (S c.serve-how.new.versions) (taken c.args.link.now) (taken c.serve-how.new.link)
     (told c.args.link.now) (told c.serve-how.new.link) (g.L.Link.ended c.serve-how.new.link)
-    (record { how = c.serve-how.result; first = c.in-Ok.pin.number; last = c.serve-how.new.pin.number; numbers = numbers; rows = rows }) in
+    (record { how = c.serve-how.result; first = c.in-Ok.pin.number; last = c.serve-how.new.talk.pin.number; numbers = numbers; rows = rows }) in
     served_from (S c.args.versions.now) (S c.pin.new.self) (S c.serve-how.new.versions) (taken c.args.link.now) (taken c.serve-how.new.link)
     (told c.args.link.now) (told c.serve-how.new.link) (g.L.Link.ended c.serve-how.new.link) _
     c.pin.ensures.continues c.pin.ensures.published c.in-Ok.ensures.newest
     (subst (λ rows. P c.into_lists-numbers.result.0 rows) (sym c.into_lists-numbers.ensures.rows)
-    (subst (λ numbers. P numbers c.serve-how.new.log.rows) (sym c.into_lists-numbers.ensures.numbers) c.serve-how.ensures.conversation))
+    (subst (λ numbers. P numbers c.serve-how.new.talk.log.rows) (sym c.into_lists-numbers.ensures.numbers) c.serve-how.ensures.conversation))

@@ -17,7 +17,7 @@ returns-in-Ok-clause-turned g c =
     let S = g.V.Versions.seen in
     if_ok c.publish_built.result _ _
     (λ t is made. turned_later (S c.args.versions.now) (S c.ready.new.self) (S c.publish_built.new.versions) c.args.pin.now.number
-    c.publish_built.new.pin.number (RouteAsked EditRoute c.args.batch.now) c.args.close t c.in-Ok.ensures.continues (is made))
+    c.publish_built.new.pin.number (RouteAsked EditRoute c.args.batch.now) c.args.revision.close t c.in-Ok.ensures.continues (is made))
     c.publish_built.ensures.turned
 
 pub returns-in-Ok-clause-continues : goal.returns-in-Ok-clause-continues
@@ -42,7 +42,7 @@ pub returns-in-Err-clause-turned : goal.returns-in-Err-clause-turned
 returns-in-Err-clause-turned g c =
     let S = g.V.Versions.seen in
     if_ok c.refuse_commit.result _ _
-    (λ t is made. refused_commit (S c.args.versions.now) (S c.ready.new.self) c.args.pin.now c.args.checked c.args.batch.now c.args.close c.in-Err.fail t
+    (λ t is made. refused_commit (S c.args.versions.now) (S c.ready.new.self) c.args.pin.now c.args.revision.map c.args.batch.now c.args.revision.close c.in-Err.fail t
     c.requires.pin c.in-Err.ensures.continues made c.requires.sound c.in-Err.ensures.stale c.in-Err.ensures.full is)
     c.refuse_commit.ensures
 

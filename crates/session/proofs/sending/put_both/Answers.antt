@@ -4,8 +4,8 @@ use Rattle.session.proofs.sending.put_both.Goals as goal
 
 pub returns-in-Ok-clause-bytes : goal.returns-in-Ok-clause-bytes
 returns-in-Ok-clause-bytes g c =
-    both_put (g.L.Link.told c.args.link.now) (g.L.Link.told c.put.new.self) (g.L.Link.told c.put_some.new.link) c.args.first.now c.args.rest.now
-    c.put_some.result c.in-Ok.ensures.bytes c.put_some.ensures.bytes
+    both_put (g.L.Link.told c.args.link.now) (g.L.Link.told c.put.new.self) (g.L.Link.told c.put-in-Ok.new.self) c.args.first.now c.args.rest.now
+    c.put-in-Ok.result c.in-Ok.ensures.bytes c.put-in-Ok.ensures.bytes
 
 pub returns-in-Err-clause-bytes : goal.returns-in-Err-clause-bytes
 returns-in-Err-clause-bytes g c =

@@ -11,7 +11,7 @@ use Rattle.session.proofs.serve.serve.Goals as goal
 
 pub loop-count-init : goal.loop-count-init
 loop-count-init g c = record {
-  progress = begun (g.V.Versions.seen c.args.versions.now) (g.L.Link.taken c.args.link.now) (g.L.Link.told c.args.link.now) c.args.pin.now c.args.room.now c.args.log.now
+  progress = begun (g.V.Versions.seen c.args.versions.now) (g.L.Link.taken c.args.link.now) (g.L.Link.told c.args.link.now) c.args.talk.now.pin c.args.fittings.now.room c.args.talk.now.log
       c.requires.pin c.requires.room c.requires.numbers c.requires.rows;
   unended = c.requires.«open»;
   take_faults = refl;
@@ -24,18 +24,18 @@ serve_request-requires-clause-request g c κs within = c.in-Request.ensures.exac
 
 pub returns-in-End-clause-conversation : goal.returns-in-End-clause-conversation
 returns-in-End-clause-conversation g c =
-    ends_open c.args.pin.now.number c.loop-count.count (g.V.Versions.seen c.args.versions.now) (g.V.Versions.seen c.loop-count.versions)
+    ends_open c.args.talk.now.pin.number c.loop-count.count (g.V.Versions.seen c.args.versions.now) (g.V.Versions.seen c.loop-count.versions)
     (g.L.Link.taken c.args.link.now) (g.L.Link.taken c.loop-count.link) (g.L.Link.taken c.next_item.new.link)
     (g.L.Link.told c.args.link.now) (g.L.Link.told c.loop-count.link) (g.L.Link.told c.next_item.new.link)
-    c.loop-count.pin c.loop-count.room c.next_item.new.room c.loop-count.log c.loop-count.invariant.progress c.in-End.ensures.bytes c.in-End.ensures.told
+    c.loop-count.talk.pin c.loop-count.fittings.room c.next_item.new.room c.loop-count.talk.log c.loop-count.invariant.progress c.in-End.ensures.bytes c.in-End.ensures.told
     _ _ c.loop-count-test.true c.in-End.ensures.exact c.in-End.ensures.end c.ended.ensures
 
 pub returns-in-Failed-clause-conversation : goal.returns-in-Failed-clause-conversation
 returns-in-Failed-clause-conversation g c =
-    fails_open c.args.pin.now.number c.loop-count.count (g.V.Versions.seen c.args.versions.now) (g.V.Versions.seen c.loop-count.versions)
+    fails_open c.args.talk.now.pin.number c.loop-count.count (g.V.Versions.seen c.args.versions.now) (g.V.Versions.seen c.loop-count.versions)
     (g.L.Link.taken c.args.link.now) (g.L.Link.taken c.loop-count.link) (g.L.Link.taken c.next_item.new.link)
     (g.L.Link.told c.args.link.now) (g.L.Link.told c.loop-count.link) (g.L.Link.told c.next_item.new.link)
-    c.loop-count.pin c.loop-count.room c.next_item.new.room c.loop-count.log c.loop-count.invariant.progress c.in-Failed.ensures.bytes c.in-Failed.ensures.told
+    c.loop-count.talk.pin c.loop-count.fittings.room c.next_item.new.room c.loop-count.talk.log c.loop-count.invariant.progress c.in-Failed.ensures.bytes c.in-Failed.ensures.told
     _ ReadFault c.loop-count-test.true c.in-Failed.ensures.exact c.in-Failed.ensures.end
 
 pub returns-in-Ok-clause-conversation : goal.returns-in-Ok-clause-conversation
@@ -43,16 +43,16 @@ returns-in-Ok-clause-conversation g c =
     let S = g.V.Versions.seen in
     let taken = g.L.Link.taken in
     let told = g.L.Link.told in
-    let noted = c.loop-count.log in
-    let R : Option (List ℕ) → Type 0 = λ o. Received (taken c.loop-count.link) o c.loop-count.room c.next_item.new.room in
+    let noted = c.loop-count.talk.log in
+    let R : Option (List ℕ) → Type 0 = λ o. Received (taken c.loop-count.link) o c.loop-count.fittings.room c.next_item.new.room in
     let more = subst R (sym c.in-Ok.ensures.taken) c.in-Fault.ensures.bytes in
-    let P : Option (List ℕ) → Type 0 = λ o. Progress c.args.pin.now.number (S c.args.versions.now) (S c.loop-count.versions) (taken c.args.link.now) (taken c.loop-count.link)
-    (told c.args.link.now) o c.loop-count.pin c.loop-count.room noted c.loop-count.count in
+    let P : Option (List ℕ) → Type 0 = λ o. Progress c.args.talk.now.pin.number (S c.args.versions.now) (S c.loop-count.versions) (taken c.args.link.now) (taken c.loop-count.link)
+    (told c.args.link.now) o c.loop-count.talk.pin c.loop-count.fittings.room noted c.loop-count.count in
     let p = subst P (sym c.in-Fault.ensures.told) c.loop-count.invariant.progress in
     let e = c.in-Ok.ensures.exchange (S c.loop-count.versions) c.next_item.new.room p.holds c.in-Fault.ensures.exact in
-    last_conversation c.args.pin.now.number (S c.args.versions.now) (S c.loop-count.versions) (S c.loop-count.versions)
+    last_conversation c.args.talk.now.pin.number (S c.args.versions.now) (S c.loop-count.versions) (S c.loop-count.versions)
     (taken c.args.link.now) (taken c.loop-count.link) (taken c.serve_fault.new.link) (told c.args.link.now) (told c.next_item.new.link) (told c.serve_fault.new.link)
-    c.loop-count.pin c.loop-count.pin c.loop-count.room c.next_item.new.room c.next_item.new.room noted c.serve_fault.new.log c.loop-count.count true true true _
+    c.loop-count.talk.pin c.serve_fault.new.talk.pin c.loop-count.fittings.room c.next_item.new.room c.next_item.new.room noted c.serve_fault.new.talk.log c.loop-count.count true true true _
     p more e (ap (λ b. b || (suc c.loop-count.count == MAX_REQUESTS)) e.closing_is) c.loop-count-test.true e.turned.reply e.put_is BadHead _
     (at_fault (items_of p.turns) e.item _ (p.written ++ e.turned.reply) _ (sym e.faulty_is) (sym e.closing_is))
 
@@ -61,17 +61,17 @@ returns-in-Err-clause-conversation g c =
     let S = g.V.Versions.seen in
     let taken = g.L.Link.taken in
     let told = g.L.Link.told in
-    let noted = c.loop-count.log in
-    let R : Option (List ℕ) → Type 0 = λ o. Received (taken c.loop-count.link) o c.loop-count.room c.next_item.new.room in
+    let noted = c.loop-count.talk.log in
+    let R : Option (List ℕ) → Type 0 = λ o. Received (taken c.loop-count.link) o c.loop-count.fittings.room c.next_item.new.room in
     let more = subst R (sym c.in-Err.ensures.taken) c.in-Fault.ensures.bytes in
-    let P : Option (List ℕ) → Type 0 = λ o. Progress c.args.pin.now.number (S c.args.versions.now) (S c.loop-count.versions) (taken c.args.link.now) (taken c.loop-count.link)
-    (told c.args.link.now) o c.loop-count.pin c.loop-count.room noted c.loop-count.count in
+    let P : Option (List ℕ) → Type 0 = λ o. Progress c.args.talk.now.pin.number (S c.args.versions.now) (S c.loop-count.versions) (taken c.args.link.now) (taken c.loop-count.link)
+    (told c.args.link.now) o c.loop-count.talk.pin c.loop-count.fittings.room noted c.loop-count.count in
     let p = subst P (sym c.in-Fault.ensures.told) c.loop-count.invariant.progress in
     let e = c.in-Err.ensures.exchange (S c.loop-count.versions) c.next_item.new.room p.holds c.in-Fault.ensures.exact in
     let front = front_of (told c.next_item.new.link) (told c.serve_fault.new.link) e.turned.reply e.put_is in
-    last_conversation c.args.pin.now.number (S c.args.versions.now) (S c.loop-count.versions) (S c.loop-count.versions)
+    last_conversation c.args.talk.now.pin.number (S c.args.versions.now) (S c.loop-count.versions) (S c.loop-count.versions)
     (taken c.args.link.now) (taken c.loop-count.link) (taken c.serve_fault.new.link) (told c.args.link.now) (told c.next_item.new.link) (told c.serve_fault.new.link)
-    c.loop-count.pin c.loop-count.pin c.loop-count.room c.next_item.new.room c.next_item.new.room noted c.serve_fault.new.log c.loop-count.count true true true _
+    c.loop-count.talk.pin c.serve_fault.new.talk.pin c.loop-count.fittings.room c.next_item.new.room c.next_item.new.room noted c.serve_fault.new.talk.log c.loop-count.count true true true _
     p more e (ap (λ b. b || (suc c.loop-count.count == MAX_REQUESTS)) e.closing_is) c.loop-count-test.true (take front.0 e.turned.reply) front.1 WriteFault _
     (front_more p.written e.turned.reply front.0)
 
@@ -80,17 +80,17 @@ returns-in_default-clause-conversation g c =
     let S = g.V.Versions.seen in
     let taken = g.L.Link.taken in
     let told = g.L.Link.told in
-    let noted = c.loop-count.log in
-    let R : Option (List ℕ) → Type 0 = λ o. Received (taken c.loop-count.link) o c.loop-count.room c.next_item.new.room in
+    let noted = c.loop-count.talk.log in
+    let R : Option (List ℕ) → Type 0 = λ o. Received (taken c.loop-count.link) o c.loop-count.fittings.room c.next_item.new.room in
     let more = subst R (sym c.serve_request.ensures.taken) c.in-Request.ensures.bytes in
-    let P : Option (List ℕ) → Type 0 = λ o. Progress c.args.pin.now.number (S c.args.versions.now) (S c.loop-count.versions) (taken c.args.link.now) (taken c.loop-count.link)
-    (told c.args.link.now) o c.loop-count.pin c.loop-count.room noted c.loop-count.count in
+    let P : Option (List ℕ) → Type 0 = λ o. Progress c.args.talk.now.pin.number (S c.args.versions.now) (S c.loop-count.versions) (taken c.args.link.now) (taken c.loop-count.link)
+    (told c.args.link.now) o c.loop-count.talk.pin c.loop-count.fittings.room noted c.loop-count.count in
     let p = subst P (sym c.in-Request.ensures.told) c.loop-count.invariant.progress in
     let e = c.serve_request.ensures.exchange in
     let front = front_any (told c.next_item.new.link) (told c.serve_request.new.link) e.turned.reply c.serve_request.result e.put_is in
-    last_conversation c.args.pin.now.number (S c.args.versions.now) (S c.loop-count.versions) (S c.serve_request.new.versions)
+    last_conversation c.args.talk.now.pin.number (S c.args.versions.now) (S c.loop-count.versions) (S c.serve_request.new.versions)
     (taken c.args.link.now) (taken c.loop-count.link) (taken c.serve_request.new.link) (told c.args.link.now) (told c.next_item.new.link) (told c.serve_request.new.link)
-    c.loop-count.pin c.serve_request.new.pin c.loop-count.room c.next_item.new.room c.serve_request.new.room noted c.serve_request.new.log c.loop-count.count
+    c.loop-count.talk.pin c.serve_request.new.talk.pin c.loop-count.fittings.room c.next_item.new.room c.serve_request.new.fittings.room noted c.serve_request.new.talk.log c.loop-count.count
     false c.in-Request.request.close c.is_final-ends.result c.serve_request.result p more e
     (c.is_final-ends.ensures ∙ ap (λ n. c.in-Request.request.close || (n == MAX_REQUESTS)) (add-one c.loop-count.count) ∙ ap (λ b. b || (suc c.loop-count.count == MAX_REQUESTS)) e.closing_is)
     c.loop-count-test.true (take front.0 e.turned.reply) front.1 WriteFault _ (front_more p.written e.turned.reply front.0)
@@ -100,16 +100,16 @@ returns-then-count-eq-MAX_REQUESTS-clause-conversation g c =
     let S = g.V.Versions.seen in
     let taken = g.L.Link.taken in
     let told = g.L.Link.told in
-    let noted = c.loop-count.log in
-    let R : Option (List ℕ) → Type 0 = λ o. Received (taken c.loop-count.link) o c.loop-count.room c.next_item.new.room in
+    let noted = c.loop-count.talk.log in
+    let R : Option (List ℕ) → Type 0 = λ o. Received (taken c.loop-count.link) o c.loop-count.fittings.room c.next_item.new.room in
     let more = subst R (sym c.in-Ok-serve_request.ensures.taken) c.in-Request.ensures.bytes in
-    let P : Option (List ℕ) → Type 0 = λ o. Progress c.args.pin.now.number (S c.args.versions.now) (S c.loop-count.versions) (taken c.args.link.now) (taken c.loop-count.link)
-    (told c.args.link.now) o c.loop-count.pin c.loop-count.room noted c.loop-count.count in
+    let P : Option (List ℕ) → Type 0 = λ o. Progress c.args.talk.now.pin.number (S c.args.versions.now) (S c.loop-count.versions) (taken c.args.link.now) (taken c.loop-count.link)
+    (told c.args.link.now) o c.loop-count.talk.pin c.loop-count.fittings.room noted c.loop-count.count in
     let p = subst P (sym c.in-Request.ensures.told) c.loop-count.invariant.progress in
     let e = c.in-Ok-serve_request.ensures.exchange in
-    last_conversation c.args.pin.now.number (S c.args.versions.now) (S c.loop-count.versions) (S c.serve_request.new.versions)
+    last_conversation c.args.talk.now.pin.number (S c.args.versions.now) (S c.loop-count.versions) (S c.serve_request.new.versions)
     (taken c.args.link.now) (taken c.loop-count.link) (taken c.serve_request.new.link) (told c.args.link.now) (told c.next_item.new.link) (told c.serve_request.new.link)
-    c.loop-count.pin c.serve_request.new.pin c.loop-count.room c.next_item.new.room c.serve_request.new.room noted c.serve_request.new.log c.loop-count.count
+    c.loop-count.talk.pin c.serve_request.new.talk.pin c.loop-count.fittings.room c.next_item.new.room c.serve_request.new.fittings.room noted c.serve_request.new.talk.log c.loop-count.count
     false c.in-Request.request.close c.is_final-ends.result _ p more e
     (c.is_final-ends.ensures ∙ ap (λ n. c.in-Request.request.close || (n == MAX_REQUESTS)) (add-one c.loop-count.count) ∙ ap (λ b. b || (suc c.loop-count.count == MAX_REQUESTS)) e.closing_is)
     c.loop-count-test.true e.turned.reply e.put_is Spent _
@@ -120,16 +120,16 @@ returns-else-count-eq-MAX_REQUESTS-clause-conversation g c =
     let S = g.V.Versions.seen in
     let taken = g.L.Link.taken in
     let told = g.L.Link.told in
-    let noted = c.loop-count.log in
-    let R : Option (List ℕ) → Type 0 = λ o. Received (taken c.loop-count.link) o c.loop-count.room c.next_item.new.room in
+    let noted = c.loop-count.talk.log in
+    let R : Option (List ℕ) → Type 0 = λ o. Received (taken c.loop-count.link) o c.loop-count.fittings.room c.next_item.new.room in
     let more = subst R (sym c.in-Ok-serve_request.ensures.taken) c.in-Request.ensures.bytes in
-    let P : Option (List ℕ) → Type 0 = λ o. Progress c.args.pin.now.number (S c.args.versions.now) (S c.loop-count.versions) (taken c.args.link.now) (taken c.loop-count.link)
-    (told c.args.link.now) o c.loop-count.pin c.loop-count.room noted c.loop-count.count in
+    let P : Option (List ℕ) → Type 0 = λ o. Progress c.args.talk.now.pin.number (S c.args.versions.now) (S c.loop-count.versions) (taken c.args.link.now) (taken c.loop-count.link)
+    (told c.args.link.now) o c.loop-count.talk.pin c.loop-count.fittings.room noted c.loop-count.count in
     let p = subst P (sym c.in-Request.ensures.told) c.loop-count.invariant.progress in
     let e = c.in-Ok-serve_request.ensures.exchange in
-    last_conversation c.args.pin.now.number (S c.args.versions.now) (S c.loop-count.versions) (S c.serve_request.new.versions)
+    last_conversation c.args.talk.now.pin.number (S c.args.versions.now) (S c.loop-count.versions) (S c.serve_request.new.versions)
     (taken c.args.link.now) (taken c.loop-count.link) (taken c.serve_request.new.link) (told c.args.link.now) (told c.next_item.new.link) (told c.serve_request.new.link)
-    c.loop-count.pin c.serve_request.new.pin c.loop-count.room c.next_item.new.room c.serve_request.new.room noted c.serve_request.new.log c.loop-count.count
+    c.loop-count.talk.pin c.serve_request.new.talk.pin c.loop-count.fittings.room c.next_item.new.room c.serve_request.new.fittings.room noted c.serve_request.new.talk.log c.loop-count.count
     false c.in-Request.request.close c.is_final-ends.result _ p more e
     (c.is_final-ends.ensures ∙ ap (λ n. c.in-Request.request.close || (n == MAX_REQUESTS)) (add-one c.loop-count.count) ∙ ap (λ b. b || (suc c.loop-count.count == MAX_REQUESTS)) e.closing_is)
     c.loop-count-test.true e.turned.reply e.put_is Closed _
@@ -142,13 +142,13 @@ loop-count-preserved g c =
     let S = g.V.Versions.seen in
     let taken = g.L.Link.taken in
     let told = g.L.Link.told in
-    let R : Option (List ℕ) → Type 0 = λ o. Received (taken c.loop-count.link) o c.loop-count.room c.next_item.new.room in
+    let R : Option (List ℕ) → Type 0 = λ o. Received (taken c.loop-count.link) o c.loop-count.fittings.room c.next_item.new.room in
     let more = subst R (sym c.in-Ok-serve_request.ensures.taken) c.in-Request.ensures.bytes in
     record {
-      progress = goes_on c.args.pin.now.number (S c.args.versions.now) (S c.loop-count.versions) (S c.serve_request.new.versions)
+      progress = goes_on c.args.talk.now.pin.number (S c.args.versions.now) (S c.loop-count.versions) (S c.serve_request.new.versions)
           (taken c.args.link.now) (taken c.loop-count.link) (taken c.serve_request.new.link)
           (told c.args.link.now) (told c.loop-count.link) (told c.next_item.new.link) (told c.serve_request.new.link)
-          c.loop-count.pin c.serve_request.new.pin c.loop-count.room c.next_item.new.room c.serve_request.new.room c.loop-count.log c.serve_request.new.log
+          c.loop-count.talk.pin c.serve_request.new.talk.pin c.loop-count.fittings.room c.next_item.new.room c.serve_request.new.fittings.room c.loop-count.talk.log c.serve_request.new.talk.log
           c.loop-count.count c.in-Request.request.close c.is_final-ends.result _
           c.loop-count.invariant.progress more c.in-Request.ensures.told
           (c.in-Ok-serve_request.ensures.exchange) c.is_final-ends.ensures c.if-ends.false;
@@ -161,6 +161,6 @@ loop-count-preserved g c =
 pub returns-clause-conversation : goal.returns-clause-conversation
 returns-clause-conversation g c =
     let S = g.V.Versions.seen in
-    spent c.args.pin.now.number c.loop-count.count (S c.args.versions.now) (S c.loop-count.versions) (g.L.Link.taken c.args.link.now) (g.L.Link.taken c.loop-count.link)
-    (g.L.Link.told c.args.link.now) (g.L.Link.told c.loop-count.link) c.loop-count.pin c.loop-count.room c.loop-count.log (g.L.Link.ended c.loop-count.link)
+    spent c.args.talk.now.pin.number c.loop-count.count (S c.args.versions.now) (S c.loop-count.versions) (g.L.Link.taken c.args.link.now) (g.L.Link.taken c.loop-count.link)
+    (g.L.Link.told c.args.link.now) (g.L.Link.told c.loop-count.link) c.loop-count.talk.pin c.loop-count.fittings.room c.loop-count.talk.log (g.L.Link.ended c.loop-count.link)
     c.loop-count.invariant.progress (omega arith)

@@ -4,5 +4,5 @@ use Rattle.session.proofs.turn.read.Goals as goal
 
 pub returns-clause-turned : goal.returns-clause-turned
 returns-clause-turned c body seen p all =
-    read_turn seen c.args.pin.now c.args.asked body c.args.close c.in_ok-answer.answer _ p (c.in_ok-answer.ensures.exact seen.history p all)
-    c.in_ok-reply.ensures
+    let is = c.in_ok-reply.ensures.exact seen.history p all in
+    read_turn seen c.args.pin.now c.args.asked body c.args.close is.0 c.in_ok-reply.reply p is.1 is.2
