@@ -1,8 +1,8 @@
 -- The boxes that are sought for the keys of edges.
-use Rattle.std.proofs.Common.{◌≡◌, ◌≢◌, ◌⊎◌, inl, inr, ℕ, ◌+◌, ◌-◌, ◌<◌, ◌≤◌, ◌==◌, ◌||◌, not, Bool, true, false, List, [], ◌∷◌, ◌++◌, length, map, filter, set, get_or, All, AllPairs, Contains, IsPermutation, Option, Some, None, refl, sym, ap, ◌∙◌, subst, eq-eqb, true≢false, arith}
+use Rattle.std.proofs.Common.{◌≡◌, ◌≢◌, ◌⊎◌, inl, inr, ℕ, ◌+◌, ◌-◌, ◌<◌, ◌≤◌, ◌==◌, ◌||◌, not, Bool, true, false, List, [], ◌∷◌, ◌++◌, length, map, filter, get_or, All, AllPairs, Contains, IsPermutation, Option, Some, None, refl, sym, ap, ◌∙◌, subst, eq-eqb, true≢false, arith}
 use Rattle.std.specs.List.{list_any}
-use Rattle.std.proofs.lemmas.Bool.{cases_lt, or_parts, eqb-true}
-use Rattle.std.proofs.lemmas.List.{get_or_append_left, get_or_push, get_or-set_same, get_or-set_other, length-map, get_or-map}
+use Rattle.std.proofs.lemmas.Bool.{cases_lt, or_parts}
+use Rattle.std.proofs.lemmas.List.{get_or_append_left, get_or_push, length-map, get_or-map}
 use Rattle.std.proofs.lemmas.List.Elements.{Contains-append_cases}
 use Rattle.std.proofs.lemmas.List.Folds.{list_any-append, list_any-from_Any}
 use Rattle.std.proofs.lemmas.List.Sorted.{All-permutation, Contains-permutation, IsPermutation-sym, length_permutation}
@@ -16,7 +16,7 @@ use Rattle.grid_index.specs.Live.{keys, without_keys, IsLiveEdge}
 use Rattle.grid_index.specs.Slots.{held, stays, entry_of, is_near, AreNear, IsIndexed}
 use Rattle.grid_index.specs.Keyed.{edge_in, edges_in, edges_at, AreAtKeys, IsExchange, area_at, AreFound, AreSet}
 use Rattle.grid_index.proofs.Living.{stay_count, stay_held_count, IsIndexed-changed}
-use Rattle.grid_index.proofs.KeyedPlaces.{edge_of, among_edges, at_key, among_keys, placed_all}
+use Rattle.grid_index.proofs.KeyedPlaces.{among_edges, at_key, among_keys, placed_all}
 
 -- ---- places one after the other
 
