@@ -1,0 +1,95 @@
+//! Four squares round one node, each 10 wide and 10 high.
+
+use base_check::check;
+use std::alloc::Global;
+use std::thread::Threads;
+use tgap_build::{Built, build};
+use tgap_model::{Base, BaseArc, Checked, List, Memory, Or, Point, Rules, Transform};
+
+/// An arc: its left face, its right face, and the coordinates of its points.
+pub type Row = (u32, u32, &'static [(i64, i64)]);
+
+pub const FOUR_SQUARES: [Row; 8] = [
+    (1, 0, &[(0, 10), (0, 0), (10, 0)]),
+    (2, 0, &[(10, 0), (20, 0), (20, 10)]),
+    (4, 0, &[(20, 10), (20, 20), (10, 20)]),
+    (3, 0, &[(10, 20), (0, 20), (0, 10)]),
+    (1, 2, &[(10, 0), (10, 10)]),
+    (2, 4, &[(20, 10), (10, 10)]),
+    (4, 3, &[(10, 20), (10, 10)]),
+    (3, 1, &[(0, 10), (10, 10)]),
+];
+
+/// The points with these coordinates.
+fn points_of(alloc: Global, coordinates: &[(i64, i64)]) -> Result<List<Point>, Memory> {
+    let mut points = List::new(alloc);
+    for (x, y) in coordinates {
+        points.push(Point { x: *x, y: *y })?;
+    }
+    Ok(points)
+}
+
+/// The arcs of these rows.
+fn arcs_of(alloc: Global, rows: &[Row]) -> Result<List<BaseArc>, Memory> {
+    let mut arcs = List::new(alloc);
+    for (left, right, coordinates) in rows {
+        arcs.push(BaseArc {
+            left: *left,
+            right: *right,
+            points: points_of(alloc, coordinates)?,
+        })?;
+    }
+    Ok(arcs)
+}
+
+/// The map with these arcs, whose faces are all of class 0.
+fn base_of(
+    alloc: Global,
+    ratio: u32,
+    classes: &[u32],
+    rows: &[Row],
+) -> Result<Option<Base>, Memory> {
+    let rules = Rules {
+        ratio,
+        weights: List::from(Vec::from_slice(alloc, &[1])?),
+        compat: List::from(Vec::from_slice(alloc, &[1])?),
+    };
+    let transform = Transform {
+        sx: 1,
+        sy: 1,
+        tx: 0,
+        ty: 0,
+    };
+    let classes = List::from(Vec::from_slice(alloc, classes)?);
+    Ok(Base::new(transform, rules, classes, arcs_of(alloc, rows)?))
+}
+
+/// The map, checked.
+fn checked_map<R: Threads + Sync>(
+    rt: &R,
+    alloc: Global,
+    base: Base,
+) -> Result<Option<Checked>, Memory> {
+    match check(rt, alloc, base) {
+        Ok(checked) => Ok(Some(checked)),
+        Err(Or::Fault(_)) => Ok(None),
+        Err(Or::Memory) => Err(Memory),
+    }
+}
+
+/// What is built of the map with these arcs.
+pub fn built_map<R: Threads + Sync>(
+    rt: &R,
+    alloc: Global,
+    ratio: u32,
+    classes: &[u32],
+    rows: &[Row],
+) -> Result<Option<Built>, Memory> {
+    let Some(base) = base_of(alloc, ratio, classes, rows)? else {
+        return Ok(None);
+    };
+    let Some(checked) = checked_map(rt, alloc, base)? else {
+        return Ok(None);
+    };
+    Ok(Some(build(rt, alloc, checked)?))
+}
