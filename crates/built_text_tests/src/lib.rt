@@ -1,5 +1,5 @@
-//! Tests of `built_text` over its public calls: the texts of slices and packets of four squares round one node, beside those of
-//! the slices and packets that are made first, and beside texts that are written by hand.
+//! Tests of `built_text` over its public calls: the texts of slices and packets of four squares round one node, beside texts that
+//! are written by hand.
 #![tactic(auto)]
 
 #[cfg(test)]
