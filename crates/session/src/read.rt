@@ -5,9 +5,7 @@ ghost use Rattle.std.specs.List.{Contains};
 ghost use Rattle.std.specs.Arc.{arc_value};
 ghost use Rattle.tgap_model.specs.Base.{BaseMap, count_points};
 ghost use Rattle.line_forms.specs.Texts.{line};
-ghost use Rattle.tgap_model.specs.History.{history_of};
 ghost use Rattle.tgap_model.specs.Slice.{slice, window_of};
-ghost use Rattle.slice_read.specs.declared.fail.ReadFail.TheVariants.{StepTooHigh};
 ghost use Rattle.tgap_model.specs.Merged.{merged};
 ghost use Rattle.tgap_model.specs.Records.{packet_of};
 ghost use Rattle.wire_text.specs.SliceTexts.{slice_text, window_text, packet_text};
@@ -24,18 +22,17 @@ use crate::answer::{Answer, line, plain, reply_of};
 use crate::kept_texts::{KEPT_BYTES, KeptTexts, ReplyKey};
 use crate::sending::Sending;
 use crate::topology::topology_answer;
+use built_text::{packet_text_at, slice_text_at};
 use http_face::{Reply, Route, reply_bytes};
 use map_version::Version;
 use plain_io::{put_count, put_field, put_size};
-use refine_packets::{PacketFail, packet};
-use slice_read::{ReadFail, slice_at, window_at};
+use refine_packets::PacketFail;
+use slice_read::{ReadFail, window_at};
 use std::alloc::Global;
-use std::marker::Brand;
-use std::sync::ledger::{Blank, Ledger};
 use tgap_build::Built;
-use tgap_model::{Memory, Slice, Steps, Text, Window};
+use tgap_model::{Memory, Text, Window};
 use version_store::Pin;
-use wire_text::{packet_text, slice_text, step_too_high_text, window_text};
+use wire_text::{step_too_high_text, window_text};
 
 /// Appends how many faces, arcs and points the base map of a version has.
 fn put_counts(alloc: Global, out: &mut Text, built: &Built) -> Result<(), Memory>
@@ -75,30 +72,13 @@ fn not_coarser_line(alloc: Global, from: u32, to: u32) -> Result<Text, Memory>
     Ok(text)
 }
 
-/// The slice after so many steps. Nobody counts the looks that it takes.
-pub(crate) fn slice_after<L: Ledger>(
-    alloc: Global,
-    built: &Built,
-    step: u32,
-    blank: Blank,
-) -> Result<Slice, ReadFail>
-    requires name { blank.name ≡ L.name }
-    requires parts { blank.parts ≡ L.parts }
-    requires some { 0 < blank.parts }
-    ensures exact { IfOk result (λ s. s ≡ slice built.now step) }
-    ensures high { (steps : ℕ) → (result ≡ Err (StepTooHigh steps)) ↔ ((length (history_of built.now) < step) × (steps ≡ length (history_of built.now))) }
-{
-    let mut looks = Steps::<L>::new(blank);
-    slice_at(alloc, built, step, &mut looks)
-}
-
 /// The answer for a slice.
 fn slice_answer(alloc: Global, built: &Built, step: u32) -> Result<Answer, Memory>
     ensures exact { IfOk result (λ a. a ≡ at_step built.now step (slice_text (slice built.now step))) }
     ensures sendable { IfOk result IsAnswer }
 {
-    match slice_after::<Brand>(alloc, built, step, Blank::new(1)) {
-        Ok(slice) => Ok(plain(200, slice_text(alloc, &slice)?)),
+    match slice_text_at(alloc, built, step) {
+        Ok(text) => Ok(plain(200, text)),
         Err(ReadFail::StepTooHigh { steps }) => {
             Ok(plain(400, step_too_high_text(alloc, steps)?))
         }
@@ -144,8 +124,8 @@ fn packet_answer(alloc: Global, built: &Built, from: u32, to: u32) -> Result<Ans
     ensures exact { IfOk result (λ a. a ≡ packet_answer built.now from to) }
     ensures sendable { IfOk result IsAnswer }
 {
-    match packet(alloc, built, from, to) {
-        Ok(packet) => Ok(plain(200, packet_text(alloc, &packet)?)),
+    match packet_text_at(alloc, built, from, to) {
+        Ok(text) => Ok(plain(200, text)),
         Err(PacketFail::NotCoarser) => Ok(plain(400, not_coarser_line(alloc, from, to)?)),
         Err(PacketFail::StepTooHigh { steps }) => {
             Ok(plain(400, step_too_high_text(alloc, steps)?))

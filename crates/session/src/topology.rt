@@ -1,25 +1,42 @@
 //! What is read from a version as a topology.
 
-ghost use Rattle.std.specs.Prelude.{◌≡◌, ◌≤◌, length, IfOk};
+ghost use Rattle.std.specs.Prelude.{◌≡◌, ◌↔◌, ◌<◌, ◌≤◌, ℕ, length, Err, IfOk};
 ghost use Rattle.line_forms.specs.Texts.{line};
 ghost use Rattle.plain_io.specs.Taking.{GivesWhole};
 ghost use Rattle.tgap_model.specs.History.{history_of};
 ghost use Rattle.tgap_model.specs.Slice.{slice};
+ghost use Rattle.slice_read.specs.declared.fail.ReadFail.TheVariants.{StepTooHigh};
 ghost use Rattle.slice_read.specs.Ends.{LeaveNodes, slice_ends};
 ghost use Rattle.topo_write.specs.Topology.{export};
 ghost use Rattle.session.specs.Answers.{IsAnswer, exported, flat_words, topology_answer};
 
 use crate::answer::{Answer, plain};
-use crate::read::slice_after;
 use plain_io::put_count;
-use slice_read::{EdgeEnds, ReadFail, ends_at};
+use slice_read::{EdgeEnds, ReadFail, ends_at, slice_at};
 use std::alloc::Global;
 use std::marker::Brand;
-use std::sync::ledger::Blank;
+use std::sync::ledger::{Blank, Ledger};
 use tgap_build::Built;
-use tgap_model::{List, Memory, Or, Slice, Text, Transform};
+use tgap_model::{List, Memory, Or, Slice, Steps, Text, Transform};
 use topo_write::{FlatRing, topo_of};
 use wire_text::step_too_high_text;
+
+/// The slice after so many steps. Nobody counts the looks that it takes.
+fn slice_after<L: Ledger>(
+    alloc: Global,
+    built: &Built,
+    step: u32,
+    blank: Blank,
+) -> Result<Slice, ReadFail>
+    requires name { blank.name ≡ L.name }
+    requires parts { blank.parts ≡ L.parts }
+    requires some { 0 < blank.parts }
+    ensures exact { IfOk result (λ s. s ≡ slice built.now step) }
+    ensures high { (steps : ℕ) → (result ≡ Err (StepTooHigh steps)) ↔ ((length (history_of built.now) < step) × (steps ≡ length (history_of built.now))) }
+{
+    let mut looks = Steps::<L>::new(blank);
+    slice_at(alloc, built, step, &mut looks)
+}
 
 /// The line of a face that is no polygon.
 fn flat_line(alloc: Global, flat: FlatRing) -> Result<Text, Memory>

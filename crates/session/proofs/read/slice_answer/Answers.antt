@@ -1,18 +1,17 @@
 -- A slice of a step that there is, and the word for one that there is not.
 use Rattle.std.proofs.Common.{Err, ap, sym, ◌∙◌}
-use Rattle.wire_text.specs.SliceTexts.{slice_text}
 use Rattle.line_forms.specs.Texts.{step_too_high_text}
 use Rattle.session.specs.Answers.{plain}
 use Rattle.session.proofs.Steps.{at_step_there, at_step_above, gave}
 use Rattle.session.proofs.read.slice_answer.Goals as goal
 
-pub returns-in_ok-slice_text-in-Ok-clause-exact : goal.returns-in_ok-slice_text-in-Ok-clause-exact
-returns-in_ok-slice_text-in-Ok-clause-exact c =
-    let there = gave c.slice_after.result c.in-Ok.slice _ _ c.in-Ok.is c.slice_after.ensures.high in
-    c.plain.ensures ∙ ap (plain 200) (c.in_ok-slice_text-in-Ok.ensures ∙ ap slice_text c.in-Ok.ensures.exact) ∙ sym (at_step_there _ _ _ there)
+pub returns-in-Ok-clause-exact : goal.returns-in-Ok-clause-exact
+returns-in-Ok-clause-exact c =
+    let there = gave c.slice_text_at.result c.in-Ok.text _ _ c.in-Ok.is c.slice_text_at.ensures.high in
+    c.plain.ensures ∙ ap (plain 200) c.in-Ok.ensures.exact ∙ sym (at_step_there _ _ _ there)
 
 pub returns-in_ok-step_too_high_text-in-Err-StepTooHigh-clause-exact : goal.returns-in_ok-step_too_high_text-in-Err-StepTooHigh-clause-exact
 returns-in_ok-step_too_high_text-in-Err-StepTooHigh-clause-exact c =
-    let above = (c.slice_after.ensures.high c.in-Err-StepTooHigh.steps).0 (c.in-Err-StepTooHigh.is ∙ ap Err c.in-Err-StepTooHigh.field-0-is) in
+    let above = (c.slice_text_at.ensures.high c.in-Err-StepTooHigh.steps).0 (c.in-Err-StepTooHigh.is ∙ ap Err c.in-Err-StepTooHigh.field-0-is) in
     c.plain-in-Err-StepTooHigh.ensures ∙ ap (plain 400) (c.in_ok-step_too_high_text-in-Err-StepTooHigh.ensures ∙ ap step_too_high_text above.1)
     ∙ sym (at_step_above _ _ _ above.0)
