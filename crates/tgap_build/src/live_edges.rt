@@ -1,15 +1,14 @@
 //! The edges of the last step, which are kept while the history is run.
 
-ghost use Rattle.std.specs.Prelude.{◌≡◌, ◌<◌, ◌≤◌, ℕ, ◌+◌, ◌-◌, ◌^◌, ◌==◌, ◌++◌, ◌∷◌, [], true, false, not, List as Sequence, Bool, map, filter, flat_map, sum_by, length, get_or, All, AllPairs, Contains, IfOk, OnOk, if◌then◌else◌};
+ghost use Rattle.std.specs.Prelude.{◌≡◌, ◌<◌, ◌≤◌, ℕ, ◌+◌, ◌-◌, ◌^◌, ◌==◌, ◌++◌, ◌∷◌, [], true, false, not, List as Sequence, map, filter, flat_map, sum_by, length, All, AllPairs, Contains, IfOk, OnOk, if◌then◌else◌};
 ghost use Rattle.std.specs.List.{list_any};
 ghost use Rattle.std.specs.List.Sorted.{IsNonDecreasing};
 ghost use Rattle.tgap_model.specs.declared.slice.Edge.{Edge as Line};
 ghost use Rattle.tgap_model.specs.Merged.{merged, step_number};
-ghost use Rattle.tgap_model.specs.Chains.{key as chain_key, chains_at};
+ghost use Rattle.tgap_model.specs.Chains.{chains_at};
 ghost use Rattle.tgap_model.specs.Removals.{edges_of, removals_to};
-ghost use Rattle.tgap_model.specs.Records.{is_edge_between, runs};
-ghost use Rattle.record_laws.specs.RunLaws.{chain_of_run};
-ghost use Rattle.grid_index.specs.Keyed.{edge_in, edges_at, AreAtKeys};
+ghost use Rattle.tgap_model.specs.Records.{is_edge_between};
+ghost use Rattle.grid_index.specs.Keyed.{edges_at, AreAtKeys};
 ghost use Rattle.grid_index.specs.Live.{keys, AreLive};
 ghost use Rattle.face_tree.specs.Tree.{face_history};
 ghost use Rattle.edge_forest.specs.Continued.{AreJoined};

@@ -1,6 +1,6 @@
 //! A step of the history, with what it removes, and its record.
 
-ghost use Rattle.std.specs.Prelude.{◌≡◌, ◌<◌, ◌≤◌, ◌-◌, ◌^◌, ◌==◌, ◌++◌, ℕ, [], true, false, not, map, filter, flat_map, option_to_list, length, All, IsPermutation, IfOk, OnOk};
+ghost use Rattle.std.specs.Prelude.{◌≡◌, ◌<◌, ◌≤◌, ◌-◌, ◌^◌, ◌==◌, ◌++◌, ℕ, [], false, not, map, filter, flat_map, option_to_list, length, All, IsPermutation, IfOk, OnOk};
 ghost use Rattle.std.specs.List.{list_any};
 ghost use Rattle.std.specs.List.Sorted.{IsNonDecreasing, IsNonDecreasingBy};
 ghost use Rattle.tgap_model.specs.Merged.{merged, step_number, face_area};
