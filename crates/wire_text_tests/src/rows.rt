@@ -9,10 +9,13 @@ use wire_text::{RowRoom, put_count_line, put_edge, put_face};
 fn the_greatest_numbers(rt: HostRuntime) -> Result<(), Fail> {
     let mut text = Text::new(rt.alloc());
     put_count_line(&mut text, b"many", usize::MAX)?;
-    put_face(&mut text, &FaceRow {
-        face: u32::MAX,
-        class: 0,
-    })?;
+    put_face(
+        &mut text,
+        &FaceRow {
+            face: u32::MAX,
+            class: 0,
+        },
+    )?;
     let points = [Point {
         x: i64::MIN,
         y: i64::MAX,
