@@ -1,5 +1,6 @@
 pub mod Point
 pub mod Base
+pub mod Held
 pub mod Bounds
 pub mod Limits
 pub mod Parts

@@ -1,12 +1,16 @@
 //! The base map.
 
-ghost use Rattle.std.specs.Prelude.{◌≡◌, IsTrue};
+ghost use Rattle.std.specs.Prelude.{◌≡◌, IsTrue, IfOk};
 ghost use Rattle.tgap_model.specs.Base.{is_base, is_transform, checked};
 
 use crate::bordered::with_borders;
+use crate::copies::copied_rules;
+use crate::failure::Memory;
 use crate::geometry::Point;
+use crate::held_arcs::HeldArcs;
 use crate::list::List;
 use crate::validity::are_parts;
+use std::alloc::Global;
 use std::marker::Model;
 
 /// The transform of a map: scale and translation, kept for its reader.
@@ -35,13 +39,14 @@ pub struct BaseArc {
     pub points: List<Point>,
 }
 
-/// A base map: rules, the class of each face, and the arcs. It keeps the rules of `docs/rules.md`.
+/// A base map: rules, the class of each face, and the arcs. It keeps the rules of `docs/rules.md`. Several base maps may
+/// hold the same arcs at once.
 #[derive(Debug, Drop)]
 pub struct Base {
     transform: Transform,
     rules: Rules,
     classes: List<u32>,
-    arcs: List<BaseArc>,
+    arcs: HeldArcs,
 }
 
 impl Model for Base {
@@ -84,7 +89,33 @@ impl Base {
             transform,
             rules,
             classes,
-            arcs,
+            arcs: HeldArcs::of(arcs),
+        })
+    }
+
+    /// The same base map, whose arcs others can hold too from then on.
+    pub fn into_shared(self, alloc: Global) -> Result<Base, Memory>
+        ensures { IfOk result (λ base. base ≡ self) }
+    {
+        Ok(Base {
+            arcs: self.arcs.into_shared(alloc)?,
+            transform: self.transform,
+            rules: self.rules,
+            classes: self.classes,
+        })
+    }
+
+    /// The base map with these classes of its faces. Where others can hold its arcs, the two hold them together, and the
+    /// time and the memory are those of the rules and of the classes; otherwise the arcs are copied.
+    pub fn with_classes(&self, alloc: Global, classes: List<u32>) -> Result<Base, Memory>
+        requires { IsTrue (is_base (record { transform = self.now.transform; rules = self.now.rules; classes = classes; arcs = self.now.arcs })) }
+        ensures { IfOk result (λ base. base ≡ record { transform = self.now.transform; rules = self.now.rules; classes = classes; arcs = self.now.arcs }) }
+    {
+        Ok(Base {
+            transform: self.transform,
+            rules: copied_rules(alloc, &self.rules)?,
+            classes,
+            arcs: self.arcs.share(alloc)?,
         })
     }
 
@@ -117,6 +148,6 @@ impl Base {
         ensures value { result.now ≡ self.now.arcs }
         ensures base { IsTrue (is_base self.now) }
     {
-        &self.arcs
+        self.arcs.list()
     }
 }

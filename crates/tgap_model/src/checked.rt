@@ -1,9 +1,11 @@
 //! A base map that was checked.
 
-ghost use Rattle.std.specs.Prelude.{◌≡◌};
+ghost use Rattle.std.specs.Prelude.{◌≡◌, IfOk};
 ghost use Rattle.tgap_model.specs.Partition.{IsPartition, base_segments};
 
 use crate::base::Base;
+use crate::failure::Memory;
+use std::alloc::Global;
 use std::marker::Model;
 
 /// A base map that is a planar partition. It is made by whoever has shown that.
@@ -38,5 +40,14 @@ impl Checked {
         ensures partition { IsPartition (base_segments self.now) }
     {
         &self.base
+    }
+
+    /// The same base map, whose arcs others can hold too from then on.
+    pub fn into_shared(self, alloc: Global) -> Result<Checked, Memory>
+        ensures { IfOk result (λ checked. checked ≡ self) }
+    {
+        Ok(Checked {
+            base: self.base.into_shared(alloc)?,
+        })
     }
 }

@@ -12,6 +12,7 @@ mod copies;
 mod failure;
 mod fault;
 mod geometry;
+mod held_arcs;
 mod holds;
 mod keep;
 mod limits;

@@ -33,11 +33,11 @@ invariant_of-result c =
     let parts : are_parts m.rules m.classes m.arcs ≡ true = cc in
     let some = rw c.as_slice-3.ensures at c.in_ok-classes.ensures in
     let h = is_base-again m c.in_ok-classes.classes (is_base-bordered m c.in_ok-classes.classes c.read_transform-transform.ensures.words parts some) in
-    rw c.read_transform-transform.ensures.same h
+    rw c.of.ensures (rw c.read_transform-transform.ensures.same h)
 
 pub returns : goal.returns
 returns c =
     let m : BaseMap = record { transform = c.args.transform; rules = c.args.rules; classes = c.args.classes; arcs = c.args.arcs } in
     let parts : are_parts m.rules m.classes m.arcs ≡ true = cc in
     let some = rw c.as_slice-3.ensures at c.in_ok-classes.ensures in
-    rw c.read_transform-transform.ensures.same (checked-again m c.in_ok-classes.classes (is_base-bordered m c.in_ok-classes.classes c.read_transform-transform.ensures.words parts some))
+    rw c.of.ensures (rw c.read_transform-transform.ensures.same (checked-again m c.in_ok-classes.classes (is_base-bordered m c.in_ok-classes.classes c.read_transform-transform.ensures.words parts some)))
