@@ -1,14 +1,17 @@
 -- The first place in which something is found among all arcs, and what a change there is.
-use Rattle.std.proofs.Common.{◌≡◌, ◌∙◌, ℕ, zero, suc, ◌<◌, List, [], ◌∷◌, length, get_or, set, Option, Some, None, insert, remove, refl, sym, ap, subst, arith}
-use Rattle.std.specs.Prelude.{option_map}
+use Rattle.std.proofs.Common.{◌≡◌, ◌∙◌, ℕ, zero, suc, ◌<◌, false, List, [], ◌∷◌, length, get_or, set, Option, Some, None, insert, remove, refl, sym, ap, subst, arith}
+use Rattle.std.specs.Prelude.{option_map, ◌||◌}
+use Rattle.std.specs.List.{list_any}
+use Rattle.std.proofs.lemmas.Bool.{or_from, or_parts}
 use Rattle.tgap_model.specs.declared.geometry.Point.{Point}
 use Rattle.tgap_model.specs.declared.base.BaseArc.{BaseArc}
-use Rattle.tgap_model.specs.Chains.{arc_number}
-use Rattle.edit_laws.specs.Edits.{with_points, put_between, take_out, neighbours, first_found, change_first}
+use Rattle.tgap_model.specs.Base.{same_point}
+use Rattle.tgap_model.specs.Chains.{first_point, last_point, arc_number}
+use Rattle.edit_laws.specs.Edits.{has_point, is_node, with_points, put_between, take_out, neighbours, first_found, change_first}
 use Rattle.edit_laws.proofs.Cases.{by_option}
 use Rattle.edit_laws.proofs.Laws.{change_here, change_there, found_here, found_there}
 use Rattle.map_version.specs.Positions.{segment_at, inner_at, first_place, changed_at}
-use Rattle.map_version.proofs.Positions.{beside, put_is_insert, take_is_remove, neighbours_are, no_neighbours}
+use Rattle.map_version.proofs.Positions.{beside, put_is_insert, take_is_remove, neighbours_are, no_neighbours, no_inner}
 
 -- ---- the first place
 
@@ -119,12 +122,15 @@ neighbours_first old (a ∷ arcs) d s e =
     subst (λ (x : ℕ × ℕ). first_found (neighbours old) (a ∷ arcs) ≡ Some (beside (points_at (a ∷ arcs) x.0) d x.1)) same
     (found_here (neighbours old) a arcs (beside a.points d k) (neighbours_are old a.points d k some)))
 
-pub nothing_to_find : (old : Point) (arcs : List BaseArc) → first_place (inner_at old) arcs ≡ None → first_found (neighbours old) arcs ≡ None
-nothing_to_find old [] e = refl
-nothing_to_find old (a ∷ arcs) e =
+-- a point of the arcs that is no node is an inner point of one
+pub no_inner_point : (old : Point) (arcs : List BaseArc) → is_node old arcs ≡ false → first_place (inner_at old) arcs ≡ None → has_point old arcs ≡ false
+no_inner_point old [] inner e = refl
+no_inner_point old (a ∷ arcs) inner e =
+    let apart = or_parts (same_point old (first_point a.points) || same_point old (last_point a.points)) (is_node old arcs) inner in
+    let ends = or_parts (same_point old (first_point a.points)) (same_point old (last_point a.points)) apart.0 in
     by_option (inner_at old a.points)
     (λ none. by_option (first_place (inner_at old) arcs)
-    (λ f. found_there (neighbours old) a arcs (no_neighbours old a.points none) ∙ nothing_to_find old arcs f)
+    (λ f. or_from (list_any (same_point old) a.points) (has_point old arcs) (no_inner old a.points ends.0 ends.1 none) (no_inner_point old arcs apart.1 f))
     (λ t f. absurd (let g = place_there (inner_at old) a arcs none in cc)))
     (λ k some. absurd (let g = place_here (inner_at old) a arcs k some in cc))
 

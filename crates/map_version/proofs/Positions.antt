@@ -1,6 +1,8 @@
 -- The position of a segment and of an inner point: found place after place, and what is put in or taken out there.
 use Rattle.std.proofs.Common.{◌≡◌, ◌∙◌, ℕ, zero, suc, ◌+◌, ◌-◌, ◌≤◌, ◌<◌, true, false, List, [], ◌∷◌, length, drop, get_or, ◌++◌, map, set, take, append_assoc, Option, Some, None, insert, remove, refl, sym, ap, subst, arith, length-drop}
 use Rattle.std.specs.Prelude.{option_map}
+use Rattle.std.specs.List.{list_any}
+use Rattle.std.proofs.lemmas.Bool.{or_from}
 use Rattle.std.proofs.lemmas.List.{drop_more, length-map, length-take-le, get_or_at, set_at, set-get_or, map_more}
 use Rattle.tgap_model.specs.declared.geometry.Point.{Point}
 use Rattle.tgap_model.specs.Base.{same_point}
@@ -210,6 +212,19 @@ no_neighbours old (p ∷ q ∷ r ∷ points) e =
     (λ t. by_option (inner_at old (q ∷ r ∷ points))
     (λ none. let found : neighbours old (p ∷ q ∷ r ∷ points) ≡ neighbours old (q ∷ r ∷ points) = rw (t, neighbours) refl in
     found ∙ no_neighbours old (q ∷ r ∷ points) none)
+    (λ n some. absurd (let f : inner_at old (p ∷ q ∷ r ∷ points) ≡ Some (suc n) = rw (t, inner_at, some) refl in cc)))
+
+-- a point that is neither an end nor an inner point is none of them
+pub no_inner : (old : Point) (points : List Point) → same_point old (first_point points) ≡ false → same_point old (last_point points) ≡ false → inner_at old points ≡ None
+    → list_any (same_point old) points ≡ false
+no_inner old [] first last none = refl
+no_inner old (p ∷ []) first last none = or_from _ _ first refl
+no_inner old (p ∷ q ∷ []) first last none = or_from _ _ first (or_from _ _ last refl)
+no_inner old (p ∷ q ∷ r ∷ points) first last none =
+    by_test (same_point old q)
+    (λ t. absurd (let f : inner_at old (p ∷ q ∷ r ∷ points) ≡ Some 1 = rw (t, inner_at) refl in cc))
+    (λ t. by_option (inner_at old (q ∷ r ∷ points))
+    (λ rest. or_from _ _ first (no_inner old (q ∷ r ∷ points) t last rest))
     (λ n some. absurd (let f : inner_at old (p ∷ q ∷ r ∷ points) ≡ Some (suc n) = rw (t, inner_at, some) refl in cc)))
 
 -- ---- the ends of an arc

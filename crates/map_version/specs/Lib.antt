@@ -4,3 +4,4 @@ pub mod Positions
 pub mod Faults
 pub mod Firsts
 pub mod Drops
+pub mod Drafts

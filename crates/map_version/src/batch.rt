@@ -22,9 +22,13 @@ fn at_line(line: u32, cause: Or<u8>) -> Or<EditFault>
 }
 
 /// The map after the lines of the batch that are left.
-fn apply_all(alloc: Global, mut draft: Draft, lines: &mut Lines) -> Result<Draft, Or<EditFault>>
+fn apply_all<'a>(
+    alloc: Global,
+    mut draft: Draft<'a>,
+    lines: &mut Lines,
+) -> Result<Draft<'a>, Or<EditFault>>
     requires { 1 ≤ length lines.old.rows }
-    ensures { GivesEdited result (edit_rows lines.old.number lines.old.rows draft) }
+    ensures { GivesEdited result (edit_rows lines.old.number lines.old.rows draft.entry) }
 {
     let mut number = lines.number();
     while let Some(mut words) = lines.next_line() {
@@ -44,8 +48,10 @@ fn apply_all(alloc: Global, mut draft: Draft, lines: &mut Lines) -> Result<Draft
 /// The map that a batch of lines makes of a base map, each line applied to what the lines before it left, by 'Edit batches' of
 /// docs/formats.md. Where a line is at fault the answer is that line and its cause, and the base map stays as it is.
 ///
-/// Lines are numbered from 1, and all from 4,294,967,295 on have that number. Its cost is one pass over the map, and for each
-/// line the logarithm of the number of points and the length of the arcs that have the points that it names.
+/// Lines are numbered from 1, and all from 4,294,967,295 on have that number. The first line that names a point costs one pass
+/// over the map, whose arcs are copied, and each such line the logarithm of the number of points and the length of the arcs that
+/// have the points that it names. A batch that only changes classes costs the number of faces and of arcs: the edited map holds
+/// the arcs of the base map, where others can hold them, and copies no point.
 pub fn edited(alloc: Global, base: &Base, batch: &[u8]) -> Result<Base, Or<EditFault>>
     // The edited map, or which line is refused first and for what cause, by the function that computes on small batches.
     ensures exact { GivesEdited result (edited base.now batch.now) }
@@ -53,5 +59,5 @@ pub fn edited(alloc: Global, base: &Base, batch: &[u8]) -> Result<Base, Or<EditF
     let draft = Draft::of(alloc, base)?;
     let mut lines = Lines::of(batch);
     let draft = apply_all(alloc, draft, &mut lines)?;
-    Ok(draft.into_base())
+    Ok(draft.into_base(alloc)?)
 }

@@ -1,12 +1,13 @@
 //! A base map to which the lines of a batch are applied.
 
-ghost use Rattle.std.specs.Prelude.{◌≡◌, ◌≤◌, ◌<◌, ◌^◌, Some, IfSome, IfOk, IsTrue};
-ghost use Rattle.tgap_model.specs.Base.{in_limits, count_points};
+ghost use Rattle.std.specs.Prelude.{◌≡◌, ◌≤◌, ◌<◌, ◌+◌, ◌^◌, length, IfSome, IfOk, IsTrue, unwrap_or};
+ghost use Rattle.tgap_model.specs.Base.{is_base, in_limits, count_points};
+ghost use Rattle.tgap_model.specs.Chains.{arc_number};
 ghost use Rattle.edit_laws.specs.Edits.{named, set_class, move_point, add_point, drop_point, apply, apply_line};
 ghost use Rattle.plain_io.specs.Taking.{GivesWhole};
 ghost use Rattle.edit_laws.specs.EditLaws.{FitsLimits};
 ghost use Rattle.map_version.specs.Lines.{told};
-ghost use Rattle.map_version.specs.Positions.{inner_at, first_place};
+ghost use Rattle.map_version.specs.Drafts.{drafted};
 ghost use Rattle.map_version.specs.Drops.{dropped_at};
 
 use crate::arcs::{IndexedArcs, Place};
@@ -19,29 +20,29 @@ use crate::path::{Sought, turns_back};
 use plain_io::{Pieces, read_number};
 use std::alloc::Global;
 use std::marker::Model;
-use tgap_model::{
-    Base, BaseArc, List, MAX_POINTS, Memory, Or, Point, Rules, Transform, copied_rules,
-};
+use tgap_model::{Base, BaseArc, List, MAX_POINTS, Memory, Or, Point, copied_rules};
 
-/// The parts of a base map, which it is at any time, with the places of its points and their number.
+/// A base map with other classes, and from the first line on that names a point with other arcs, which are a copy with the
+/// places of its points. Until then its arcs are those of the base map. It is a base map at any time.
 #[derive(Drop)]
-pub struct Draft {
-    transform: Transform,
-    rules: Rules,
+pub struct Draft<'a> {
+    base: &'a Base,
     classes: Vec<u32>,
-    arcs: IndexedArcs,
+    arcs: Option<IndexedArcs>,
     count: usize,
 }
 
-impl Model for Draft {
-    ghost use Rattle.std.specs.Prelude.{◌≡◌, IsTrue};
+impl<'a> Model for Draft<'a> {
+    ghost use Rattle.std.specs.Prelude.{◌≡◌, IsTrue, unwrap_or};
     ghost use Rattle.tgap_model.specs.Base.{BaseMap, is_base, count_points};
+    ghost use Rattle.map_version.specs.Drafts.{drafted};
 
     ghost Value = { BaseMap };
 
-    ghost view = { λ d. record { transform = d.transform; rules = d.rules; classes = d.classes.items; arcs = d.arcs } };
+    ghost view = { λ d. drafted d.base.now d.classes.items (unwrap_or d.arcs d.base.now.arcs) };
 
-    ghost invariant = { λ d. IsTrue (is_base (record { transform = d.transform; rules = d.rules; classes = d.classes.items; arcs = d.arcs })) × (d.count ≡ count_points d.arcs) };
+    ghost invariant = { λ d. IsTrue (is_base (drafted d.base.now d.classes.items (unwrap_or d.arcs d.base.now.arcs)))
+        × (d.count ≡ count_points (unwrap_or d.arcs d.base.now.arcs)) };
 }
 
 /// The number from `least` to `most` that a word names.
@@ -62,50 +63,87 @@ fn count_points(arcs: &[BaseArc]) -> usize
     arcs.iter().map(|arc| arc.points.len()).sum()
 }
 
-impl Draft {
-    /// A copy of a base map.
-    pub fn of(alloc: Global, base: &Base) -> Result<Draft, Memory>
-        ensures { IfOk result (λ draft. draft ≡ base.now) }
+/// The arcs that were copied, or else a copy of those of the base map.
+fn own_arcs(alloc: Global, base: &Base, copied: Option<IndexedArcs>) -> Result<IndexedArcs, Memory>
+    ensures { IfOk result (λ arcs. arcs ≡ unwrap_or copied base.now.arcs) }
+{
+    match copied {
+        Some(arcs) => Ok(arcs),
+        None => IndexedArcs::of(alloc, base.arcs().as_slice()),
+    }
+}
+
+/// The base map with these classes and arcs in place of its own.
+fn with_parts(
+    alloc: Global,
+    base: &Base,
+    classes: List<u32>,
+    arcs: List<BaseArc>,
+) -> Result<Base, Memory>
+    requires { IsTrue (is_base (drafted base.now classes arcs)) }
+    ensures { IfOk result (λ made. made ≡ drafted base.now classes arcs) }
+{
+    let rules = copied_rules(alloc, base.rules())?;
+    match Base::new(*base.transform(), rules, classes, arcs) {
+        Some(made) => Ok(made),
+        None => unreachable!(),
+    }
+}
+
+/// The arcs without the inner point at this place.
+fn drop_at(alloc: Global, arcs: IndexedArcs, place: Place) -> Result<IndexedArcs, Or<u8>>
+    requires arc { place.arc < length arcs }
+    requires before { 1 ≤ place.at }
+    requires after { place.at + 1 < length (arc_number arcs place.arc).points }
+    ensures { GivesWhole result (dropped_at arcs place) }
+{
+    let turns = turns_back(arcs.points(place.arc), place.at);
+    ensured(!turns, TURNS_BACK)?;
+    Ok(arcs.remove(alloc, place))
+}
+
+impl<'a> Draft<'a> {
+    /// The base map, before any line. Its classes are copied, and no point is.
+    pub fn of(alloc: Global, base: &'a Base) -> Result<Draft<'a>, Memory>
+        ensures { IfOk result (λ draft. draft ≡ base.entry.now) }
     {
-        let arcs = base.arcs().as_slice();
         Ok(Draft {
-            transform: *base.transform(),
-            rules: copied_rules(alloc, base.rules())?,
+            base,
             classes: Vec::from_slice(alloc, base.classes().as_slice())?,
-            arcs: IndexedArcs::of(alloc, arcs)?,
-            count: count_points(arcs),
+            arcs: None,
+            count: count_points(base.arcs().as_slice()),
         })
     }
 
-    /// The base map that it is.
-    pub fn into_base(self) -> Base
-        ensures { result ≡ self }
+    /// The base map that it is. Where no line named a point, it holds the arcs of the one that it began as.
+    pub fn into_base(self, alloc: Global) -> Result<Base, Memory>
+        ensures { IfOk result (λ base. base ≡ self.entry) }
     {
         let Draft {
-            transform,
-            rules,
+            base,
             classes,
             arcs,
             ..
         } = self;
-        match Base::new(transform, rules, List::from(classes), arcs.into_list()) {
-            Some(base) => base,
-            None => unreachable!(),
+        let classes = List::from(classes);
+        match arcs {
+            Some(arcs) => with_parts(alloc, base, classes, arcs.into_list()),
+            None => base.with_classes(alloc, classes),
         }
     }
 
     /// The map after a line of the batch.
-    pub fn apply_line(self, alloc: Global, words: &mut Pieces) -> Result<Draft, Or<u8>>
-        ensures { GivesWhole result (apply_line self words.old) }
+    pub fn apply_line(self, alloc: Global, words: &mut Pieces) -> Result<Draft<'a>, Or<u8>>
+        ensures { GivesWhole result (apply_line self.entry words.old) }
     {
         let edit = found(read_edit(words), NO_EDIT)?;
         self.apply(alloc, edit)
     }
 
     /// The map after an edit whose new point, if it has one, is within the limits.
-    fn apply(self, alloc: Global, edit: Edit) -> Result<Draft, Or<u8>>
+    fn apply(self, alloc: Global, edit: Edit) -> Result<Draft<'a>, Or<u8>>
         requires { FitsLimits (told edit) }
-        ensures { GivesWhole result (apply self (told edit.entry)) }
+        ensures { GivesWhole result (apply self.entry (told edit.entry)) }
     {
         match edit {
             Edit::Class { face, class } => self.set_class(face, class),
@@ -117,12 +155,12 @@ impl Draft {
 
     /// The map with this class for this face.
     #[tactic(auto, unfolding(edit_laws::specs::Edits::set_class))]
-    fn set_class(mut self, face: &[u8], class: &[u8]) -> Result<Draft, Or<u8>>
-        ensures { GivesWhole result (set_class self face.now class.now) }
+    fn set_class(mut self, face: &[u8], class: &[u8]) -> Result<Draft<'a>, Or<u8>>
+        ensures { GivesWhole result (set_class self.entry face.now class.now) }
     {
         let face = found(named(face, 1, self.classes.len()), NO_SUCH_NUMBER)?;
         let class = found(
-            named(class, 0, self.rules.weights.len() - 1),
+            named(class, 0, self.base.rules().weights.len() - 1),
             NO_SUCH_NUMBER,
         )?;
         self.classes[face - 1] = class as u32;
@@ -131,50 +169,47 @@ impl Draft {
 
     /// The map with a point moved.
     #[tactic(auto, unfolding(edit_laws::specs::Edits::move_point))]
-    fn move_point(mut self, alloc: Global, old: &Point, new: Point) -> Result<Draft, Or<u8>>
+    fn move_point(mut self, alloc: Global, old: &Point, new: Point) -> Result<Draft<'a>, Or<u8>>
         requires { IsTrue (in_limits new) }
-        ensures { GivesWhole result (move_point self old.now new) }
+        ensures { GivesWhole result (move_point self.entry old.now new) }
     {
-        ensured(self.arcs.has_point(old), NO_SUCH_POINT)?;
-        ensured(!self.arcs.has_point(&new), POINT_TAKEN)?;
-        self.arcs = self.arcs.move_all(alloc, old, new)?;
+        let arcs = own_arcs(alloc, self.base, self.arcs)?;
+        ensured(arcs.has_point(old), NO_SUCH_POINT)?;
+        ensured(!arcs.has_point(&new), POINT_TAKEN)?;
+        self.arcs = Some(arcs.move_all(alloc, old, new)?);
         Ok(self)
     }
 
     /// The map with a point more between the ends of a segment.
-    fn add_point(mut self, alloc: Global, a: Point, b: Point, new: Point) -> Result<Draft, Or<u8>>
+    fn add_point(
+        mut self,
+        alloc: Global,
+        a: Point,
+        b: Point,
+        new: Point,
+    ) -> Result<Draft<'a>, Or<u8>>
         requires { IsTrue (in_limits new) }
-        ensures { GivesWhole result (add_point self a b new) }
+        ensures { GivesWhole result (add_point self.entry a b new) }
     {
-        let place = found(self.arcs.place_of(&Sought::Segment(a, b)), NO_SUCH_SEGMENT)?;
-        ensured(!self.arcs.has_point(&new), POINT_TAKEN)?;
+        let arcs = own_arcs(alloc, self.base, self.arcs)?;
+        let place = found(arcs.place_of(&Sought::Segment(a, b)), NO_SUCH_SEGMENT)?;
+        ensured(!arcs.has_point(&new), POINT_TAKEN)?;
         ensured(self.count < MAX_POINTS, NO_ROOM)?;
-        self.arcs = self.arcs.insert(alloc, place, new)?;
+        self.arcs = Some(arcs.insert(alloc, place, new)?);
         self.count += 1;
         Ok(self)
     }
 
     /// The map with an inner point taken out.
     #[tactic(auto, unfolding(edit_laws::specs::Edits::drop_point))]
-    fn drop_point(self, alloc: Global, old: Point) -> Result<Draft, Or<u8>>
-        ensures { GivesWhole result (drop_point self old) }
+    fn drop_point(mut self, alloc: Global, old: Point) -> Result<Draft<'a>, Or<u8>>
+        ensures { GivesWhole result (drop_point self.entry old) }
     {
-        ensured(self.arcs.has_point(&old), NO_SUCH_POINT)?;
-        ensured(!self.arcs.is_node(&old), IS_NODE)?;
-        match self.arcs.place_of(&Sought::Inner(old)) {
-            Some(place) => self.drop_at(alloc, &old, place),
-            None => Ok(self),
-        }
-    }
-
-    /// The map without this inner point, which stands at this place first.
-    fn drop_at(mut self, alloc: Global, old: &Point, place: Place) -> Result<Draft, Or<u8>>
-        requires { first_place (inner_at old.now) self.arcs ≡ Some (place.arc, place.at) }
-        ensures { GivesWhole result (dropped_at self (Some place)) }
-    {
-        let turns = turns_back(self.arcs.points(place.arc), place.at);
-        ensured(!turns, TURNS_BACK)?;
-        self.arcs = self.arcs.remove(alloc, place);
+        let arcs = own_arcs(alloc, self.base, self.arcs)?;
+        ensured(arcs.has_point(&old), NO_SUCH_POINT)?;
+        ensured(!arcs.is_node(&old), IS_NODE)?;
+        let place = found(arcs.place_of(&Sought::Inner(old)), NO_SUCH_POINT)?;
+        self.arcs = Some(drop_at(alloc, arcs, place)?);
         self.count -= 1;
         Ok(self)
     }

@@ -54,6 +54,27 @@ fn each_line_sees_the_lines_before_it(rt: HostRuntime) -> Result<(), Fail> {
 }
 
 #[test]
+fn a_map_keeps_the_arcs_that_a_later_batch_changes(rt: HostRuntime) -> Result<(), Fail> {
+    let alloc = rt.alloc();
+    let base = squares(alloc, &[(10, 0), (10, 10)])?.ok_or("no base map")?;
+    let first = base.into_shared(alloc)?;
+    let second = after(alloc, &first, b"class 2 0\n")?;
+    let third = after(alloc, &second, b"move 20 10 24 10\n")?;
+    let before = [
+        Point { x: 10, y: 0 },
+        Point { x: 20, y: 0 },
+        Point { x: 20, y: 10 },
+        Point { x: 10, y: 10 },
+    ];
+    assert_eq!(rt; points_of(&first, 1), before.as_slice());
+    assert_eq!(rt; points_of(&second, 1), before.as_slice());
+    assert_eq!(rt; points_of(&third, 1).get(2), Some(&Point { x: 24, y: 10 }));
+    assert_eq!(rt; first.classes().as_slice(), [0u32, 1].as_slice());
+    assert_eq!(rt; third.classes().as_slice(), [0u32, 0].as_slice());
+    Ok(())
+}
+
+#[test]
 fn the_first_fault_is_told(rt: HostRuntime) -> Result<(), Fail> {
     let alloc = rt.alloc();
     let base = squares(alloc, &[(10, 0), (10, 10)])?.ok_or("no base map")?;

@@ -27,8 +27,8 @@ returns-then-is_over c =
     ∙ over_gives c.loop-words.lines c.loop-words.draft _ c.loop-words.invariant.2 c.in_default.ensures.0
     (ap (λ (x : Lines). is_over x.rows) (sym c.in_default.ensures.1) ∙ (sym c.is_over.ensures ∙ c.if-is_over.true))
 
-pub returns-else-is_over : goal.returns-else-is_over
-returns-else-is_over c =
+pub returns : goal.returns
+returns c =
     let whole = edit_rows c.args.lines.now.number c.args.lines.now.rows c.args.draft in
     subst (λ e. GivesEdited {X = BaseMap} (Err e) whole) (sym c.at_line-else-is_over.ensures)
     (c.loop-words.invariant.0

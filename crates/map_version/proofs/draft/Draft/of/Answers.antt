@@ -7,4 +7,4 @@ use Rattle.map_version.proofs.draft.Draft.of.Goals as goal
 
 pub count_points-requires : goal.count_points-requires
 count_points-requires c =
-    subst (λ (arcs : List BaseArc). count_points arcs ≤ MAX_POINTS) (sym (c.as_slice-arcs.ensures ∙ c.arcs.ensures.value)) (base_facts c.args.base.now c.arcs.ensures.base).few_points
+    subst (λ (arcs : List BaseArc). count_points arcs ≤ MAX_POINTS) (sym (c.as_slice-2.ensures ∙ c.arcs.ensures.value)) (base_facts c.args.base.now c.arcs.ensures.base).few_points
