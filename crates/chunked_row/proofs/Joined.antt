@@ -1,8 +1,7 @@
 -- The row that chunks make, and what a change of one of them means for it.
-use Rattle.std.proofs.Common.{Bool, true, false, cond, add-one, ◌≡◌, ⊎_elim, ℕ, zero, suc, ◌+◌, ◌-◌, ◌<◌, ◌≤◌, List, [], ◌∷◌, ◌++◌, length, take, drop, set, get_or, All, refl, sym, ap, ◌∙◌, subst, append_assoc, arith}
+use Rattle.std.proofs.Common.{Bool, true, false, cond, add-one, ◌≡◌, ℕ, zero, suc, ◌+◌, ◌-◌, ◌<◌, ◌≤◌, List, [], ◌∷◌, ◌++◌, length, take, drop, set, get_or, All, refl, sym, ap, ◌∙◌, subst, append_assoc, arith}
 use Rattle.std.specs.List.{concat, insert, remove}
-use Rattle.std.proofs.lemmas.Bool.{cases_lt}
-use Rattle.std.proofs.lemmas.List.{take-append-drop, get_or-append-add, get_or_append_left, get_or_default, length-append, length-drop, length-take-le, take_all, set-get_or}
+use Rattle.std.proofs.lemmas.List.{take-append-drop, get_or-append-add, get_or_append_left, get_or_default, length-append, length-drop, length-take-le}
 use Rattle.std.proofs.lemmas.List.Edits.{insert-append_left, insert-append_right, remove-append_left, remove-append_right}
 use Rattle.std.proofs.lemmas.List.Elements.{All-append, All-cons, All-set, All-take, All-drop}
 use Rattle.chunked_row.specs.Chunks.{HasSome}
@@ -52,15 +51,6 @@ joined_get xss k i d short within =
 pub chunk_at : (xss : List (List ℕ)) (k : ℕ) (x : List ℕ) → k < length xss → x ≡ get_or xss k x → x ≡ get_or xss k []
 chunk_at xss k x short e = e ∙ get_or_default xss k x [] short
 
--- the place goes on behind a chunk that does not reach up to it
-pub next_chunk : (xss : List (List ℕ)) (k place index : ℕ) → k < length xss → length (concat (take k xss)) + index ≡ place → place ≤ length (concat xss) → length (get_or xss k []) < index → k + 1 < length xss
-next_chunk xss k place index short at within less = ⊎_elim (λ l. l) last (cases_lt (k + 1) (length xss))
-  where
-    last : length xss ≤ k + 1 → k + 1 < length xss
-    last le =
-        let whole : length (concat (take (k + 1) xss)) ≡ length (concat xss) = ap (λ zs. length (concat zs)) (take_all (k + 1) xss le) in
-        absurd (omega (arith, whole, joined_more xss k short))
-
 -- ---- changes
 
 insert_between : (before here behind : List ℕ) (i y : ℕ) → i ≤ length here → insert (before ++ (here ++ behind)) (length before + i) y ≡ before ++ (insert here i y ++ behind)
@@ -100,27 +90,23 @@ joined_split (x ∷ xss) zero half short = sym (append_assoc (take half x) (drop
 joined_split (x ∷ xss) (suc k) half short = ap (λ zs. x ++ zs) (joined_split xss k half (omega arith))
 
 -- the chunk that is read after another came in behind it
-chunk_before : (xss : List (List ℕ)) (k : ℕ) (y d : List ℕ) → k < length xss → get_or (insert xss (suc k) y) k d ≡ get_or xss k d
+pub chunk_before : (xss : List (List ℕ)) (k : ℕ) (y d : List ℕ) → k < length xss → get_or (insert xss (suc k) y) k d ≡ get_or xss k d
 chunk_before [] k y d short = absurd (omega arith)
 chunk_before (x ∷ xss) zero y d short = refl
 chunk_before (x ∷ xss) (suc k) y d short = chunk_before xss k y d (omega arith)
 
--- the upper numbers come in behind the chunk, and then it keeps the others
-pub joined_halves : (xss yss : List (List ℕ)) (k half : ℕ) (read kept : List ℕ) → k < length xss → yss ≡ insert xss (k + 1) (drop half (get_or xss k [])) → read ≡ get_or yss k read → kept ≡ take half read
-    → concat (set yss k kept) ≡ concat xss
-joined_halves xss yss k half read kept short more is keeps =
-    let upper = drop half (get_or xss k []) in
-    let behind : yss ≡ insert xss (suc k) upper = more ∙ ap (λ j. insert xss j upper) (add-one k) in
-    let same : read ≡ get_or xss k [] = is ∙ ap (λ zss. get_or zss k read) behind ∙ chunk_before xss k upper read short ∙ get_or_default xss k read [] short in
-    ap (λ zss. concat (set zss k kept)) behind
-    ∙ ap (λ zs. concat (set (insert xss (suc k) upper) k zs)) (keeps ∙ ap (take half) same)
-    ∙ joined_split xss k half short
+-- a chunk is cut in two, or the chunks stay
+pub joined_cut_if : (b : Bool) (xss : List (List ℕ)) (k half : ℕ) (new : List (List ℕ)) → k < length xss
+    → new ≡ cond b (set (insert xss (k + 1) (drop half (get_or xss k []))) k (take half (get_or xss k []))) xss → concat new ≡ concat xss
+joined_cut_if true xss k half new short is =
+    ap concat is ∙ ap (λ j. concat (set (insert xss j (drop half (get_or xss k []))) k (take half (get_or xss k [])))) (add-one k) ∙ joined_split xss k half short
+joined_cut_if false xss k half new short is = ap concat is
 
--- a number comes in, or the chunk stays
-pub joined_insert_if : (b : Bool) (xss : List (List ℕ)) (k i y : ℕ) (new : List ℕ) → k < length xss → i ≤ length (get_or xss k []) → new ≡ cond b (insert (get_or xss k []) i y) (get_or xss k [])
-    → concat (set xss k new) ≡ cond b (insert (concat xss) (length (concat (take k xss)) + i) y) (concat xss)
-joined_insert_if true xss k i y new short le is = ap (λ zs. concat (set xss k zs)) is ∙ joined_insert xss k i y short le
-joined_insert_if false xss k i y new short le is = ap (λ zs. concat (set xss k zs)) is ∙ ap concat (set-get_or xss k [])
+-- a number comes in, or the chunks stay
+pub joined_insert_if : (b : Bool) (xss : List (List ℕ)) (k i y : ℕ) (new : List (List ℕ)) → k < length xss → i ≤ length (get_or xss k []) → new ≡ cond b (set xss k (insert (get_or xss k []) i y)) xss
+    → concat new ≡ cond b (insert (concat xss) (length (concat (take k xss)) + i) y) (concat xss)
+joined_insert_if true xss k i y new short le is = ap concat is ∙ joined_insert xss k i y short le
+joined_insert_if false xss k i y new short le is = ap concat is
 
 -- without an empty chunk
 pub joined_without : (xss : List (List ℕ)) (k : ℕ) → k < length xss → get_or xss k [] ≡ [] → concat (remove xss k) ≡ concat xss
@@ -133,17 +119,16 @@ joined_without (x ∷ xss) (suc k) short none = ap (λ zs. x ++ zs) (joined_with
 pub full_insert : (xss : List (List ℕ)) (k : ℕ) (y : List ℕ) → HasSome y → All HasSome xss → All HasSome (insert xss k y)
 full_insert xss k y some full = All-append HasSome (take k xss) (y ∷ drop k xss) (All-take HasSome k xss full) (All-cons HasSome y (drop k xss) some (All-drop HasSome k xss full))
 
--- each half has a number
-pub full_halves : (xss yss : List (List ℕ)) (k half : ℕ) (read kept : List ℕ) → k < length xss → 0 < half → half < length (get_or xss k []) → yss ≡ insert xss (k + 1) (drop half (get_or xss k [])) → read ≡ get_or yss k read → kept ≡ take half read
-    → All HasSome xss → All HasSome (set yss k kept)
-full_halves xss yss k half read kept short lower upper more is keeps full =
-    let above = drop half (get_or xss k []) in
-    let some : 0 < length above = omega (arith, length-drop half (get_or xss k []), upper) in
-    let behind : yss ≡ insert xss (suc k) above = more ∙ ap (λ j. insert xss j above) (add-one k) in
-    let same : read ≡ get_or xss k [] = is ∙ ap (λ zss. get_or zss k read) behind ∙ chunk_before xss k above read short ∙ get_or_default xss k read [] short in
-    let within : half ≤ length read = omega (arith, ap length same, upper) in
-    let below : 0 < length kept = omega (arith, ap length keeps, length-take-le half read within, lower) in
-    All-set HasSome yss k kept below (subst (λ zss. All HasSome zss) (sym more) (full_insert xss (k + 1) above some full))
+-- each part has a number
+pub full_cut_if : (b : Bool) (xss : List (List ℕ)) (k half : ℕ) (new : List (List ℕ)) → k < length xss → 0 < half → half < length (get_or xss k [])
+    → new ≡ cond b (set (insert xss (k + 1) (drop half (get_or xss k []))) k (take half (get_or xss k []))) xss → All HasSome xss → All HasSome new
+full_cut_if true xss k half new short lower upper is full =
+    let here = get_or xss k [] in
+    let some : 0 < length (drop half here) = omega (arith, length-drop half here, upper) in
+    let below : 0 < length (take half here) = omega (arith, length-take-le half here (omega (arith, upper)), lower) in
+    subst (λ zss. All HasSome zss) (sym is)
+    (All-set HasSome (insert xss (k + 1) (drop half here)) k (take half here) below (full_insert xss (k + 1) (drop half here) some full))
+full_cut_if false xss k half new short lower upper is full = subst (λ zss. All HasSome zss) (sym is) full
 
 pub full_remove : (xss : List (List ℕ)) (k : ℕ) → All HasSome (take k xss) → All HasSome (drop (k + 1) xss) → All HasSome (remove xss k)
 full_remove xss k before behind = All-append HasSome (take k xss) (drop (suc k) xss) before (subst (λ j. All HasSome (drop j xss)) (add-one k) behind)

@@ -1,5 +1,5 @@
--- The chunks of a row, none of them empty, and the spot in them of a place of the row.
-use Rattle.std.specs.Prelude.{◌≡◌, ◌<◌, ◌≤◌, ◌+◌, ◌^◌, ℕ, List, [], length, take, get_or, All}
+-- The chunks of a row, none of them empty, the places at which they begin, and the spot in them of a place of the row.
+use Rattle.std.specs.Prelude.{◌≡◌, ◌<◌, ◌≤◌, ◌+◌, ◌^◌, ℕ, List, [], ◌∷◌, length, take, get_or, All}
 use Rattle.std.specs.List.{concat}
 use Rattle.chunked_row.specs.declared.spot.Spot.{Spot}
 
@@ -11,6 +11,11 @@ pub record AreCounted (chunks : List (List ℕ)) (count : ℕ) : Type 0 where
   pub full : All HasSome chunks
   pub counted : count ≡ length (concat chunks)
   pub few : count < 2 ^ 64
+
+-- the places at which the chunks begin, of which the first begins at n: each behind the numbers of those before it
+unfoldable pub starts_from : ℕ → List (List ℕ) → List ℕ
+starts_from n [] = []
+starts_from n (chunk ∷ chunks) = n ∷ starts_from (n + length chunk) chunks
 
 -- The place is behind so many numbers of a chunk, and behind one of them at least where it is not the first place.
 pub record IsSpot (chunks : List (List ℕ)) (place : ℕ) (s : Spot) : Type 0 where

@@ -3,9 +3,11 @@
 #![tactic(auto)]
 
 mod chunk;
+mod chunks;
 mod edits;
 mod row;
 mod search;
 mod spot;
+mod starts;
 
 pub use row::Row;

@@ -3,7 +3,7 @@
 ghost use Rattle.std.specs.Prelude.{◌≡◌, ℕ, ◌<◌, ◌≤◌, ◌+◌, ◌-◌, ◌↔◌, true, false, [], length, get_or, is_ok, if◌then◌else◌, IsTrue};
 ghost use Rattle.std.specs.List.{All, insert, remove};
 
-use crate::chunk::Chunk;
+use crate::chunks::Chunks;
 use crate::edits::{insert_at, number_at, remove_at, run_of};
 use crate::search::place_in;
 use std::alloc::Global;
@@ -14,7 +14,7 @@ use tgap_model::Memory;
 #[derive(Debug, Drop)]
 pub struct Row {
     alloc: Global,
-    chunks: Vec<Chunk>,
+    chunks: Chunks,
     count: usize,
 }
 
@@ -25,9 +25,9 @@ impl Model for Row {
 
     ghost Value = { Sequence ℕ };
 
-    ghost view = { λ r. concat r.chunks.items };
+    ghost view = { λ r. concat r.chunks };
 
-    ghost invariant = { λ r. AreCounted r.chunks.items r.count };
+    ghost invariant = { λ r. AreCounted r.chunks r.count };
 }
 
 impl Row {
@@ -37,7 +37,7 @@ impl Row {
     {
         Row {
             alloc,
-            chunks: Vec::new(alloc),
+            chunks: Chunks::new(alloc),
             count: 0,
         }
     }
@@ -56,8 +56,8 @@ impl Row {
         self.chunks.is_empty()
     }
 
-    /// The number at a place. It passes over the chunks before the place, of which there are at most two for each
-    /// thousand numbers that came in.
+    /// The number at a place. Its chunk is searched among the starts of the chunks, of which there are at most two for
+    /// each thousand numbers that came in.
     pub fn at(&self, place: usize) -> u32
         requires { place < length self.now }
         ensures { result ≡ get_or self.now place 0 }

@@ -5,12 +5,11 @@ ghost use Rattle.std.specs.Prelude.{◌≡◌, ◌<◌, ◌≤◌, ◌-◌, ◌^
 ghost use Rattle.std.specs.List.{All, concat};
 ghost use Rattle.chunked_row.specs.Chunks.{HasSome};
 
-use crate::chunk::Chunk;
-use crate::spot::count_before;
+use crate::chunks::Chunks;
 
 /// How many chunks stand before the place: the last of them begins with a number that passes, and the next one with a
 /// number that fails.
-fn chunks_before<P: Fn(u32) -> bool>(chunks: &[Chunk], passes: &P) -> usize
+fn chunks_before<P: Fn(u32) -> bool>(chunks: &Chunks, passes: &P) -> usize
     requires full { All HasSome chunks.now }
     requires callable { All (All (P.pre passes.now)) chunks.now }
     ensures within { result ≤ length chunks.now }
@@ -21,7 +20,7 @@ fn chunks_before<P: Fn(u32) -> bool>(chunks: &[Chunk], passes: &P) -> usize
     let mut high = chunks.len();
     while low < high {
         let middle = low + (high - low) / 2;
-        if passes(chunks[middle].at(0)) {
+        if passes(chunks.get(middle).at(0)) {
             low = middle + 1;
         } else {
             high = middle;
@@ -54,7 +53,7 @@ fn index_of<P: Fn(u32) -> bool>(numbers: &[u32], from: usize, passes: &P) -> usi
 }
 
 /// A place in a row: the number before it passes, and the one at it fails.
-pub fn place_in<P: Fn(u32) -> bool>(chunks: &[Chunk], passes: &P) -> usize
+pub fn place_in<P: Fn(u32) -> bool>(chunks: &Chunks, passes: &P) -> usize
     requires full { All HasSome chunks.now }
     requires few { length (concat chunks.now) < 2 ^ 64 }
     requires callable { All (P.pre passes.now) (concat chunks.now) }
@@ -66,6 +65,6 @@ pub fn place_in<P: Fn(u32) -> bool>(chunks: &[Chunk], passes: &P) -> usize
     if before == 0 {
         return 0;
     }
-    let index = index_of(chunks[before - 1].as_slice(), 1, passes);
-    count_before(chunks, before - 1) + index
+    let index = index_of(chunks.get(before - 1).as_slice(), 1, passes);
+    chunks.start(before - 1) + index
 }

@@ -1,5 +1,6 @@
 pub mod Crossings
 pub mod Heights
+pub mod Apart
 pub mod Slabs
 pub mod Ends
 pub mod Seams

@@ -1,15 +1,16 @@
 -- The stack as numbers of starts: the place of a segment in it, and what comes in and goes out there.
-use Rattle.std.proofs.Common.{◌≡◌, ◌≢◌, ◌⊎◌, inl, inr, ℕ, zero, suc, ◌+◌, ◌-◌, ◌<◌, ◌==◌, Bool, true, false, cond, not, List, [], ◌∷◌, ◌++◌, length, take, drop, filter, get_or, All, AllPairs, Contains, ℤ, ◌≤ℤ◌, refl, sym, ap, ◌∙◌, subst, true≢false, arith}
+use Rattle.std.proofs.Common.{◌≡◌, ◌≢◌, ◌⊎◌, inl, inr, ⊎_elim, ℕ, zero, suc, ◌+◌, ◌-◌, ◌<◌, ◌==◌, Bool, true, false, cond, not, List, [], ◌∷◌, ◌++◌, length, map, take, drop, filter, get_or, All, AllPairs, Contains, ℤ, ◌≤ℤ◌, refl, sym, ap, ◌∙◌, subst, true≢false, arith}
 use Rattle.std.specs.List.{insert, remove}
 use Rattle.std.proofs.lemmas.Bool.{cases_order, false_from_ne_true}
 use Rattle.std.proofs.lemmas.Bool.Decides.{Decides-eqb}
 use Rattle.std.proofs.lemmas.List.{get_or_default, drop_more}
-use Rattle.std.proofs.lemmas.List.Elements.{All-nil, All-cons, All-append, All-take, All-drop, Contains-append_left, Contains-append_right, Contains-push}
+use Rattle.std.proofs.lemmas.List.Elements.{All-nil, All-cons, All-append, All-filter, All-take, All-drop, Contains-append_left, Contains-append_right}
 use Rattle.lemmas.specs.Sorting.{insert_by, IsStrictOrderOn}
 use Rattle.lemmas.proofs.Sorting.{sorted_pairs}
 use Rattle.lemmas.proofs.Placing.{insert-place}
 use Rattle.tgap_model.specs.declared.segment.LabelledSegment.{LabelledSegment}
-use Rattle.planar_stack.specs.Sweep.{left_end, segment_at, sides_at, crossed_at, higher_at, IsOrdered, IsPlace, AreTouched}
+use Rattle.grid_geo.specs.Evidence.{face_above}
+use Rattle.planar_stack.specs.Sweep.{left_end, segment_at, sides_at, crossed_at, higher_at, differing, IsOrdered, IsPlace, AreTouched}
 use Rattle.planar_stack.proofs.Slabs.{order_after}
 use Rattle.planar_stack.proofs.Seams.{covered_more, covered_insert, covered_remove}
 use Rattle.planar_stack.proofs.Ends.{ends_from_crossed}
@@ -99,46 +100,83 @@ module _ (v : ℤ) (starts : List LabelledSegment) (n : ℕ) (found : List ℕ) 
 
 -- ---- what is touched
 
--- the member at a place is touched where there is one
-pub touched_at : (touched found : List ℕ) (k d : ℕ) → k < length found → Contains (touched ++ take 1 (drop k found)) (get_or found k d)
-touched_at touched found k d short = Contains-append_right touched (take 1 (drop k found)) (get_or found k d) (subst (λ xs. Contains (take 1 xs) (get_or found k d)) (sym (drop_more found k d short)) (0, omega arith, refl))
+-- a segment has the face that is reached above it, or else it is touched
+differing_at : (starts : List LabelledSegment) (reached : ℕ) (touched : List ℕ) (n : ℕ) → ((sides_at starts n).upper ≡ reached) ⊎ Contains (touched ++ differing starts reached (n ∷ [])) n
+differing_at starts reached touched n = by ((sides_at starts n).upper == reached) refl
+  where
+    by : (b : Bool) → ((sides_at starts n).upper == reached) ≡ b → ((sides_at starts n).upper ≡ reached) ⊎ Contains (touched ++ differing starts reached (n ∷ [])) n
+    by true e = inl ((Decides-eqb (sides_at starts n).upper reached).0 e)
+    by false e = inr (Contains-append_right touched (differing starts reached (n ∷ [])) n (subst (λ (b : Bool). Contains (cond (not b) (n ∷ []) []) n) (sym e) (0, omega arith, refl)))
+
+-- the one at a place, where there is one
+pub taken_one : (found : List ℕ) (k d : ℕ) → k < length found → take 1 (drop k found) ≡ get_or found k d ∷ []
+taken_one found k d short = ap (take 1) (drop_more found k d short)
+
+differing_there : (starts : List LabelledSegment) (reached : ℕ) (touched found : List ℕ) (k d : ℕ) → k < length found
+    → ((sides_at starts (get_or found k d)).upper ≡ reached) ⊎ Contains (touched ++ differing starts reached (take 1 (drop k found))) (get_or found k d)
+differing_there starts reached touched found k d short =
+    subst (λ (ns : List ℕ). ((sides_at starts (get_or found k d)).upper ≡ reached) ⊎ Contains (touched ++ differing starts reached ns) (get_or found k d)) (sym (taken_one found k d short))
+    (differing_at starts reached touched (get_or found k d))
 
 pub touched_before : (touched more : List ℕ) (n : ℕ) → Contains touched n → Contains (touched ++ more) n
 touched_before touched more n c = Contains-append_left touched more n c
 
-pub All-touched : (P : ℕ → Type 0) (touched found : List ℕ) (k : ℕ) → All P touched → All P found → All P (touched ++ take 1 (drop k found))
-All-touched P touched found k h g = All-append P touched (take 1 (drop k found)) h (All-take P 1 (drop k found) (All-drop P k found g))
+All-touched : (P : ℕ → Type 0) (starts : List LabelledSegment) (reached : ℕ) (touched found : List ℕ) (k : ℕ) → All P touched → All P found → All P (touched ++ differing starts reached (take 1 (drop k found)))
+All-touched P starts reached touched found k h g =
+    All-append P touched (differing starts reached (take 1 (drop k found))) h (All-filter (λ n. not ((sides_at starts n).upper == reached)) P (take 1 (drop k found)) (All-take P 1 (drop k found) (All-drop P k found g)))
 
 module _ (v : ℤ) (starts : List LabelledSegment) (n : ℕ) (found touched : List ℕ) (place : ℕ) (p : IsPlace v starts n found place) (o : IsOrdered v starts found) (t : AreTouched v starts found touched) where
   -- each of the stack begins up to the line
   begun : All (λ m. left_end (segment_at starts m) ≤ℤ v) found
   begun k d short = (ends_from_crossed v (segment_at starts (get_or found k d)) (o.crossed k d short)).0
 
-  -- what goes out leaves the one below it touched
-  pub touched_out : Contains found n → AreTouched v starts (remove found (place - 1)) (touched ++ take 1 (drop place found))
+  -- what goes out leaves the one below it touched, or with the face that is reached above it
+  pub touched_out : Contains found n → AreTouched v starts (remove found (place - 1)) (touched ++ differing starts (face_above (map (sides_at starts) found) (place - 1)) (take 1 (drop place found)))
   touched_out member = record {
-    known = All-touched (λ m. m < length starts) touched found place t.known o.known;
-    begun = All-touched (λ m. left_end (segment_at starts m) ≤ℤ v) touched found place t.begun begun;
+    known = All-touched (λ m. m < length starts) starts reached touched found place t.known o.known;
+    begun = All-touched (λ m. left_end (segment_at starts m) ≤ℤ v) starts reached touched found place t.begun begun;
     covered =
         let above = member_above v starts n found place p o member in
-        let after = touched ++ take 1 (drop place found) in
+        let after = touched ++ more in
         let here : suc (place - 1) ≡ place = omega (arith, above.0) in
         covered_remove (sides_at starts) after 0 found (place - 1) (omega (arith, p.within, above.0))
-        (subst (λ k. (d : ℕ) → k < length found → Contains after (get_or found k d)) (sym here) (touched_at touched found place))
-        (covered_more (sides_at starts) touched after (touched_before touched (take 1 (drop place found))) 0 found t.covered);
+        (subst (λ k. (d : ℕ) → k < length found → ((sides_at starts (get_or found k d)).upper ≡ reached) ⊎ Contains after (get_or found k d)) (sym here) (differing_there starts reached touched found place))
+        (covered_more (sides_at starts) touched after (touched_before touched more) 0 found t.covered);
   }
+    where
+      reached : ℕ
+      reached = face_above (map (sides_at starts) found) (place - 1)
 
-  -- what comes in is touched, and the one below it
-  pub touched_in : n < length starts → crossed_at v starts n ≡ true → AreTouched v starts (insert found place n) ((touched ++ n ∷ []) ++ take 1 (drop place found))
+      more : List ℕ
+      more = differing starts reached (take 1 (drop place found))
+
+  -- and so what comes in, and the one below it
+  pub touched_in : n < length starts → crossed_at v starts n ≡ true
+      → AreTouched v starts (insert found place n) ((touched ++ differing starts (face_above (map (sides_at starts) found) place) (n ∷ [])) ++ differing starts (sides_at starts n).lower (take 1 (drop place found)))
   touched_in short crossed = record {
-    known = All-touched (λ m. m < length starts) (touched ++ n ∷ []) found place (All-append (λ m. m < length starts) touched (n ∷ []) t.known (All-cons (λ m. m < length starts) n [] short (All-nil (λ m. m < length starts)))) o.known;
-    begun = All-touched P (touched ++ n ∷ []) found place (All-append P touched (n ∷ []) t.begun (All-cons P n [] (ends_from_crossed v (segment_at starts n) crossed).0 (All-nil P))) begun;
+    known = All-touched (λ m. m < length starts) starts lower first found place (with_first (λ m. m < length starts) t.known short) o.known;
+    begun = All-touched P starts lower first found place (with_first P t.begun (ends_from_crossed v (segment_at starts n) crossed).0) begun;
     covered =
-        let after = (touched ++ n ∷ []) ++ take 1 (drop place found) in
-        covered_insert (sides_at starts) after n (touched_before (touched ++ n ∷ []) (take 1 (drop place found)) n (Contains-push touched n)) 0 found place p.within
-        (touched_at (touched ++ n ∷ []) found place)
-        (covered_more (sides_at starts) touched after (λ m c. touched_before (touched ++ n ∷ []) (take 1 (drop place found)) m (Contains-append_left touched (n ∷ []) m c)) 0 found t.covered);
+        covered_insert (sides_at starts) (first ++ more) n 0 found place p.within
+        (⊎_elim inl (λ c. inr (touched_before first more n c)) (differing_at starts reached touched n))
+        (differing_there starts lower first found place)
+        (covered_more (sides_at starts) touched (first ++ more) (λ m c. touched_before first more m (Contains-append_left touched (differing starts reached (n ∷ [])) m c)) 0 found t.covered);
   }
     where
       P : ℕ → Type 0
       P m = left_end (segment_at starts m) ≤ℤ v
+
+      reached : ℕ
+      reached = face_above (map (sides_at starts) found) place
+
+      lower : ℕ
+      lower = (sides_at starts n).lower
+
+      first : List ℕ
+      first = touched ++ differing starts reached (n ∷ [])
+
+      more : List ℕ
+      more = differing starts lower (take 1 (drop place found))
+
+      with_first : (Q : ℕ → Type 0) → All Q touched → Q n → All Q first
+      with_first Q h q = All-append Q touched (differing starts reached (n ∷ [])) h (All-filter (λ m. not ((sides_at starts m).upper == reached)) Q (n ∷ []) (All-cons Q n [] q (All-nil Q)))

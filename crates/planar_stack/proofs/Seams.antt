@@ -36,19 +36,21 @@ module _ {A : Type 0} (faces : A → Sides) where
   covered_more touched more further u (x ∷ xs) (next here rest) =
       next (⊎_elim inl (λ c. inr (further x c)) here) (covered_more touched more further (faces x).lower xs rest)
 
-  -- below a touched member any face may be reached
-  touched_head : (touched : List A) (u v : ℕ) (xs : List A) → ((d : A) → 0 < length xs → Contains touched (get_or xs 0 d)) → IsCovered faces touched u xs → IsCovered faces touched v xs
+  -- below a face that the first member has above it any other may be reached, and below any where it is touched
+  touched_head : (touched : List A) (u v : ℕ) (xs : List A) → ((d : A) → 0 < length xs → ((faces (get_or xs 0 d)).upper ≡ v) ⊎ Contains touched (get_or xs 0 d))
+      → IsCovered faces touched u xs → IsCovered faces touched v xs
   touched_head touched u v [] head none = none
-  touched_head touched u v (x ∷ xs) head (next here rest) = next (inr (head x (omega arith))) rest
+  touched_head touched u v (x ∷ xs) head (next here rest) = next (head x (omega arith)) rest
 
-  pub covered_insert : (touched : List A) (x : A) → Contains touched x → (u : ℕ) (xs : List A) (k : ℕ) → k ≤ length xs → ((d : A) → k < length xs → Contains touched (get_or xs k d))
-      → IsCovered faces touched u xs → IsCovered faces touched u (insert xs k x)
-  covered_insert touched x member u xs zero le below h = next (inr member) (touched_head touched u (faces x).lower xs below h)
-  covered_insert touched x member u [] (suc k) le below h = absurd (omega arith)
-  covered_insert touched x member u (y ∷ xs) (suc k) le below (next here rest) =
-      next here (covered_insert touched x member (faces y).lower xs k (omega arith) (λ d l. below d (omega arith)) rest)
+  pub covered_insert : (touched : List A) (x : A) (u : ℕ) (xs : List A) (k : ℕ) → k ≤ length xs → ((faces x).upper ≡ face_reached u (map faces xs) k) ⊎ Contains touched x
+      → ((d : A) → k < length xs → ((faces (get_or xs k d)).upper ≡ (faces x).lower) ⊎ Contains touched (get_or xs k d)) → IsCovered faces touched u xs → IsCovered faces touched u (insert xs k x)
+  covered_insert touched x u xs zero le here below h = next here (touched_head touched u (faces x).lower xs below h)
+  covered_insert touched x u [] (suc k) le here below h = absurd (omega arith)
+  covered_insert touched x u (y ∷ xs) (suc k) le here below (next first rest) =
+      next first (covered_insert touched x (faces y).lower xs k (omega arith) here (λ d l. below d (omega arith)) rest)
 
-  pub covered_remove : (touched : List A) (u : ℕ) (xs : List A) (k : ℕ) → k < length xs → ((d : A) → suc k < length xs → Contains touched (get_or xs (suc k) d))
+  pub covered_remove : (touched : List A) (u : ℕ) (xs : List A) (k : ℕ) → k < length xs
+      → ((d : A) → suc k < length xs → ((faces (get_or xs (suc k) d)).upper ≡ face_reached u (map faces xs) k) ⊎ Contains touched (get_or xs (suc k) d))
       → IsCovered faces touched u xs → IsCovered faces touched u (remove xs k)
   covered_remove touched u [] k short below h = absurd (omega arith)
   covered_remove touched u (x ∷ xs) zero short below (next here rest) = touched_head touched (faces x).lower u xs (λ d l. below d (omega arith)) rest

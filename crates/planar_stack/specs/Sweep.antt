@@ -5,6 +5,7 @@ use Rattle.std.specs.Int.{int_min, int_max}
 use Rattle.std.specs.List.{range_with_len}
 use Rattle.std.specs.Ordering.{int_eq}
 use Rattle.lemmas.specs.Sorting.{is_sorted_by}
+use Rattle.tgap_model.specs.declared.geometry.Seg.{Seg}
 use Rattle.tgap_model.specs.declared.segment.LabelledSegment.{LabelledSegment}
 use Rattle.tgap_model.specs.declared.fault.MapFault.{MapFault}
 use Rattle.tgap_model.specs.declared.fault.MapFault.TheVariants.{StackDisagrees}
@@ -38,6 +39,13 @@ crossed_after v s = crosses (line_after v) s.segment
 -- the first of two segments is higher there
 abbrev pub higher_after : ℤ → LabelledSegment → LabelledSegment → Bool
 higher_after v s t = is_higher (line_after v) s.segment t.segment
+
+-- the least and the greatest ordinate of a segment
+abbrev pub lowest : Seg → ℤ
+lowest s = int_min s.a.y s.b.y
+
+abbrev pub highest : Seg → ℤ
+highest s = int_max s.a.y s.b.y
 
 -- ---- the segments in the order in which they begin
 
@@ -168,6 +176,10 @@ pub data IsCovered {A : Type 0} (faces : A → Sides) (touched : List A) : ℕ �
   none : {u : ℕ} → IsCovered faces touched u []
   next : {u : ℕ} {x : A} {xs : List A} → ((faces x).upper ≡ u) ⊎ Contains touched x → IsCovered faces touched (faces x).lower xs
       → IsCovered faces touched u (x ∷ xs)
+
+-- those of which the upper face is not the one that is reached
+abbrev pub differing : List LabelledSegment → ℕ → List ℕ → List ℕ
+differing starts reached found = filter (λ n. not ((sides_at starts n).upper == reached)) found
 
 -- The touched segments: they begin up to an abscissa, and above all others of the stack the faces agree.
 pub record AreTouched (v : ℤ) (starts : List LabelledSegment) (found touched : List ℕ) : Type 0 where

@@ -47,7 +47,7 @@ pub fn faces(s: &LabelledSegment) -> (u32, u32)
 }
 
 /// The face that is reached from above at a place of a stack.
-fn face_reached(starts: &[LabelledSegment], stack: &Row, place: usize) -> u32
+pub fn face_reached(starts: &[LabelledSegment], stack: &Row, place: usize) -> u32
     requires known { All (λ n. n < length starts.now) stack.now }
     requires within { place ≤ length stack.now }
     ensures { result ≡ face_above (map (sides_at starts.now) stack.now) place }

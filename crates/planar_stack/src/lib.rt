@@ -14,6 +14,7 @@ ghost use Rattle.planar_stack.specs.Sweep.{FacesAgree, disagrees, first_stack_fa
 
 mod events;
 mod gap;
+mod higher;
 mod parts;
 mod scan;
 mod sweep;

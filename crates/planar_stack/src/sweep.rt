@@ -7,34 +7,19 @@ ghost use Rattle.std.specs.Option.{option_map};
 ghost use Rattle.lemmas.specs.Sorting.{insert_by};
 ghost use Rattle.tgap_model.specs.Bounds.{HasNearEnds};
 ghost use Rattle.tgap_model.specs.Partition.{stack_fault_from, agree_from};
-ghost use Rattle.planar_stack.specs.Sweep.{disagrees, left_end as left_of, right_end as right_of, segment_at, sides_at, crossed_at, higher_at, stays_at, AreReady, AreEnds, EndInOrder, IsOrdered, IsPlace, IsActive, HaveEnded, AreLeft, AreTouched, IsFirstOf};
+ghost use Rattle.planar_stack.specs.Sweep.{disagrees, left_end as left_of, right_end as right_of, segment_at, sides_at, crossed_at, higher_at, stays_at, differing, AreReady, AreEnds, EndInOrder, IsOrdered, IsPlace, IsActive, HaveEnded, AreLeft, AreTouched, IsFirstOf};
 ghost use Rattle.planar_stack.specs.Parts.{IsReached};
 
 use crate::events::{End, left_end, right_end};
-use crate::gap::{StackGap, gap_at};
+use crate::gap::{StackGap, face_reached, faces, gap_at};
+use crate::higher::is_higher;
 use crate::scan::first_place;
 use chunked_row::Row;
-use grid_geo::cmp_on_line;
 use std::alloc::Global;
-use std::cmp::Ordering;
 use tgap_model::{LabelledSegment, Memory};
 
 /// To search a tall stack for the place of one member takes the time in which about so many members are looked at.
 const SEARCH: usize = 32;
-
-/// Whether a segment is higher than another one.
-fn is_higher(starts: &[LabelledSegment], number: u32, other: u32, line: i64) -> bool
-    requires near { All (λ s. HasNearEnds s.segment) starts.now }
-    requires known { number < length starts.now }
-    requires crossed { IsTrue (crossed_at line starts.now number) }
-    requires other_known { other < length starts.now }
-    requires other_crossed { IsTrue (crossed_at line starts.now other) }
-    ensures { result ≡ higher_at line starts.now number other }
-{
-    let s = starts[number as usize].segment;
-    let t = starts[other as usize].segment;
-    cmp_on_line(s, t, line) == Ordering::Greater
-}
 
 /// The place of a segment in a stack: above the first segment that it is higher than.
 fn place_of(starts: &[LabelledSegment], stack: &Row, number: u32, line: i64) -> usize
@@ -54,17 +39,41 @@ fn place_of(starts: &[LabelledSegment], stack: &Row, number: u32, line: i64) -> 
     )
 }
 
-/// Touches the segment at a place of a stack, where there is one.
-fn touch(touched: &mut Vec<u32>, stack: &Row, place: usize) -> Result<(), Memory>
-    ensures { IfOk result (λ _. touched.new.items ≡ touched.old.items ++ take 1 (drop place stack.now)) }
+/// Touches a segment, unless its upper face is the one that is reached above it.
+fn touch(
+    starts: &[LabelledSegment],
+    touched: &mut Vec<u32>,
+    number: u32,
+    reached: u32,
+) -> Result<(), Memory>
+    requires known { number < length starts.now }
+    ensures { IfOk result (λ _. touched.new.items ≡ touched.old.items ++ differing starts.now reached (number ∷ [])) }
 {
-    if place < stack.len() {
-        touched.push(stack.at(place))?;
+    if faces(&starts[number as usize]).0 != reached {
+        touched.push(number)?;
     }
     Ok(())
 }
 
-/// Takes a segment out of a stack. The one below it is touched.
+/// Touches the segment at a place of a stack, where there is one, unless its upper face is the one that is reached above
+/// it.
+fn touch_at(
+    starts: &[LabelledSegment],
+    stack: &Row,
+    touched: &mut Vec<u32>,
+    place: usize,
+    reached: u32,
+) -> Result<(), Memory>
+    requires known { All (λ n. n < length starts.now) stack.now }
+    ensures { IfOk result (λ _. touched.new.items ≡ touched.old.items ++ differing starts.now reached (take 1 (drop place stack.now))) }
+{
+    if place < stack.len() {
+        touch(starts, touched, stack.at(place), reached)?;
+    }
+    Ok(())
+}
+
+/// Takes a segment out of a stack. The one below it is touched, unless it has the face that is reached then.
 fn take_out(
     starts: &[LabelledSegment],
     stack: &mut Row,
@@ -80,12 +89,15 @@ fn take_out(
     ensures touched { IfOk result (λ _. AreTouched line starts.now stack.new touched.new.items) }
 {
     let below = place_of(starts, stack, number, line);
-    touch(touched, stack, below)?;
-    stack.remove(below - 1);
+    let place = below - 1;
+    let reached = face_reached(starts, stack, place);
+    touch_at(starts, stack, touched, below, reached)?;
+    stack.remove(place);
     Ok(())
 }
 
-/// Puts a segment into a stack. It is touched, and the one below it.
+/// Puts a segment into a stack. It is touched, and the one below it, unless they have the faces that are reached above
+/// them.
 fn put_in(
     starts: &[LabelledSegment],
     stack: &mut Row,
@@ -102,8 +114,9 @@ fn put_in(
     ensures touched { IfOk result (λ _. AreTouched line starts.now stack.new touched.new.items) }
 {
     let place = place_of(starts, stack, number, line);
-    touched.push(number)?;
-    touch(touched, stack, place)?;
+    touch(starts, touched, number, face_reached(starts, stack, place))?;
+    let lower = faces(&starts[number as usize]).1;
+    touch_at(starts, stack, touched, place, lower)?;
     stack.insert(place, number)?;
     Ok(())
 }

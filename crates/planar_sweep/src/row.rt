@@ -19,6 +19,22 @@ pub fn is_next(segs: &[Seg], upper: u32, lower: u32) -> bool
     stands_over(segs[upper as usize], segs[lower as usize])
 }
 
+/// Whether the first segment is over the second, where they are at one abscissa: what has no point below the highest one
+/// of the other is over it, and what has all points below the lowest one is not. So `is_over` tells there too, by side
+/// tests, which are asked where the ordinates do not tell.
+fn is_over_at_line(s: Seg, t: Seg) -> bool
+    requires s { IsReady s }
+    requires t { IsReady t }
+{
+    if t.a.y.max(t.b.y) <= s.a.y.min(s.b.y) {
+        return true;
+    }
+    if s.a.y.max(s.b.y) < t.a.y.min(t.b.y) {
+        return false;
+    }
+    is_over(s, t)
+}
+
 /// The place in the row below those that are over the segment.
 pub fn place_of(segs: &[Seg], row: &Row, number: u32) -> usize
     requires ready { All (λ s. IsReady s) segs.now }
@@ -31,7 +47,7 @@ pub fn place_of(segs: &[Seg], row: &Row, number: u32) -> usize
             requires ready { All (λ s. IsReady s) segs.now }
             requires number { number < length segs.now }
             requires other { other < length segs.now }
-        { is_over(segs[other as usize], segs[number as usize]) },
+        { is_over_at_line(segs[other as usize], segs[number as usize]) },
     )
 }
 

@@ -1,7 +1,7 @@
 use Rattle.std.proofs.Common.{◌≡◌, ◌+◌, ◌-◌, ◌<◌, [], take, length, get_or, sym, ap, ◌∙◌, arith}
 use Rattle.std.specs.List.{concat}
 use Rattle.std.proofs.lemmas.List.{take_rest, length-drop, get_or-drop}
-use Rattle.chunked_row.proofs.Joined.{chunk_at, joined_within, joined_get}
+use Rattle.chunked_row.proofs.Joined.{joined_within, joined_get}
 use Rattle.chunked_row.proofs.edits.run_of.Goals as goal
 
 pub returns-clause-within : goal.returns-clause-within
@@ -10,7 +10,7 @@ returns-clause-within c =
     let s = c.spot_of-spot.result in
     let e = c.spot_of-spot.ensures in
     let read = c.as_slice.result.now in
-    let here = ap length (c.as_slice.ensures ∙ chunk_at xss s.chunk c.index-chunks-spot.result e.chunk c.index-chunks-spot.is) in
+    let here = ap length (c.as_slice.ensures ∙ c.get.ensures) in
     let behind : 0 < s.index = e.behind (omega arith) in
     let rest = ap length (take_rest read (s.index - 1)) in
     omega (arith, rest, length-drop (s.index - 1) read, here, behind, e.before, e.index, joined_within xss s.chunk e.chunk)
@@ -21,7 +21,7 @@ returns-clause-numbers c = λ k d l.
     let s = c.spot_of-spot.result in
     let e = c.spot_of-spot.ensures in
     let read = c.as_slice.result.now in
-    let here = c.as_slice.ensures ∙ chunk_at xss s.chunk c.index-chunks-spot.result e.chunk c.index-chunks-spot.is in
+    let here = c.as_slice.ensures ∙ c.get.ensures in
     let i = s.index - 1 in
     let behind : 0 < s.index = e.behind (omega arith) in
     let rest = ap length (take_rest read i) in

@@ -1,7 +1,7 @@
-use Rattle.std.proofs.Common.{◌≡◌, ◌++◌, ℤ, ℕ, List, take, drop, to_z, of_z, sym, ap, ◌∙◌, subst, subst₂, arith}
+use Rattle.std.proofs.Common.{◌≡◌, ◌++◌, ℤ, ℕ, List, [], ◌∷◌, take, drop, to_z, of_z, sym, ap, ap₂, ◌∙◌, subst, subst₂, arith}
 use Rattle.std.specs.Int.{w64}
 use Rattle.std.proofs.lemmas.Int.{ints}
-use Rattle.planar_stack.specs.Sweep.{IsPlace, AreTouched}
+use Rattle.planar_stack.specs.Sweep.{differing, IsPlace, AreTouched}
 use Rattle.planar_stack.proofs.Ordered.{place-insert, touched_in}
 use Rattle.planar_stack.proofs.sweep.put_in.Goals as goal
 
@@ -24,6 +24,7 @@ returns-clause-touched c =
     let place = c.place_of-place.result in
     let e : to_z w64 (of_z w64 v) ≡ v = omega (arith, ints) in
     let p = subst (λ (z : ℤ). IsPlace z starts c.args.number stack place) e c.place_of-place.ensures in
-    let more = c.in_ok-touch.ensures ∙ ap (λ (ts : List ℕ). ts ++ take 1 (drop place stack)) c.in_ok-push.ensures.items in
+    let first = c.in_ok-touch.ensures ∙ ap (λ (u : ℕ). touched ++ differing starts u (c.args.number ∷ [])) c.face_reached.ensures in
+    let more = c.in_ok-touch_at.ensures ∙ ap₂ (λ (ts : List ℕ) (u : ℕ). ts ++ differing starts u (take 1 (drop place stack))) first c.faces-lower.ensures.lower in
     subst₂ (λ (ns ts : List ℕ). AreTouched v starts ns ts) (sym c.in_ok-insert.ensures) (sym more)
     (touched_in v starts c.args.number stack touched place p c.requires.ordered c.requires.touched c.requires.known c.requires.crossed)
