@@ -2,7 +2,12 @@ pub mod Digits
 pub mod Chains
 pub mod HeadLaws
 pub mod Paths
+pub mod Parts
 pub mod Seeking
+pub mod Fitting
+pub mod Walking
 pub mod TableLaws
+pub mod TableForms
+pub mod TableFinds
 pub mod ReplyLines
 pub mod Examples

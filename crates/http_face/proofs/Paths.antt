@@ -1,12 +1,11 @@
--- The path of a target, and its parameters.
-use Rattle.std.proofs.Common.{◌≡◌, ◌≢◌, ℕ, suc, ◌+◌, ◌-◌, ◌<◌, ◌==◌, Bool, true, false, nat_lt, List, ◌∷◌, length, take, get_or, slice_range, refl, sym, ap, ◌∙◌, arith, ne_eqb, eq-eqb, IsUtf8}
+-- The path of a target.
+use Rattle.std.proofs.Common.{◌≡◌, ◌≢◌, ℕ, ◌-◌, ◌<◌, ◌==◌, Bool, true, false, List, length, take, get_or, slice_range, refl, sym, ap, ◌∙◌, arith, ne_eqb, eq-eqb, IsUtf8}
 use Rattle.std.proofs.lemmas.List.{take_all}
 use Rattle.std.proofs.lemmas.List.Sums.{position_or_len_is}
-use Rattle.line_forms.specs.Words.{Row}
 use Rattle.std.specs.Str.{is_utf8}
 use Rattle.std.proofs.lemmas.Str.{is_utf8-from_IsUtf8, IsUtf8-from_is_utf8}
 use Rattle.http_face.specs.declared.request.Route.TheVariants.{NoRoute}
-use Rattle.http_face.specs.Routes.{path_of, are_parameters, route_of, route_of_path}
+use Rattle.http_face.specs.Routes.{path_of, route_of, route_of_path}
 
 -- the path ends before the first question mark
 pub path_to : (target : List ℕ) (end : ℕ) → (end < length target) × (get_or target end 0 ≡ 63) × ((i : ℕ) → i < end → get_or target i 0 ≢ 63) → slice_range target 0 end ≡ path_of target
@@ -21,14 +20,6 @@ path_whole target h =
     ap (λ n. take n target)
     (position_or_len_is (λ b. b == 63) target (length target) 0 (omega arith) (λ i lt. ne_eqb (get_or target i 0) 63 (h i lt)) (λ (lt : length target < length target). absurd (omega arith)))
     ∙ take_all (length target) target (omega arith)
-
--- one parameter fewer
-pub next_parameter : (n i : ℕ) (parameters rest : Row) (p : List ℕ) → i < n → parameters ≡ p ∷ rest → (length p == 0) ≡ false
-    → are_parameters (n - i) parameters ≡ are_parameters (n - (i + 1)) rest
-next_parameter n i parameters rest p lt first some =
-    let left : n - i ≡ suc (n - (i + 1)) = omega arith in
-    let has : nat_lt 0 (length p) ≡ true = grind arith in
-    rw (left, first, has) refl
 
 -- bytes that are UTF-8 have a path
 pub text_route : (method target : List ℕ) → IsUtf8 target → route_of_path method (path_of target) ≡ route_of method target

@@ -63,7 +63,7 @@ last_parameter {K} b p e byte whole =
     let fewer : length (b ∷ p) - 1 ≡ length p = omega arith in
     rw (other, seek-nothing {K = K} 0 p, whole, fewer, seek-all p (([], e) ∷ [])) refl
 
-segment_to : (p rest : List ℕ) → has_slash p ≡ false → segment (p ++ 47 ∷ rest) ≡ p ++ 47 ∷ []
+pub segment_to : (p rest : List ℕ) → has_slash p ≡ false → segment (p ++ 47 ∷ rest) ≡ p ++ 47 ∷ []
 segment_to [] rest h = refl
 segment_to (b ∷ p) rest h = by (segment_to p rest) (b == 47) refl h
   where

@@ -1,5 +1,5 @@
 -- The row of a path, by the router and by the table.
-use Rattle.std.proofs.Common.{◌≡◌, ℕ, zero, suc, if◌then◌else◌, true, codes, Fits, w8, List, [], ◌∷◌, ◌++◌, length, get_or, Option, Some, None, option_map, refl, sym, ap, ◌∙◌, subst, arith}
+use Rattle.std.proofs.Common.{◌≡◌, ℕ, zero, suc, if◌then◌else◌, true, codes, Fits, w8, List, [], ◌∷◌, ◌++◌, length, get_or, Option, Some, None, refl, sym, ap, ◌∙◌, subst, arith}
 use Rattle.std.specs.List.{join_with_byte}
 use Rattle.std.proofs.lemmas.Bool.{and_parts}
 use Rattle.std.proofs.lemmas.Option.{cond_some}
@@ -39,32 +39,37 @@ topo_rows : after (codes "/topo/") the_rows ≡ (256 ∷ [], entry (codes "/topo
 unfolding the_rows matchit_on_literals
 topo_rows = refl
 
-values : ((entry (codes "/pin/{seen}") resource.PinSeen).value ≡ resource.PinSeen) × ((entry (codes "/slice/{step}") resource.Slice).value ≡ resource.Slice)
-    × ((entry (codes "/packet/{from}/{to}") resource.Packet).value ≡ resource.Packet)
-    × ((entry (codes "/window/{step}/{x0}/{y0}/{x1}/{y1}") resource.Window).value ≡ resource.Window)
-    × ((entry (codes "/topo/{step}") resource.Topo).value ≡ resource.Topo)
-unfolding matchit_on_literals
-values = (refl, refl, refl, refl, refl)
-
 -- ---- the rows of whole paths
 
-abbrev pub found_value : Option (RouteOf Resource) → Option Resource
-found_value e = option_map (λ x. x.value) e
+-- the text of each row
+abbrev pub route_text : Resource → List ℕ
+route_text resource.Info = codes "/info"
+route_text resource.Pin = codes "/pin"
+route_text resource.PinSeen = codes "/pin/{seen}"
+route_text resource.Slice = codes "/slice/{step}"
+route_text resource.Packet = codes "/packet/{from}/{to}"
+route_text resource.Window = codes "/window/{step}/{x0}/{y0}/{x1}/{y1}"
+route_text resource.Topo = codes "/topo/{step}"
+route_text resource.Edit = codes "/edit"
 
-words : (found_value (first the_rows (codes "/info")) ≡ Some resource.Info) × (found_value (first the_rows (codes "/pin")) ≡ Some resource.Pin)
-    × (found_value (first the_rows (codes "/edit")) ≡ Some resource.Edit)
+-- what the router says of each row
+abbrev pub entry_for : Resource → RouteOf Resource
+entry_for r = entry (route_text r) r
+
+words : (first the_rows (codes "/info") ≡ Some (entry_for resource.Info)) × (first the_rows (codes "/pin") ≡ Some (entry_for resource.Pin))
+    × (first the_rows (codes "/edit") ≡ Some (entry_for resource.Edit))
 unfolding the_rows matchit_on_literals
 words = (refl, refl, refl)
 
 -- parameters after a front of which one row is left
 with_parameters : (front : List ℕ) (p : List ℕ) (parameters : Row) (e : RouteOf Resource) → after front the_rows ≡ (slots parameters, e) ∷ []
     → AllParts (p ∷ parameters) → are_parameters (length (p ∷ parameters)) (p ∷ parameters) ≡ true
-    → found_value (first the_rows (front ++ join_with_byte 47 (p ∷ parameters))) ≡ Some e.value
+    → first the_rows (front ++ join_with_byte 47 (p ∷ parameters)) ≡ Some e
 with_parameters front p parameters e left parts some =
-    ap found_value (found_after front the_rows (join_with_byte 47 (p ∷ parameters)) e (rw left (found_parameters p parameters e parts some)))
+    found_after front the_rows (join_with_byte 47 (p ∷ parameters)) e (rw left (found_parameters p parameters e parts some))
 
 -- as many parameters as are asked for
-count_is : (n : ℕ) (parameters : Row) → are_parameters n parameters ≡ true → length parameters ≡ n
+pub count_is : (n : ℕ) (parameters : Row) → are_parameters n parameters ≡ true → length parameters ≡ n
 count_is zero [] some = refl
 count_is zero (p ∷ parameters) some = absurd cc
 count_is (suc n) [] some = absurd cc
@@ -72,15 +77,15 @@ count_is (suc n) (p ∷ parameters) some = ap suc (count_is n parameters (and_pa
 
 -- a path of a row of the table is found there
 pub row_found : (r : Resource) (parameters : Row) → AllParts parameters → are_parameters (parameter_count r) parameters ≡ true
-    → found_value (first the_rows (join_with_byte 47 ([] ∷ word_of r ∷ parameters))) ≡ Some r
+    → first the_rows (join_with_byte 47 ([] ∷ word_of r ∷ parameters)) ≡ Some (entry_for r)
 row_found resource.Info [] parts some = words.0
 row_found resource.Pin [] parts some = words.1
 row_found resource.Edit [] parts some = words.2
-row_found resource.PinSeen (p ∷ []) parts some = with_parameters (codes "/pin/") p [] _ pin_rows parts some ∙ ap Some values.0
-row_found resource.Slice (p ∷ []) parts some = with_parameters (codes "/slice/") p [] _ slice_rows parts some ∙ ap Some values.1
-row_found resource.Packet (p ∷ q ∷ []) parts some = with_parameters (codes "/packet/") p (q ∷ []) _ packet_rows parts some ∙ ap Some values.2
-row_found resource.Window (s ∷ a ∷ b ∷ c ∷ d ∷ []) parts some = with_parameters (codes "/window/") s (a ∷ b ∷ c ∷ d ∷ []) _ window_rows parts some ∙ ap Some values.3
-row_found resource.Topo (p ∷ []) parts some = with_parameters (codes "/topo/") p [] _ topo_rows parts some ∙ ap Some values.4
+row_found resource.PinSeen (p ∷ []) parts some = with_parameters (codes "/pin/") p [] _ pin_rows parts some
+row_found resource.Slice (p ∷ []) parts some = with_parameters (codes "/slice/") p [] _ slice_rows parts some
+row_found resource.Packet (p ∷ q ∷ []) parts some = with_parameters (codes "/packet/") p (q ∷ []) _ packet_rows parts some
+row_found resource.Window (s ∷ a ∷ b ∷ c ∷ d ∷ []) parts some = with_parameters (codes "/window/") s (a ∷ b ∷ c ∷ d ∷ []) _ window_rows parts some
+row_found resource.Topo (p ∷ []) parts some = with_parameters (codes "/topo/") p [] _ topo_rows parts some
 row_found r parameters parts some = absurd (omega (arith, count_is (parameter_count r) parameters some))
 
 -- ---- the row that the table gives
@@ -108,15 +113,26 @@ found_is (x ∷ rows) segments r parameters h = by (found_is rows segments r par
         let pair : ◌≡◌ {A = Resource × Row} (x, ps) (r, parameters) = cc in
         ap (λ z. parameters_of z.0 segments) (sym pair) ∙ e ∙ ap (λ z. Some z.1) pair
 
-text_of : (bytes : List ℕ) → ((i : ℕ) → Fits w8 (get_or bytes i 0)) → IsText bytes
+-- the path of a row, with its parameters
+pub record IsPath (r : Resource) (parameters : Row) (path : List ℕ) : Type 0 where
+  pub joined : path ≡ join_with_byte 47 ([] ∷ word_of r ∷ parameters)
+  pub parts : AllParts parameters
+  pub some : are_parameters (parameter_count r) parameters ≡ true
+
+pub path_is : (path : List ℕ) (r : Resource) (parameters : Row) → IsText path → find_in resources (segments_of path) ≡ Some (r, parameters) → IsPath r parameters path
+path_is path r parameters text h =
+    let form = form_of r (segments_of path) parameters (found_is resources (segments_of path) r parameters h) in
+    let parts = subst AllParts form.0 (split_parts path text) in
+    record {
+      joined = sym (join_with_byte-slice_split 47 path) ∙ ap (join_with_byte 47) form.0;
+      parts = parts.2.2;
+      some = form.1;
+    }
+
+pub text_of : (bytes : List ℕ) → ((i : ℕ) → Fits w8 (get_or bytes i 0)) → IsText bytes
 text_of [] h = tt
 text_of (b ∷ bytes) h = let byte = h 0 in (omega arith, text_of bytes (λ i. h (suc i)))
 
 -- the router finds the row that the table gives
-pub routed : (path : List ℕ) (r : Resource) (parameters : Row) → ((i : ℕ) → Fits w8 (get_or path i 0)) → find_in resources (segments_of path) ≡ Some (r, parameters)
-    → found_value (first the_rows path) ≡ Some r
-routed path r parameters bytes h =
-    let form = form_of r (segments_of path) parameters (found_is resources (segments_of path) r parameters h) in
-    let parts = subst AllParts form.0 (split_parts path (text_of path bytes)) in
-    let whole : path ≡ join_with_byte 47 ([] ∷ word_of r ∷ parameters) = sym (join_with_byte-slice_split 47 path) ∙ ap (join_with_byte 47) form.0 in
-    ap (λ p. found_value (first the_rows p)) whole ∙ row_found r parameters parts.2.2 form.1
+pub routed : (path : List ℕ) (r : Resource) (parameters : Row) → IsPath r parameters path → first the_rows path ≡ Some (entry_for r)
+routed path r parameters h = ap (first the_rows) h.joined ∙ row_found r parameters h.parts h.some

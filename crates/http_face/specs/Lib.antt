@@ -4,3 +4,4 @@ pub mod Asks
 pub mod Replies
 pub mod Found
 pub mod Table
+pub mod Parameters

@@ -1,12 +1,13 @@
 //! The server's side of HTTP/1.1: how the head of a request is read, what its method and target ask for, and the bytes of
-//! a reply. It stands on `httparse`, which reads heads, on `matchit`, which finds the route of a path, and on `plain_io`,
-//! which cuts texts into pieces and reads numbers.
+//! a reply. It stands on `httparse`, which reads heads, on `matchit`, which finds the route of a path and takes its
+//! parameters, and on `plain_io`, which cuts the values of headers and reads numbers.
 #![tactic(auto)]
 
 mod fixed_text;
 mod framing;
 mod head;
 mod head_reading;
+mod parameters;
 mod reply;
 mod request;
 mod routing;

@@ -1,7 +1,7 @@
 //! What a request may ask for.
 
 ghost use Rattle.std.specs.Prelude.{◌≡◌};
-ghost use Rattle.http_face.specs.Routes.{word_of, parameter_count, method_of, method_word};
+ghost use Rattle.http_face.specs.Routes.{method_of, method_word};
 
 use tgap_model::Window;
 
@@ -65,33 +65,6 @@ pub(crate) enum Resource {
 }
 
 impl Resource {
-    /// The first word of the path.
-    pub(crate) fn word(self) -> &'static str
-        ensures { result.now ≡ word_of self }
-    {
-        match self {
-            Resource::Info => "info",
-            Resource::Pin | Resource::PinSeen => "pin",
-            Resource::Slice => "slice",
-            Resource::Packet => "packet",
-            Resource::Window => "window",
-            Resource::Topo => "topo",
-            Resource::Edit => "edit",
-        }
-    }
-
-    /// How many parameters follow, each after a slash.
-    pub(crate) fn parameter_count(self) -> usize
-        ensures { result ≡ parameter_count self }
-    {
-        match self {
-            Resource::Info | Resource::Pin | Resource::Edit => 0,
-            Resource::PinSeen | Resource::Slice | Resource::Topo => 1,
-            Resource::Packet => 2,
-            Resource::Window => 5,
-        }
-    }
-
     /// The method that it takes.
     pub(crate) fn method(self) -> Allow
         ensures { result ≡ method_of self }

@@ -1,12 +1,12 @@
 //! The table of routes, by which a path is looked up.
 
-ghost use Rattle.std.specs.Prelude.{◌≡◌, Some, IfOk, OnOk};
-ghost use Rattle.line_forms.specs.Words.{Row};
+ghost use Rattle.std.specs.Prelude.{◌≡◌, Some, None, IfOk, IfSome, IfNone, OnOk};
+ghost use Rattle.http_face.specs.Parameters.{taken, AreTexts};
 ghost use Rattle.http_face.specs.Routes.{find_in, resources, segments_of};
 ghost use Rattle.http_face.specs.Table.{HasPlace, the_rows, with_row};
 
 use crate::request::Resource;
-use matchit::{InsertError, Router};
+use matchit::{InsertError, Match, Router};
 use std::alloc::Global;
 use tgap_model::Memory;
 
@@ -24,15 +24,13 @@ impl Routes {
         Ok(Routes { router })
     }
 
-    /// The row that a path is of; for a path of no row it may be any.
-    pub(crate) fn resource_at(&self, path: &str) -> Option<Resource>
-        ensures { (r : Resource) (parameters : Row) → find_in resources (segments_of path.now) ≡ Some (r, parameters)
-            → result ≡ Some r }
+    /// The row that a path is of, with the parameters that the path has there, each of which is UTF-8.
+    pub(crate) fn find<'r, 'p>(&'r self, path: &'p str) -> Option<Match<'r, 'p, &'r Resource>>
+        ensures row { IfSome result (λ found. find_in resources (segments_of path.now) ≡ Some (found.value.now, taken found.params)) }
+        ensures texts { IfSome result (λ found. AreTexts (taken found.params)) }
+        ensures none { IfNone result (find_in resources (segments_of path.now) ≡ None) }
     {
-        match self.router.at(path) {
-            Ok(found) => Some(*found.value),
-            Err(_) => None,
-        }
+        self.router.at(path).ok()
     }
 }
 
