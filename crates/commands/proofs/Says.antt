@@ -36,6 +36,12 @@ borders_done m k steps text is same within e =
     let last : k ≤ length (history_of m) = subst (λ (s : List MergeStep). k ≤ length s) same within in
     ((steps, is, within, e), rw (le-ltb (length (history_of m)) k last) (ap Done (e ∙ ap words same)), tt)
 
+-- memory is wanting
+pub memory_wanting : (P : Outcome → Type 0) (computed : Outcome) (r : Result (List ℕ) Outcome) → IsErrAnd r (λ o. o ≡ OutOfMemory)
+    → IsEither P computed (outcome_from r)
+memory_wanting P computed (Ok text) same = absurd same
+memory_wanting P computed (Err o) same = inl same
+
 -- a map that is refused by its check
 pub refused_is : (m : BaseMap) (e : Or MapFault) (r : Result (List ℕ) Outcome) → IsErrAnd r (λ o. o ≡ refusal e)
     → (let told : Or MapFault → Result BaseMap (Or MapFault) = λ x. Err x in

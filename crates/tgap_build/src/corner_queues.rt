@@ -1,7 +1,7 @@
 //! The corners of the edges, by their labels, while the history is run. By them a step finds the edges of which it
 //! may remove a vertex, and looks at no other one that borders its new face.
 
-ghost use Rattle.std.specs.Prelude.{◌≡◌, ◌<◌, ◌≤◌, ◌++◌, ◌∷◌, [], ℕ, Some, true, List as Sequence, filter, length, replicate, All, AllPairs, Contains, IfOk, OnOk, IsTrue};
+ghost use Rattle.std.specs.Prelude.{◌≡◌, ◌<◌, ◌≤◌, ◌++◌, ◌∷◌, [], ℕ, Some, true, List as Sequence, filter, length, replicate, All, AllPairs, Contains, IfOk, IfSome, IsSome, OnOk, IsTrue};
 ghost use Rattle.tgap_model.specs.declared.slice.Edge.{Edge as Line};
 ghost use Rattle.tgap_model.specs.Base.{in_limits};
 ghost use Rattle.tgap_model.specs.Removals.{has_side};
@@ -16,6 +16,9 @@ use crate::edge_table::EdgeTable;
 use std::alloc::Global;
 use tgap_model::{Edge, Memory, Point};
 use vertex_drop::least_corner;
+
+/// A row of more points is long.
+const LONG: usize = 64;
 
 /// For each label a queue of corners, in which each edge that has the label, and three points in a row, has an entry
 /// whose area is at most that of its least corner. A queue may have entries of other edges, of edges that ended, and
@@ -66,8 +69,20 @@ fn corner_beside(edges: &EdgeTable, label: u32, key: u32) -> Option<u128>
     }
 }
 
+/// An area that is at most that of the least corner of these points, where they have one. It is that area itself, but for
+/// a long row 0: such a row is read only when a step asks for its corners, and not each time that it grows.
+fn least_bound(points: &[Point]) -> Option<u128>
+    requires { All (λ p. IsTrue (in_limits p)) points.now }
+    ensures { (n : ℕ) → least_corner points.now ≡ Some n → IsSome result × IfSome result (λ area. area ≤ n) }
+{
+    if points.len() > LONG {
+        return Some(0);
+    }
+    least_area(points)
+}
+
 impl CornerQueues {
-    /// The queues of all edges of a table, in the time of their points.
+    /// The queues of all edges of a table, in the time of a few points of each.
     pub fn of(alloc: Global, edges: &EdgeTable) -> Result<CornerQueues, Memory>
         requires table { IsTable edges.now }
         requires live { AreLive (labelled_edges edges.now) }
@@ -93,7 +108,7 @@ impl CornerQueues {
         Ok(())
     }
 
-    /// Puts the least corner of an edge in at both its labels.
+    /// Puts a bound of the least corner of an edge in at both its labels.
     fn put_edge(&mut self, edge: &Edge) -> Result<(), Memory>
         requires near { All (λ p. IsTrue (in_limits p)) edge.now.points }
         requires left { edge.now.left < length self.old.queues.items }
@@ -102,7 +117,7 @@ impl CornerQueues {
         ensures others { OnOk result (TellAsMuch self.old.queues.items self.new.queues.items) }
         ensures room { OnOk result (length self.new.queues.items ≡ length self.old.queues.items) }
     {
-        let Some(area) = least_area(edge.points.as_slice()) else {
+        let Some(area) = least_bound(edge.points.as_slice()) else {
             return Ok(());
         };
         let entry = Entry {
@@ -114,7 +129,7 @@ impl CornerQueues {
         Ok(())
     }
 
-    /// Puts the least corner of the edge with a key in, if there is one.
+    /// Puts a bound of the least corner of the edge with a key in, if there is one.
     fn put(&mut self, edges: &EdgeTable, key: u32) -> Result<(), Memory>
         requires table { IsTable edges.now }
         requires live { AreLive (labelled_edges edges.now) }
@@ -129,7 +144,7 @@ impl CornerQueues {
         Ok(())
     }
 
-    /// Puts the least corners of the edges with these keys in, in the time of their points.
+    /// Puts bounds of the least corners of the edges with these keys in, in the time of a few points of each.
     fn put_all(&mut self, edges: &EdgeTable, keys: &[u32]) -> Result<(), Memory>
         requires table { IsTable edges.now }
         requires live { AreLive (labelled_edges edges.now) }
@@ -265,8 +280,8 @@ pub fn candidates(
     Ok(keys)
 }
 
-/// Brings the queues up to the edges of a table, where there are some, in the time of the points of the edges with
-/// these keys, which are new, have another label or lost points.
+/// Brings the queues up to the edges of a table, where there are some, in the time of a few points of each edge with
+/// one of these keys, which are new, have another label or lost points.
 pub fn requeue(
     edges: &EdgeTable,
     corners: &mut Option<CornerQueues>,

@@ -124,11 +124,12 @@ fn forest_of(
 }
 
 /// A checked map with its merge history, which is made here, as the tree of its faces, the forest of its edges with their boxes,
-/// and the record of each step. It fails on want of memory alone.
+/// and the record of each step. From then on other maps can hold its arcs too. It fails on want of memory alone.
 pub fn build<R: Threads + Sync>(rt: &R, alloc: Global, checked: Checked) -> Result<Built, Memory>
     // It is the same map.
     ensures { IfOk result (λ built. built ≡ checked) }
 {
+    let checked = checked.into_shared(alloc)?;
     let (steps, areas) = history_with_areas(rt, alloc, checked.base())?;
     let tree = FaceTree::of(alloc, checked.base(), &steps)?;
     let (forest, records) = forest_of(alloc, checked, &tree, steps.as_slice(), areas.as_slice())?;

@@ -332,7 +332,7 @@ impl LiveEdges {
 
     /// Brings the edges up to step number k, which the forest has made. The forest had the first `old` edges before.
     /// The time is that of the loser's edges, and of the points of the new ones but for the first part of each; where
-    /// there are queues of corners, it is that of the points of all edges that it tells.
+    /// there is a look-up of segments, it is that of the points of all edges that it tells.
     pub fn merge(
         &mut self,
         alloc: Global,

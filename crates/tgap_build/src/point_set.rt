@@ -12,6 +12,9 @@ use std::alloc::Global;
 use std::marker::Model;
 use tgap_model::{List, Memory, Point, Removal};
 
+/// Up to so many points are compared one after the other, which is quicker than a search.
+const FEW: usize = 8;
+
 /// Points in ascending order, each once.
 #[derive(Debug, Drop)]
 pub struct PointSet {
@@ -42,6 +45,18 @@ fn points_of(alloc: Global, removals: &[Removal]) -> Result<Vec<Point>, Memory>
     Ok(points)
 }
 
+/// Whether a point is one of these, by looking at one after the other.
+fn is_among(points: &[Point], point: &Point) -> bool
+    ensures { result ≡ has_point points.now point.now }
+{
+    for other in points {
+        if other == point {
+            return true;
+        }
+    }
+    false
+}
+
 impl PointSet {
     /// The set of the points of these removals.
     pub fn of(alloc: Global, removals: &[Removal]) -> Result<PointSet, Memory>
@@ -65,6 +80,9 @@ impl PointSet {
     pub fn holds(&self, point: &Point) -> bool
         ensures { result ≡ has_point self.now point.now }
     {
+        if self.points.len() <= FEW {
+            return is_among(&self.points, point);
+        }
         self.place_of(point).is_some()
     }
 
