@@ -219,6 +219,18 @@ def bent_row(cells):
     return counted(cells + 1, along(cells, True, False))
 
 
+def coast(cells):
+    """The same row, far larger, whose outer side is a zigzag of twelve points a cell that stay, and one that goes. So each step
+    lengthens one border with very many points, and takes one of them out."""
+    faces, arcs = cells + 1, []
+    for left, right, points in along(cells, False, False):
+        (x, y), *_ = points = [(16 * u, 64 * v) for u, v in points]
+        if left == 0 and len(points) == 2 and points[1][1] == y and y > 640:
+            points[1:1] = [(x + 18 * i, y + 20 * (i % 2)) for i in range(1, 13)] + [(x + 236, y + 1)]
+        arcs.append((left, right, points))
+    return counted(faces, arcs)
+
+
 def river(cells):
     """A long face, and on either side of it a row of parcels."""
     return counted(2 * cells + 1, along(cells, False, True))
@@ -307,6 +319,7 @@ SHAPES = {
     "drawn islands": (islands, 16, [25, 35, 50, 71, 100, 141, 161, 181]),
     "row": (row, 0, [341, 682, 1363, 2728, 5459, 10920, 21843]),
     "bent row": (bent_row, 16, [341, 682, 1363, 2728, 5459, 10920, 18700]),
+    "coast": (coast, 1000, [125, 250, 500, 1000, 2000, 4000, 8000, 16000, 27500]),
     "river": (river, 0, [312, 625, 1250, 2500, 5000, 10000]),
     "nested rings": (nested_rings, 0, [625, 1250, 2500, 5000, 10000, 20000, 26000]),
 }
