@@ -1,6 +1,7 @@
 """The program with a front server before it, as the tests of deploy/ want them: nginx with deploy/nginx.conf, in which
 ports and folders are exchanged, and examples/web/run as it stands."""
 import base64
+import contextlib
 import http.client
 import os
 import pathlib
@@ -68,10 +69,14 @@ class Program(lib.Server):
     def __init__(self, executable, words, workers=4, versions=16, under=()):
         super().__init__(executable, words[0], workers, versions, words[1:], under)
 
-    def limit_address_space(self):
-        """Lets it have no more than it has."""
+    @contextlib.contextmanager
+    def limited_address_space(self):
+        """Lets it have no more than it has, for a while."""
         has = int(re.search(r"VmSize:\s+(\d+) kB", pathlib.Path(f"/proc/{self.process.pid}/status").read_text())[1]) << 10
-        resource.prlimit(self.process.pid, resource.RLIMIT_AS, (has, has))
+        before = resource.prlimit(self.process.pid, resource.RLIMIT_AS)
+        resource.prlimit(self.process.pid, resource.RLIMIT_AS, (has, before[1]))
+        yield
+        resource.prlimit(self.process.pid, resource.RLIMIT_AS, before)
 
     def ask(self, method, path, body=None):
         """Past the front server."""

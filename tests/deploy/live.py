@@ -299,11 +299,13 @@ def gone_program(tests, program, front):
 
 def address_space(tests):
     """Where its address space has an end, the program tells an editor that memory is wanting, and lives."""
-    with tempfile.TemporaryDirectory() as room, Program(tests.executable, [written(room, LARGE)], under=ONE_HEAP) as program:
-        # What it has beyond its map was room for the reading of it, and does not hold another version.
-        program.limit_address_space()
-        tests.same("an edit when the address space is at its end", program.ask("POST", "/edit", OWN_BATCH).told, (503, b"memory\n"))
-        tests.same("the program lives", version_of(program.ask("GET", "/info").text), 0)
+    with tempfile.TemporaryDirectory() as room, Program(tests.executable, [written(room, LARGE)], workers=1, under=ONE_HEAP) as program:
+        # The worker has what it serves with from here on; the rest was room for the reading of the map, and does not hold another version.
+        tests.same("the version before", version_of(program.ask("GET", "/info").text), 0)
+        with program.limited_address_space():
+            tests.same("an edit when the address space is at its end", program.ask("POST", "/edit", OWN_BATCH).told, (503, b"memory\n"))
+            tests.same("the program lives", version_of(program.ask("GET", "/info").text), 0)
+        tests.same("the edit when there is room again", program.ask("POST", "/edit", OWN_BATCH).told, (200, b"published 1\n"))
 
 
 def closed_port(tests):
