@@ -65,36 +65,6 @@ any_permuted p xs ys h = by (list_any p xs) refl
 key_any : (edges : List Edge) (e : Edge) → Among e edges → list_any (λ i. i == e.key) (keys edges) ≡ true
 key_any edges e m = any_from (λ i. i == e.key) (keys edges) e.key (among_map (λ (e : Edge). e.key) edges e m) (eq-eqb e.key e.key refl)
 
--- where two lists have the same keys
-pub any_key_same : (xs ys : List ℕ) (i : ℕ) → (Contains xs i → Contains ys i) → (Contains ys i → Contains xs i) → list_any (λ k. k == i) xs ≡ list_any (λ k. k == i) ys
-any_key_same xs ys i to back = by (list_any (λ k. k == i) ys) refl
-  where
-    from : (zs ws : List ℕ) → (Contains zs i → Contains ws i) → list_any (λ k. k == i) zs ≡ true → list_any (λ k. k == i) ws ≡ true
-    from zs ws move t =
-        let k = any_among (λ k. k == i) zs t in
-        let same : k.0 ≡ i = eqb-true k.0 i k.2 in
-        any_from (λ k. k == i) ws i (among_contained ws i (move (subst (Contains zs) same (contained zs k.0 k.1)))) (eq-eqb i i refl)
-
-    by : (b : Bool) → list_any (λ k. k == i) ys ≡ b → list_any (λ k. k == i) xs ≡ b
-    by true e = from ys xs back e
-    by false e = false_from_ne_true (list_any (λ k. k == i) xs) (λ t. true≢false (sym (from xs ys to t) ∙ e))
-
--- ---- an exchange, with the keys in ascending order
-
-pub exchange_ascending : (edges : List Edge) (raw : List ℕ) (come after : List Edge) → IsChange edges raw come after → (gone : List ℕ) → AllPairs (λ (i j : ℕ). i < j) gone
-    → ((i : ℕ) → list_any (λ k. k == i) gone ≡ list_any (λ k. k == i) raw) → IsExchange edges gone come after
-exchange_ascending edges raw come after ex gone ascend same = record {
-  there = all_members (Contains (keys edges)) gone (λ i m.
-      let k = any_among (λ k. k == i) raw (sym (same i) ∙ any_from (λ k. k == i) gone i m (eq-eqb i i refl)) in
-      subst (Contains (keys edges)) (eqb-true k.0 i k.2) (members_all (Contains (keys edges)) raw k.0 ex.there k.1));
-  apart = λ i j d l s e. let less = ascend i j d l s in absurd (omega (arith, less, e));
-  moved = subst (λ (es : List Edge). IsPermutation (es ++ come) after)
-      (filter_agree_on (λ (e : Edge). not (list_any (λ k. k == e.key) raw)) (λ (e : Edge). not (list_any (λ k. k == e.key) gone)) edges
-      (all_members (λ (e : Edge). not (list_any (λ k. k == e.key) raw) ≡ not (list_any (λ k. k == e.key) gone)) edges (λ e m. ap not (sym (same e.key)))))
-      ex.moved;
-  live = ex.live;
-}
-
 module _ (f : EdgeForest) (k old : ℕ) (some : 0 < k) (grown : HasGrown f k old) (faces : FaceLabels) (from to : ℕ) (first left : List Edge) (ascend_first : Ascend first)
     (first_faces : map (faced faces) first ≡ edges_of (merged f.base) (k - 1) (removals_to (merged f.base) (k - 1)) (chains_at (merged f.base) (k - 1)))
     (sides : All (λ e. has_side from e ≡ has_side (step_number (merged f.base) k).loser (faced faces e)) first)
@@ -323,33 +293,6 @@ module _ (f : EdgeForest) (k old : ℕ) (some : 0 < k) (grown : HasGrown f k old
           (AllPairs-filter (λ (c d : Chain). key c < key d) (is_changed h k) (chains_at h k) (λ i j d l u.
           ltb-true _ _ (sorted_pairs (order_by_key key nat_lt_order) (chains_at h k) (λ n d l. tt) (chains_sorted h k (chains_at h k) (chains_exist h k)) i j d l u))))
 
-  -- each key that goes is there
-  chain_key_there : (c : Chain) → Among c finer → Contains (keys first) (key c)
-  chain_key_there c m =
-      let e = map_among (faced faces) first (edge_back c) (subst (Among (edge_back c)) (sym first_faces) (among_map edge_back finer c m)) in
-      subst (Contains (keys first)) (ap (λ (x : Edge). x.key) e.2) (contained (keys first) e.0.key (among_map (λ (x : Edge). x.key) first e.0 e.1))
-
-  edge_key_there : (i : ℕ) (es : List Edge) → ((e : Edge) → Among e es → Among e (map edge_back finer)) → Among i (keys es) → Contains (keys first) i
-  edge_key_there i es sub m =
-      let e = map_among (λ (x : Edge). x.key) es i m in
-      let c = map_among edge_back finer e.0 (sub e.0 e.1) in
-      subst (Contains (keys first)) (ap (λ (x : Edge). x.key) c.2 ∙ e.2) (chain_key_there c.0 c.1)
-
-  key_there : (i : ℕ) → Among i raw → Contains (keys first) i
-  key_there i m = elim (append_among (joined ++ losing) (keys ended) i m) [
-    | inr n ↦ edge_key_there i ended (λ e o. kept_among between (map edge_back finer) e (subst (Among e) ended_is o)) n
-    | inl n ↦ elim (append_among joined losing i n) [
-      | inl o ↦
-          (let b = part_of f k old some grown fresh i (sym (joined_is i) ∙ any_from (λ j. j == i) joined i o (eq-eqb i i refl)) in
-          let here = born_here f k old some grown (length f.edges) (omega arith) b.0 b.1 in
-          let part = run_is_part f.base w.base w.partition k some (within f k old some grown) b.0 here b.2.0 b.2.1 in
-          subst (Contains (keys first)) b.2.2 (chain_key_there (chain_of_run finer b.2.0) (run_member f.base w.base w.partition k some (within f k old some grown) b.2.0 part)))
-      | inr o ↦ edge_key_there i (filter (has_side s.loser) (left_by s (map edge_back finer)))
-          (λ e p. kept_among (λ (e : Edge). not (between e)) (map edge_back finer) e (kept_among (has_side s.loser) (left_by s (map edge_back finer)) e p))
-          (subst (Among i) losing_are o)
-    ]
-  ]
-
   flip : (e : Edge) → comes e ≡ not (remain e)
   flip e = by (comes e)
     where
@@ -357,10 +300,6 @@ module _ (f : EdgeForest) (k old : ℕ) (some : 0 < k) (grown : HasGrown f k old
       by true = refl
       by false = refl
 
-  pub exchanged : AreLive (labelled_edges t) → IsChange first (joined ++ losing ++ keys ended) (edges_at t.places.items (map (λ (o : Made). o.key) made)) (labelled_edges t)
-  exchanged live = record {
-    there = all_members (Contains (keys first)) raw key_there;
-    moved = subst (λ (es : List Edge). IsPermutation es (labelled_edges t)) (ap₂ (λ (xs ys : List Edge). xs ++ ys) remaining coming)
-        (IsPermutation-sym (labelled_edges t) (filter remain (labelled_edges t) ++ filter comes (labelled_edges t)) (IsPermutation-filter_both remain comes flip (labelled_edges t)));
-    live = live;
-  }
+  pub exchanged : IsChange first (joined ++ losing ++ keys ended) (edges_at t.places.items (map (λ (o : Made). o.key) made)) (labelled_edges t)
+  exchanged = subst (λ (es : List Edge). IsPermutation es (labelled_edges t)) (ap₂ (λ (xs ys : List Edge). xs ++ ys) remaining coming)
+      (IsPermutation-sym (labelled_edges t) (filter remain (labelled_edges t) ++ filter comes (labelled_edges t)) (IsPermutation-filter_both remain comes flip (labelled_edges t)))

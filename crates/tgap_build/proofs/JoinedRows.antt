@@ -8,10 +8,10 @@ use Rattle.tgap_model.specs.declared.geometry.Point.{Point}
 use Rattle.tgap_model.specs.declared.record.Piece.{Piece}
 use Rattle.tgap_model.specs.Records.{ends_with_place}
 use Rattle.map_laws.proofs.ChainMembers.{sorted_below}
+use Rattle.point_rope.specs.Rows.{oriented, glued}
 use Rattle.record_laws.specs.PieceLaws.{cut_points}
 use Rattle.record_laws.proofs.Unswept.{cons_head, cons_tail}
 use Rattle.tgap_build.specs.declared.joined.OldEdge.{OldEdge}
-use Rattle.tgap_build.specs.Table.{oriented, glued}
 
 -- ---- rows of a list
 

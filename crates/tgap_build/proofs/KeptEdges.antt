@@ -19,7 +19,7 @@ use Rattle.tgap_build.proofs.EdgesAt.{has_one, has_contained, at_key}
 pub kept_exchange : (places : List (Option Edge)) → AreAtKeys places → (before after : List Edge) (gone come : List ℕ) → IsChange before gone (edges_at places come) after → AreKeptBut come before after
 kept_exchange places keyed before after gone come ex = all_members (λ (e : Edge). Contains before e ⊎ Contains come e.key) after (λ e m.
     let stay = without_keys gone before in
-    let back = Contains-permutation after (stay ++ edges_at places come) e (IsPermutation-sym (stay ++ edges_at places come) after ex.moved) (contained after e m) in
+    let back = Contains-permutation after (stay ++ edges_at places come) e (IsPermutation-sym (stay ++ edges_at places come) after ex) (contained after e m) in
     elim (append_among stay (edges_at places come) e (among_contained (stay ++ edges_at places come) e back)) [
       | inl old ↦ inl (contained before e (kept_among _ before e old))
       | inr new ↦ inr (contained come e.key (at_key places keyed come e new))

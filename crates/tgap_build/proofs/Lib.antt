@@ -22,6 +22,8 @@ pub mod Filters
 pub mod Taken
 pub mod Run
 pub mod PointSets
+pub mod PointsInBoxes
+pub mod Puts
 pub mod Hulls
 pub mod StepFaces
 pub mod OldParts
@@ -48,3 +50,6 @@ pub mod CornerLists
 pub mod SmallAreas
 pub mod KeptEdges
 pub mod LosingEdges
+pub mod Inverses
+pub mod BoxedEdges
+pub mod BoxedTables

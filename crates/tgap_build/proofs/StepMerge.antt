@@ -124,4 +124,4 @@ module _ (f : EdgeForest) (k old : ℕ) (some : 0 < k) (grown : HasGrown f k old
               side_test t0.labels s.loser e (merge_loser f w k some (within f k old some grown) before t0 r s is).1 (record { left = held.left; right = held.right })
               ∙ ap (λ (x : MergeStep). has_side x.loser (faced t0.labels e)) is))
               (labelled ∙ ap (λ (x : MergeStep). map (moved_edge (label_of t0.labels s.loser) (label_of t0.labels s.winner)) (filter (λ e. not (is_edge_between x.loser x.winner (faced t0.labels e))) (labelled_edges t0))) is)
-              t ascend state sorted made_are joined losing ended joined_is losing_are ended_are live_now
+              t ascend state sorted made_are joined losing ended joined_is losing_are ended_are

@@ -18,6 +18,7 @@ use Rattle.tgap_model.specs.Records.{chain_of, runs, pieces_from, piece_of, ends
 use Rattle.tgap_model.specs.Slice.{left_of, right_of}
 use Rattle.map_laws.proofs.ChainMembers.{Among}
 use Rattle.map_laws.proofs.Lists.{members_all}
+use Rattle.point_rope.specs.Rows.{oriented, glued}
 use Rattle.removal_laws.proofs.ChainEnds.{chain_arcs}
 use Rattle.record_laws.specs.RunLaws.{chain_of_run, is_turned_run}
 use Rattle.record_laws.specs.PieceLaws.{CutsIntoEdges}
@@ -26,7 +27,6 @@ use Rattle.record_laws.proofs.PieceCuts.{part_points}
 use Rattle.record_laws.proofs.PiecesAreEdges.{pieces_are_edges}
 use Rattle.record_laws.proofs.StepFacts.{few, left_next, right_next, made_from, arc_faces, chain_sides, sides_apart, run_is_part, run_sides, run_within, run_links}
 use Rattle.tgap_build.specs.declared.joined.OldEdge.{OldEdge}
-use Rattle.tgap_build.specs.Table.{oriented, glued}
 use Rattle.tgap_build.specs.Changes.{part_pieces}
 use Rattle.tgap_build.proofs.JoinedRows.{joined_is}
 

@@ -20,7 +20,7 @@ use Rattle.tgap_build.specs.Built.{HasRemoved}
 use Rattle.tgap_build.specs.Table.{faced, labelled_edges, table_edges, IsHeld}
 use Rattle.tgap_build.specs.Running.{AreRunning, has_point, has_any}
 use Rattle.tgap_build.specs.Changes.{less_where}
-use Rattle.tgap_build.proofs.EachLive.{after_live, before_live}
+use Rattle.tgap_build.proofs.EachLive.{before_live}
 use Rattle.tgap_build.proofs.LabelSweeps.{label_sweep}
 use Rattle.tgap_build.proofs.LessEdges.{less_removals, faced_less}
 use Rattle.tgap_build.proofs.Sided.{side_test}
@@ -76,7 +76,3 @@ module _ (f : EdgeForest) (k : ℕ) (some : 0 < k) (made : f.made ≡ k) (t : Ed
           ∙ ap (map (less_where gone (λ (e : Edge). has_any gone e && has_side s.made e))) r.edges
           ∙ less_removals gone list same s.made (edges_of h k (removals_to h (k - 1)) (chains_at h k)) (others_stay f.base w.base w.partition k some last list swept_list)
           ∙ taken_is f.base w.base w.partition k some last list swept_list
-
-      pub less_live : AreLive (map (less_where gone (λ (e : Edge). has_any gone e && has_side label e)) (labelled_edges t))
-      less_live = labels_live t.labels (map (less_where gone (λ (e : Edge). has_any gone e && has_side label e)) (labelled_edges t))
-          (subst AreLive (sym less_faces) (after_live f.base w.base w.partition k last))

@@ -30,6 +30,11 @@ some_same x y s = ap (λ o. elim o [ None ↦ x | Some z ↦ z ]) s
 pub place_read : (places : List (Option Edge)) (k : ℕ) → k < length places → (now taken o : Option Edge) → now ≡ get_or places k now → taken ≡ now → taken ≡ o → edge_in places k ≡ o
 place_read places k l now taken o read same is = sym (read ∙ get_or_default places k now None l) ∙ sym same ∙ is
 
+-- two edges with the same key, sides and points
+pub same_edge : {key key' left left' right right' : ℕ} {points points' : List Point} → key ≡ key' → left ≡ left' → right ≡ right' → points ≡ points'
+    → ◌≡◌ {A = Edge} (record { key = key; left = left; right = right; points = points }) (record { key = key'; left = left'; right = right'; points = points' })
+same_edge k l r ps = rw (k, l, r, ps) refl
+
 -- a place is written twice
 pub set_again : {A : Type 0} (xs : List A) (k : ℕ) (a b : A) → set (set xs k a) k b ≡ set xs k b
 set_again [] k a b = refl

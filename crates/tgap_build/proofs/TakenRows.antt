@@ -9,7 +9,8 @@ use Rattle.tgap_model.specs.declared.slice.Edge.{Edge}
 use Rattle.grid_index.specs.Keyed.{edge_in, edges_in, AreAtKeys}
 use Rattle.grid_index.specs.Live.{keys, without_keys}
 use Rattle.tgap_build.specs.declared.joined.OldEdge.{OldEdge}
-use Rattle.tgap_build.specs.Table.{oriented, glued, edge_with, part_row, joined_row, old_keys}
+use Rattle.point_rope.specs.Rows.{oriented, glued}
+use Rattle.tgap_build.specs.Table.{edge_with, part_row, joined_row, old_keys}
 use Rattle.tgap_build.proofs.EdgeTables.{cleared, without_more}
 use Rattle.tgap_build.proofs.Merging.{key_there}
 use Rattle.tgap_build.proofs.Tables.{place_within}

@@ -100,12 +100,9 @@ pub record HasJoined (h : MergedMap) (k : ℕ) (left : List Edge) (born : List C
   pub edges : IsPermutation (filter (λ e. not (is_part_of (chains_at h (k - 1)) born e.key)) left ++ new) (labelled_edges t)
   pub new_faces : map (faced t.labels) new ≡ edges_of h k (removals_to h (k - 1)) born
 
--- Of edges those with some keys go, others come, and then these are there, which can be looked up. A key that goes may be told
--- more than once.
-pub record IsChange (edges : List Edge) (gone : List ℕ) (come after : List Edge) : Type 0 where
-  pub there : All (Contains (keys edges)) gone
-  pub moved : IsPermutation (without_keys gone edges ++ come) after
-  pub live : AreLive after
+-- Of edges those with some keys go, others come, and then these are there.
+abbrev pub IsChange : List Edge → List ℕ → List Edge → List Edge → Type 0
+IsChange edges gone come after = IsPermutation (without_keys gone edges ++ come) after
 
 -- ---- points that go
 

@@ -1,10 +1,37 @@
--- The look-up of segments that a sweep asks.
-use Rattle.std.specs.Prelude.{List, Option, Some, None, ⊤}
+-- The look-up that a sweep asks: for each key a box that holds the points of its edge.
+use Rattle.std.specs.Prelude.{◌≡◌, ℕ, List, length, All, Contains, ◌⊎◌, Option, Some, None, option_to_list, ⊤}
+use Rattle.std.specs.List.{flat_map}
+use Rattle.tgap_model.specs.declared.geometry.Window.{Window}
 use Rattle.tgap_model.specs.declared.slice.Edge.{Edge}
-use Rattle.grid_index.specs.declared.segments.Entry.{Entry}
-use Rattle.grid_index.specs.Slots.{IsIndexed}
+use Rattle.grid_index.specs.declared.live.SegmentPlace.{SegmentPlace}
+use Rattle.grid_index.specs.Keyed.{edge_in}
+use Rattle.grid_index.specs.Live.{edge_near}
+use Rattle.grid_index.specs.Picked.{box_at}
+use Rattle.point_rope.specs.Held.{IsHeld}
 
--- The look-up has the segments of these edges, where there is one.
-abbrev pub IsSought : List Edge → Option (List (Option Entry)) → Type 0
-IsSought edges None = ⊤
-IsSought edges (Some index) = IsIndexed edges index
+-- the box of a key holds the points of the edge at its place, where there is one
+abbrev pub IsBoxedAt : List (Option Edge) → List Window → ℕ → Type 0
+IsBoxedAt places boxes k = (e : Edge) → edge_in places k ≡ Some e → All (IsHeld (box_at boxes k)) e.points
+
+-- There is a box for each place, and each holds the points of the edge there.
+pub record AreBoxed (places : List (Option Edge)) (boxes : List Window) : Type 0 where
+  pub long : length boxes ≡ length places
+  pub each : (k : ℕ) → IsBoxedAt places boxes k
+
+-- the same of a look-up, where there is one
+abbrev pub IsSought : List (Option Edge) → Option (List Window) → Type 0
+IsSought places None = ⊤
+IsSought places (Some boxes) = AreBoxed places boxes
+
+-- where there is a look-up, it has so many boxes
+abbrev pub HasRoom : ℕ → Option (List Window) → Type 0
+HasRoom count None = ⊤
+HasRoom count (Some boxes) = length boxes ≡ count
+
+-- each edge stood at its place before, or that place is one of these
+abbrev pub AreSameBut : List ℕ → List (Option Edge) → List (Option Edge) → Type 0
+AreSameBut keys before after = (k : ℕ) (e : Edge) → edge_in after k ≡ Some e → (edge_in before k ≡ Some e) ⊎ Contains keys k
+
+-- the segments of the edge at a place whose boxes meet the area
+abbrev pub segments_in : Window → List (Option Edge) → ℕ → List SegmentPlace
+segments_in area places k = flat_map (edge_near area) (option_to_list (edge_in places k))

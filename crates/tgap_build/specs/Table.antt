@@ -1,11 +1,12 @@
 -- Edges by their keys, while the history is run: they hold labels, which stand for faces.
-use Rattle.std.specs.Prelude.{◌≡◌, ◌<◌, ℕ, ◌-◌, ◌==◌, Bool, ◌&&◌, not, List, [], ◌∷◌, ◌++◌, map, filter, fold, reverse, take, length, get_or, set, Contains, All, Option, Some, None, if◌then◌else◌}
+use Rattle.std.specs.Prelude.{◌≡◌, ◌<◌, ℕ, ◌==◌, Bool, ◌&&◌, not, List, [], ◌∷◌, ◌++◌, map, filter, fold, length, get_or, set, Contains, All, Option, Some, None, if◌then◌else◌}
 use Rattle.tgap_model.specs.declared.geometry.Point.{Point}
 use Rattle.tgap_model.specs.declared.merge.MergeStep.{MergeStep}
 use Rattle.tgap_model.specs.declared.slice.Edge.{Edge}
 use Rattle.tgap_model.specs.Removals.{has_side}
 use Rattle.tgap_model.specs.Records.{is_edge_between}
 use Rattle.grid_index.specs.Keyed.{edge_in, edges_in, AreAtKeys}
+use Rattle.point_rope.specs.Rows.{oriented, glued}
 use Rattle.edge_forest.specs.declared.face_labels.FaceLabels.{FaceLabels}
 use Rattle.edge_forest.specs.FaceLabels.{face_of, label_of, IsCurrent}
 use Rattle.tgap_build.specs.declared.edge_table.EdgeTable.{EdgeTable}
@@ -84,14 +85,6 @@ lists_after from to k None lists = lists
 lists_after from to k (Some e) lists = if has_first from to e then set lists to (listed_at lists to ++ k ∷ []) else lists
 
 -- ---- a join
-
--- the points of an edge, or the same from the last one on
-abbrev pub oriented : Bool → List Point → List Point
-oriented turned points = if turned then reverse points else points
-
--- a row of points and more of them, which begin where the row ends
-abbrev pub glued : List Point → List Point → List Point
-glued row more = take (length row - 1) row ++ more
 
 -- the edge with a key, where there is one
 abbrev pub edge_with : List (Option Edge) → ℕ → Edge

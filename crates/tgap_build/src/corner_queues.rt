@@ -1,11 +1,9 @@
 //! The corners of the edges, by their labels, while the history is run. By them a step finds the edges of which it
 //! may remove a vertex, and looks at no other one that borders its new face.
 
-ghost use Rattle.std.specs.Prelude.{◌≡◌, ◌<◌, ◌≤◌, ◌++◌, ◌∷◌, [], ℕ, Some, true, List as Sequence, filter, length, replicate, All, AllPairs, Contains, IfOk, IfSome, IsSome, OnOk, IsTrue};
+ghost use Rattle.std.specs.Prelude.{◌≡◌, ◌<◌, ◌≤◌, ◌++◌, ◌∷◌, [], ℕ, Some, true, List as Sequence, filter, length, replicate, All, AllPairs, Contains, IfOk, OnOk};
 ghost use Rattle.tgap_model.specs.declared.slice.Edge.{Edge as Line};
-ghost use Rattle.tgap_model.specs.Base.{in_limits};
 ghost use Rattle.tgap_model.specs.Removals.{has_side};
-ghost use Rattle.grid_index.specs.Live.{AreLive};
 ghost use Rattle.vertex_drop.specs.Corners.{has_small_corner, least_corner, small_area};
 ghost use Rattle.tgap_build.specs.Table.{labelled_edges, IsTable};
 ghost use Rattle.tgap_build.specs.Queue.{is_queued};
@@ -13,12 +11,10 @@ ghost use Rattle.tgap_build.specs.Queues.{queue_at, TellAsMuch, IsQueued, IsQueu
 
 use crate::corner_queue::{CornerQueue, Entry};
 use crate::edge_table::EdgeTable;
+use point_rope::RopeEdge;
 use std::alloc::Global;
-use tgap_model::{Edge, Memory, Point};
+use tgap_model::Memory;
 use vertex_drop::least_corner;
-
-/// A row of more points is long.
-const LONG: usize = 64;
 
 /// For each label a queue of corners, in which each edge that has the label, and three points in a row, has an entry
 /// whose area is at most that of its least corner. A queue may have entries of other edges, of edges that ended, and
@@ -47,45 +43,20 @@ fn largest_small(loser_area: i128, ratio: u32) -> u128
     loser_area.unsigned_abs() / u128::from(ratio)
 }
 
-/// Twice the area of the least triangle of three points in a row of these, where there are three.
-fn least_area(points: &[Point]) -> Option<u128>
-    requires { All (λ p. IsTrue (in_limits p)) points.now }
-    ensures { result ≡ least_corner points.now }
-{
-    match least_corner(points) {
-        Some(area) => Some(area.unsigned_abs()),
-        None => None,
-    }
-}
-
-/// The same of the points of the edge with a key, where there is one that has the label.
+/// Twice the area of the least corner of the edge with a key, where there is one that has the label.
 fn corner_beside(edges: &EdgeTable, label: u32, key: u32) -> Option<u128>
-    requires { AreLive (labelled_edges edges.now) }
     ensures { result ≡ corner_at edges.now.places.items label key }
 {
     match edges.edge(key) {
-        Some(edge) if edge.has_side(label) => least_area(edge.points.as_slice()),
+        Some(edge) if edge.has_side(label) => least_corner(edge.row()),
         _ => None,
     }
 }
 
-/// An area that is at most that of the least corner of these points, where they have one. It is that area itself, but for
-/// a long row 0: such a row is read only when a step asks for its corners, and not each time that it grows.
-fn least_bound(points: &[Point]) -> Option<u128>
-    requires { All (λ p. IsTrue (in_limits p)) points.now }
-    ensures { (n : ℕ) → least_corner points.now ≡ Some n → IsSome result × IfSome result (λ area. area ≤ n) }
-{
-    if points.len() > LONG {
-        return Some(0);
-    }
-    least_area(points)
-}
-
 impl CornerQueues {
-    /// The queues of all edges of a table, in the time of a few points of each.
+    /// The queues of all edges of a table, in the time of the runs of their points.
     pub fn of(alloc: Global, edges: &EdgeTable) -> Result<CornerQueues, Memory>
         requires table { IsTable edges.now }
-        requires live { AreLive (labelled_edges edges.now) }
         ensures room { IfOk result (λ made. length made.queues.items ≡ length edges.now.beside.items) }
         ensures each { IfOk result (λ made. All (IsQueued made.queues.items) (labelled_edges edges.now)) }
     {
@@ -108,31 +79,29 @@ impl CornerQueues {
         Ok(())
     }
 
-    /// Puts a bound of the least corner of an edge in at both its labels.
-    fn put_edge(&mut self, edge: &Edge) -> Result<(), Memory>
-        requires near { All (λ p. IsTrue (in_limits p)) edge.now.points }
+    /// Puts the least corner of an edge in at both its labels.
+    fn put_edge(&mut self, edge: &RopeEdge) -> Result<(), Memory>
         requires left { edge.now.left < length self.old.queues.items }
         requires right { edge.now.right < length self.old.queues.items }
         ensures edge { OnOk result (IsQueued self.new.queues.items edge.now) }
         ensures others { OnOk result (TellAsMuch self.old.queues.items self.new.queues.items) }
         ensures room { OnOk result (length self.new.queues.items ≡ length self.old.queues.items) }
     {
-        let Some(area) = least_bound(edge.points.as_slice()) else {
+        let Some(area) = least_corner(edge.row()) else {
             return Ok(());
         };
         let entry = Entry {
             area,
-            key: edge.key,
+            key: edge.key(),
         };
-        self.put_entry(edge.left, entry)?;
-        self.put_entry(edge.right, entry)?;
+        self.put_entry(edge.left(), entry)?;
+        self.put_entry(edge.right(), entry)?;
         Ok(())
     }
 
-    /// Puts a bound of the least corner of the edge with a key in, if there is one.
+    /// Puts the least corner of the edge with a key in, if there is one.
     fn put(&mut self, edges: &EdgeTable, key: u32) -> Result<(), Memory>
         requires table { IsTable edges.now }
-        requires live { AreLive (labelled_edges edges.now) }
         requires room { length self.old.queues.items ≡ length edges.now.beside.items }
         ensures edge { OnOk result (IsQueuedAt edges.now.places.items self.new.queues.items key) }
         ensures others { OnOk result (TellAsMuch self.old.queues.items self.new.queues.items) }
@@ -144,10 +113,9 @@ impl CornerQueues {
         Ok(())
     }
 
-    /// Puts bounds of the least corners of the edges with these keys in, in the time of a few points of each.
+    /// Puts the least corners of the edges with these keys in, in the time of the runs of their points.
     fn put_all(&mut self, edges: &EdgeTable, keys: &[u32]) -> Result<(), Memory>
         requires table { IsTable edges.now }
-        requires live { AreLive (labelled_edges edges.now) }
         requires room { length self.old.queues.items ≡ length edges.now.beside.items }
         ensures edges { OnOk result (All (IsQueuedAt edges.now.places.items self.new.queues.items) keys.now) }
         ensures others { OnOk result (TellAsMuch self.old.queues.items self.new.queues.items) }
@@ -169,7 +137,6 @@ impl CornerQueues {
         key: u32,
         found: &mut Vec<u32>,
     ) -> Result<(), Memory>
-        requires live { AreLive (labelled_edges edges.now) }
         requires label { label < length self.old.queues.items }
         ensures edge { OnOk result ((n : ℕ) → corner_at edges.now.places.items label key ≡ Some n → is_queued (queue_at self.new.queues.items label) key n ≡ true) }
         ensures others { OnOk result (TellAsMuch self.old.queues.items self.new.queues.items) }
@@ -195,7 +162,6 @@ impl CornerQueues {
         limit: u128,
         keys: &[u32],
     ) -> Result<Vec<u32>, Memory>
-        requires live { AreLive (labelled_edges edges.now) }
         requires label { label < length self.old.queues.items }
         ensures edges { OnOk result (All (IsQueuedBeside edges.now.places.items self.new.queues.items label) keys.now) }
         ensures others { OnOk result (TellAsMuch self.old.queues.items self.new.queues.items) }
@@ -219,7 +185,6 @@ impl CornerQueues {
         limit: u128,
     ) -> Result<Vec<u32>, Memory>
         requires table { IsTable edges.now }
-        requires live { AreLive (labelled_edges edges.now) }
         requires label { label < length self.old.queues.items }
         requires each { All (IsQueued self.old.queues.items) (labelled_edges edges.now) }
         ensures each { OnOk result (All (IsQueued self.new.queues.items) (labelled_edges edges.now)) }
@@ -242,7 +207,6 @@ fn queues_of(
     edges: &EdgeTable,
 ) -> Result<CornerQueues, Memory>
     requires table { IsTable edges.now }
-    requires live { AreLive (labelled_edges edges.now) }
     requires corners { IsCornered (length edges.now.beside.items) (labelled_edges edges.now) corners }
     ensures { IfOk result (λ made. IsCornered (length edges.now.beside.items) (labelled_edges edges.now) (Some made)) }
 {
@@ -264,7 +228,6 @@ pub fn candidates(
     ratio: u32,
 ) -> Result<Vec<u32>, Memory>
     requires table { IsTable edges.now }
-    requires live { AreLive (labelled_edges edges.now) }
     requires corners { IsCornered (length edges.now.beside.items) (labelled_edges edges.now) corners.old }
     requires label { label < length edges.now.beside.items }
     requires ratio { 0 < ratio }
@@ -280,15 +243,14 @@ pub fn candidates(
     Ok(keys)
 }
 
-/// Brings the queues up to the edges of a table, where there are some, in the time of a few points of each edge with
-/// one of these keys, which are new, have another label or lost points.
+/// Brings the queues up to the edges of a table, where there are some, in the time of the runs of each edge with one of
+/// these keys, which are new, have another label or lost points.
 pub fn requeue(
     edges: &EdgeTable,
     corners: &mut Option<CornerQueues>,
     keys: &[u32],
 ) -> Result<(), Memory>
     requires table { IsTable edges.now }
-    requires live { AreLive (labelled_edges edges.now) }
     requires corners { (before : Sequence Line) × IsCornered (length edges.now.beside.items) before corners.old }
     ensures { (before : Sequence Line) → IsCornered (length edges.now.beside.items) before corners.old
         → AreKeptBut keys.now before (labelled_edges edges.now)

@@ -1,28 +1,30 @@
 //! Edges by their keys, while the history is run.
 
-ghost use Rattle.std.specs.Prelude.{◌≡◌, ◌≢◌, ◌<◌, ◌↔◌, ◌++◌, ◌∷◌, [], ℕ, None, filter, map, length, replicate, set, reverse, option_map, option_to_list, All, AllPairs, Contains, IsPermutation, IfOk, OnOk, not};
+ghost use Rattle.std.specs.Prelude.{◌≡◌, ◌≢◌, ◌<◌, ◌↔◌, ◌++◌, ◌∷◌, [], ℕ, None, filter, map, length, replicate, set, reverse, option_map, option_to_list, All, AllPairs, Contains, IsPermutation, IfOk, IsTrue, OnOk, not};
+ghost use Rattle.tgap_model.specs.Base.{in_limits};
 ghost use Rattle.tgap_model.specs.Removals.{has_side};
 ghost use Rattle.tgap_model.specs.Records.{is_edge_between};
 ghost use Rattle.grid_index.specs.Keyed.{edge_in, edges_in, AreAtKeys};
 ghost use Rattle.grid_index.specs.Live.{keys, without_keys};
 ghost use Rattle.edge_forest.specs.FaceLabels.{label_of, HasLabel, IsCurrent};
-ghost use Rattle.tgap_build.specs.Running.{relabelled, less};
-ghost use Rattle.tgap_build.specs.Table.{faced, labelled_edges, table_edges, IsTable, HaveSameRoom, left_by, moved_label, moved_edge, has_both, has_first, place_after, lists_after, oriented, glued, edge_with, joined_row, joined_edge, old_keys};
+ghost use Rattle.tgap_build.specs.Running.{relabelled};
+ghost use Rattle.tgap_build.specs.Table.{faced, labelled_edges, table_edges, IsTable, HaveSameRoom, left_by, moved_label, moved_edge, has_both, has_first, place_after, lists_after, edge_with, joined_row, joined_edge, old_keys};
 ghost use Rattle.tgap_build.specs.Changes.{less_at};
 
 use crate::joined::OldEdge;
 use crate::point_set::PointSet;
 use crate::room::trimmed;
 use edge_forest::FaceLabels;
+use point_rope::{Rope, RopeEdge};
 use std::alloc::Global;
 use std::mem;
-use tgap_model::{Edge, List, Memory, MergeStep, Point};
+use tgap_model::{Edge, List, Memory, MergeStep};
 
 /// Edges, each at the place of its key, and for each label the keys of the edges that have it at a side, and maybe of others. An
-/// edge has labels where it would have faces.
+/// edge has labels where it would have faces, and its points stand in a rope.
 #[derive(Debug, Drop)]
 pub struct EdgeTable {
-    places: Vec<Option<Edge>>,
+    places: Vec<Option<RopeEdge>>,
     beside: Vec<List<u32>>,
     labels: FaceLabels,
 }
@@ -47,7 +49,7 @@ fn empty_lists(alloc: Global, count: u32) -> Result<Vec<List<u32>>, Memory>
 }
 
 /// So many empty places.
-fn empty_places(alloc: Global, count: usize) -> Result<Vec<Option<Edge>>, Memory>
+fn empty_places(alloc: Global, count: usize) -> Result<Vec<Option<RopeEdge>>, Memory>
     ensures { IfOk result (λ places. places.items ≡ replicate count None) }
 {
     let mut places = Vec::with_capacity(alloc, count)?;
@@ -76,76 +78,41 @@ fn moved_label(from: u32, to: u32, label: u32) -> u32
 }
 
 /// The edge with its faces in place of their labels, without room for more points.
-fn faced(labels: &FaceLabels, edge: Edge) -> Edge
+fn faced(alloc: Global, labels: &FaceLabels, edge: RopeEdge) -> Result<Edge, Memory>
     requires left { edge.left < length labels.now.faces.items }
     requires right { edge.right < length labels.now.faces.items }
-    ensures { result ≡ faced labels.now edge }
+    ensures { IfOk result (λ made. made ≡ faced labels.now edge) }
 {
-    Edge {
-        key: edge.key,
-        left: labels.face(edge.left),
-        right: labels.face(edge.right),
-        points: trimmed(edge.points),
-    }
-}
-
-/// The edge less the points of the set.
-fn less(gone: &PointSet, edge: Edge) -> Edge
-    ensures { result ≡ less gone.now edge }
-{
-    Edge {
-        key: edge.key,
-        left: edge.left,
-        right: edge.right,
-        points: gone.left_of(edge.points),
-    }
-}
-
-/// Puts points at the end, from the last one to the first.
-fn push_reversed(row: &mut Vec<Point>, points: &[Point]) -> Result<(), Memory>
-    ensures { OnOk result (row.new.items ≡ row.old.items ++ reverse points.now) }
-{
-    for point in points.iter().rev() {
-        row.push(*point)?;
-    }
-    Ok(())
-}
-
-/// The points of a row and those of an edge, turned round where it runs against the row, which begins where the row ends.
-fn appended(row: Vec<Point>, points: List<Point>, turned: bool) -> Result<Vec<Point>, Memory>
-    ensures { IfOk result (λ longer. longer.items ≡ glued row.items (oriented turned points)) }
-{
-    if row.is_empty() && !turned {
-        return Ok(points.into_vec());
-    }
-    let mut row = row;
-    row.pop();
-    if turned {
-        push_reversed(&mut row, points.as_slice())?;
-    } else {
-        row.extend_from_slice(points.as_slice())?;
-    }
-    Ok(row)
+    let key = edge.key();
+    let left = labels.face(edge.left());
+    let right = labels.face(edge.right());
+    let points = edge.into_row().into_list(alloc)?;
+    Ok(Edge {
+        key,
+        left,
+        right,
+        points: trimmed(points),
+    })
 }
 
 /// Takes the edges out of which another one is made, and gives the points of that one.
 fn take_row(
     alloc: Global,
-    places: &mut Vec<Option<Edge>>,
+    places: &mut Vec<Option<RopeEdge>>,
     parts: &[OldEdge],
-) -> Result<Vec<Point>, Memory>
+) -> Result<Rope, Memory>
     requires keyed { AreAtKeys places.old.items }
     requires there { All (λ p. Contains (keys (edges_in places.old.items)) p.key) parts.now }
     requires apart { AllPairs (λ p q. p.key ≢ q.key) parts.now }
-    ensures row { IfOk result (λ row. row.items ≡ joined_row places.old.items parts.now) }
+    ensures row { IfOk result (λ row. row ≡ joined_row places.old.items parts.now) }
     ensures keyed { OnOk result (AreAtKeys places.new.items) }
     ensures left { OnOk result (edges_in places.new.items ≡ without_keys (old_keys parts.now) (edges_in places.old.items)) }
     ensures room { OnOk result (length places.new.items ≡ length places.old.items) }
 {
-    let mut row = Vec::new(alloc);
+    let mut row = Rope::new(alloc);
     for part in parts {
         if let Some(edge) = places[part.key as usize].take() {
-            row = appended(row, edge.points, part.turned)?;
+            row.append(alloc, edge.into_row(), part.turned)?;
         }
     }
     Ok(row)
@@ -163,6 +130,7 @@ impl EdgeTable {
         requires ascending { AllPairs (λ e f. e.key < f.key) edges }
         requires keys { All (λ e. e.key < keys) edges }
         requires sides { All (λ e. (e.left < faces) × (e.right < faces)) edges }
+        requires near { All (λ e. All (λ p. IsTrue (in_limits p)) e.points) edges }
         ensures table { IfOk result (λ table. IsTable table) }
         ensures edges { IfOk result (λ table. table_edges table ≡ edges) }
         ensures places { IfOk result (λ table. length table.places.items ≡ keys) }
@@ -175,13 +143,14 @@ impl EdgeTable {
             labels: FaceLabels::of(alloc, faces)?,
         };
         for edge in edges.into_vec() {
+            let edge = RopeEdge::of(alloc, edge)?;
             table.put(edge)?;
         }
         Ok(table)
     }
 
     /// Puts an edge that has labels at the place of its key, which is empty.
-    fn put(&mut self, edge: Edge) -> Result<(), Memory>
+    fn put(&mut self, edge: RopeEdge) -> Result<(), Memory>
         requires table { IsTable self.old }
         requires key { edge.key < length self.old.places.items }
         requires left { (edge.left < length self.old.beside.items) × IsCurrent self.old.labels edge.left }
@@ -191,10 +160,10 @@ impl EdgeTable {
         ensures labels { self.new.labels ≡ self.old.labels }
         ensures room { OnOk result (HaveSameRoom self.old self.new) }
     {
-        let place = edge.key as usize;
-        self.beside[edge.left as usize].push(edge.key)?;
-        self.beside[edge.right as usize].push(edge.key)?;
-        self.places[place] = Some(edge);
+        let key = edge.key();
+        self.beside[edge.left() as usize].push(key)?;
+        self.beside[edge.right() as usize].push(key)?;
+        self.places[key as usize] = Some(edge);
         Ok(())
     }
 
@@ -202,6 +171,7 @@ impl EdgeTable {
     /// the loser's label.
     fn merge_edge(
         &mut self,
+        alloc: Global,
         loser: u32,
         winner: u32,
         key: u32,
@@ -225,15 +195,12 @@ impl EdgeTable {
         if !edge.has_side(loser) {
             self.places[place] = Some(edge);
         } else if edge.has_side(winner) {
-            let edge = faced(&self.labels, edge);
+            let edge = faced(alloc, &self.labels, edge)?;
             merging.ended.push(edge)?;
         } else {
-            let edge = Edge {
-                key: edge.key,
-                left: moved_label(loser, winner, edge.left),
-                right: moved_label(loser, winner, edge.right),
-                points: edge.points,
-            };
+            let left = moved_label(loser, winner, edge.left());
+            let right = moved_label(loser, winner, edge.right());
+            let edge = RopeEdge::new(edge.key(), left, right, edge.into_row());
             self.places[place] = Some(edge);
             self.beside[winner as usize].push(key)?;
             merging.losing.push(key)?;
@@ -242,7 +209,7 @@ impl EdgeTable {
     }
 
     /// Takes out the edges between the loser of a step and its winner, and gives all others the new face where they had one of the
-    /// two. The time is that of the loser's edges, less their points.
+    /// two. The time is that of the loser's edges, and of the points of those that it takes out.
     pub fn merge(&mut self, alloc: Global, step: &MergeStep) -> Result<Merging, Memory>
         requires table { IsTable self.old }
         requires loser { (step.now.loser < length self.old.beside.items) × HasLabel self.old.labels step.now.loser }
@@ -271,7 +238,7 @@ impl EdgeTable {
         };
         let keys = in_order(listed);
         for key in &keys {
-            self.merge_edge(loser, winner, *key, &mut merging)?;
+            self.merge_edge(alloc, loser, winner, *key, &mut merging)?;
         }
         self.labels.merge(step);
         let Merging { ended, losing } = merging;
@@ -288,7 +255,7 @@ impl EdgeTable {
         ensures right { result.1 ≡ (edge_with self.now.places.items key).right }
     {
         match &self.places[key as usize] {
-            Some(edge) => (edge.left, edge.right),
+            Some(edge) => (edge.left(), edge.right()),
             None => (0, 0),
         }
     }
@@ -307,12 +274,7 @@ impl EdgeTable {
     {
         let (left, right) = self.sides(key);
         let row = take_row(alloc, &mut self.places, parts)?;
-        self.places[key as usize] = Some(Edge {
-            key,
-            left,
-            right,
-            points: List::from(row),
-        });
+        self.places[key as usize] = Some(RopeEdge::new(key, left, right, row));
         Ok(())
     }
 
@@ -325,8 +287,8 @@ impl EdgeTable {
         ensures labels { self.new.labels ≡ self.old.labels }
         ensures room { HaveSameRoom self.old self.new }
     {
-        if let Some(edge) = self.places[key as usize].take() {
-            let edge = less(gone, edge);
+        if let Some(mut edge) = self.places[key as usize].take() {
+            edge.remove(gone);
             self.places[key as usize] = Some(edge);
         }
     }
@@ -346,25 +308,25 @@ impl EdgeTable {
     }
 
     /// The points of the edge with this key, if there is one.
-    pub fn points(&self, key: u32) -> Option<&List<Point>>
+    pub fn points(&self, key: u32) -> Option<&Rope>
         requires { key < length self.now.places.items }
         ensures { option_map (λ points. points.now) result ≡ option_map (λ e. e.points) (edge_in self.now.places.items key) }
     {
         match &self.places[key as usize] {
-            Some(edge) => Some(&edge.points),
+            Some(edge) => Some(edge.row()),
             None => None,
         }
     }
 
     /// The edges with their labels, each at the place of its key.
-    pub fn places(&self) -> &[Option<Edge>]
+    pub fn places(&self) -> &[Option<RopeEdge>]
         ensures { result.now ≡ self.now.places.items }
     {
         self.places.as_slice()
     }
 
     /// The edge with this key, if there is one, with its labels.
-    pub fn edge(&self, key: u32) -> Option<&Edge>
+    pub fn edge(&self, key: u32) -> Option<&RopeEdge>
         ensures { option_map (λ e. e.now) result ≡ edge_in self.now.places.items key }
     {
         match self.places.get(key as usize) {
@@ -380,7 +342,7 @@ impl EdgeTable {
         let mut found = List::new(alloc);
         for place in &self.places {
             if let Some(edge) = place {
-                found.push(edge.key)?;
+                found.push(edge.key())?;
             }
         }
         Ok(found)

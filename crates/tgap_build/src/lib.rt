@@ -1,6 +1,6 @@
 //! A map made ready to be read at every scale: a checked base map, with its tree of faces, its forest of edges, out of which each
 //! step removes its vertices, and the record of each step. It stands on `face_merge` for the merge history, on `face_tree`, `edge_forest`,
-//! `vertex_drop` and `grid_index`.
+//! `point_rope`, `vertex_drop` and `grid_index`.
 #![tactic(auto)]
 
 ghost use Rattle.std.specs.Prelude.{◌≡◌, ◌≤◌, false, true, unsigned_abs, All, IfOk, OnOk};
@@ -20,7 +20,9 @@ mod corner_queues;
 mod edge_table;
 mod edges;
 mod joined;
+mod key_boxes;
 mod live_edges;
+mod live_ropes;
 mod measures;
 mod mends;
 mod point_set;

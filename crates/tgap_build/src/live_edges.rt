@@ -1,6 +1,6 @@
 //! The edges of the last step, which are kept while the history is run.
 
-ghost use Rattle.std.specs.Prelude.{◌≡◌, ◌<◌, ◌≤◌, ℕ, ◌+◌, ◌-◌, ◌^◌, ◌==◌, ◌++◌, ◌∷◌, [], true, false, not, List as Sequence, map, filter, flat_map, sum_by, length, All, AllPairs, Contains, IfOk, OnOk, if◌then◌else◌};
+ghost use Rattle.std.specs.Prelude.{◌≡◌, ◌<◌, ◌≤◌, ℕ, ◌+◌, ◌-◌, ◌^◌, ◌==◌, ◌++◌, ◌∷◌, [], true, false, not, List as Sequence, map, filter, flat_map, sum_by, length, All, Contains, IfOk, OnOk, if◌then◌else◌};
 ghost use Rattle.std.specs.List.{list_any};
 ghost use Rattle.std.specs.List.Sorted.{IsNonDecreasing};
 ghost use Rattle.tgap_model.specs.declared.slice.Edge.{Edge as Line};
@@ -8,8 +8,7 @@ ghost use Rattle.tgap_model.specs.Merged.{merged, step_number};
 ghost use Rattle.tgap_model.specs.Chains.{chains_at};
 ghost use Rattle.tgap_model.specs.Removals.{edges_of, removals_to};
 ghost use Rattle.tgap_model.specs.Records.{is_edge_between};
-ghost use Rattle.grid_index.specs.Keyed.{edges_at, AreAtKeys};
-ghost use Rattle.grid_index.specs.Live.{keys, AreLive};
+ghost use Rattle.grid_index.specs.Live.{keys};
 ghost use Rattle.face_tree.specs.Tree.{face_history};
 ghost use Rattle.edge_forest.specs.Continued.{AreJoined};
 ghost use Rattle.edge_forest.specs.Edges.{edge_at, chain_of, is_alive};
@@ -19,26 +18,26 @@ ghost use Rattle.tgap_build.specs.Queues.{IsCornered};
 ghost use Rattle.tgap_build.specs.Running.{AreRunning};
 ghost use Rattle.tgap_build.specs.Sought.{IsSought};
 ghost use Rattle.tgap_build.specs.Table.{labelled_edges, IsTable, HaveSameRoom, old_keys};
-ghost use Rattle.tgap_build.specs.Changes.{HasGrown, born_chains, part_pieces, count_at, side_with, losing_keys, made_of, is_changed, HasJoined, whole_of, part_keys, IsChange, less_at};
+ghost use Rattle.tgap_build.specs.Changes.{HasGrown, born_chains, part_pieces, count_at, side_with, losing_keys, made_of, is_changed, HasJoined, whole_of, part_keys, less_at};
 
 use crate::corner_queues::{CornerQueues, requeue};
-use crate::edge_table::{EdgeTable, Merging, in_order};
+use crate::edge_table::{EdgeTable, Merging};
 use crate::edges::edges_of;
 use crate::joined::{OldEdge, old_edges};
+use crate::key_boxes::KeyBoxes;
 use crate::point_set::PointSet;
 use crate::sought::sought_after;
 use edge_forest::Forest;
 use face_tree::FaceTree;
-use grid_index::SegmentIndex;
 use std::alloc::Global;
 use tgap_model::{Edge, List, Memory, MergeStep, Piece};
 
-/// The edges after some steps of the history, with a look-up of their segments and the queues of their corners, where
+/// The edges after some steps of the history, with a look-up of them by boxes and the queues of their corners, where
 /// these were asked for.
 #[derive(Debug, Drop)]
 pub struct LiveEdges {
     pub edges: EdgeTable,
-    pub sought: Option<SegmentIndex>,
+    pub sought: Option<KeyBoxes>,
     pub corners: Option<CornerQueues>,
 }
 
@@ -176,24 +175,6 @@ pub fn push_whole(
     Ok(())
 }
 
-/// These keys, those of these edges and others, in ascending order, each once.
-fn all_keys(
-    alloc: Global,
-    joined: &[u32],
-    losing: &[u32],
-    ended: &[Edge],
-) -> Result<Vec<u32>, Memory>
-    ensures ascending { IfOk result (λ all. AllPairs (λ j k. j < k) all.items) }
-    ensures same { IfOk result (λ all. (i : ℕ) → list_any (λ k. k == i) all.items ≡ list_any (λ k. k == i) (joined.now ++ losing.now ++ keys ended.now)) }
-{
-    let mut all = Vec::from_slice(alloc, joined)?;
-    all.extend_from_slice(losing)?;
-    for edge in ended {
-        all.push(edge.key)?;
-    }
-    Ok(in_order(List::from(all)))
-}
-
 /// The keys of these edges.
 pub fn made_keys(alloc: Global, made: &[Made]) -> Result<Vec<u32>, Memory>
     ensures { IfOk result (λ found. found.items ≡ map (λ one. one.key) made.now) }
@@ -214,7 +195,7 @@ impl LiveEdges {
         requires history { tree.now ≡ face_history (merged forest.now.base) }
         requires removed { HasRemoved forest.now 0 }
         ensures running { IfOk result (λ live. AreRunning forest.now 0 (removals_to (merged forest.now.base) 0) live.edges) }
-        ensures sought { IfOk result (λ live. IsSought (labelled_edges live.edges) live.sought) }
+        ensures sought { IfOk result (λ live. IsSought live.edges.places.items live.sought) }
         ensures corners { IfOk result (λ live. IsCornered (length live.edges.beside.items) (labelled_edges live.edges) live.corners) }
     {
         let ids = forest.present(alloc)?;
@@ -303,36 +284,9 @@ impl LiveEdges {
         Ok(made)
     }
 
-    /// Brings the look-up up to a step, where there is one, in the time of the edges that ended, were joined, had the
-    /// loser at a side or are new. Those that are new or had the loser at a side have the keys of `come`.
-    fn seek(
-        &mut self,
-        alloc: Global,
-        joined: &[u32],
-        losing: &[u32],
-        ended: &[Edge],
-        come: &[u32],
-    ) -> Result<(), Memory>
-        requires keyed { AreAtKeys self.old.edges.places.items }
-        requires sought { (before : Sequence Line) × IsSought before self.old.sought
-            × IsChange before (joined.now ++ losing.now ++ keys ended.now) (edges_at self.old.edges.places.items come.now) (labelled_edges self.old.edges) }
-        ensures edges { self.new.edges ≡ self.old.edges }
-        ensures corners { self.new.corners ≡ self.old.corners }
-        ensures sought { (before : Sequence Line) → IsSought before self.old.sought
-            → IsChange before (joined.now ++ losing.now ++ keys ended.now) (edges_at self.old.edges.places.items come.now) (labelled_edges self.old.edges)
-            → OnOk result (IsSought (labelled_edges self.old.edges) self.new.sought) }
-    {
-        if self.sought.is_none() {
-            return Ok(());
-        }
-        let gone = all_keys(alloc, joined, losing, ended)?;
-        sought_after(alloc, &mut self.sought, &gone, &self.edges, come)?;
-        Ok(())
-    }
-
     /// Brings the edges up to step number k, which the forest has made. The forest had the first `old` edges before.
-    /// The time is that of the loser's edges, and of the points of the new ones but for the first part of each; where
-    /// there is a look-up of segments, it is that of the points of all edges that it tells.
+    /// The time is that of the loser's edges, and of the points of the new ones but for the first part of each. The look-up,
+    /// where there is one, takes a box for each edge that ended, was joined, had the loser at a side or is new.
     pub fn merge(
         &mut self,
         alloc: Global,
@@ -346,10 +300,10 @@ impl LiveEdges {
         requires parts { AreJoined k old forest.now.edges }
         requires step { step.now ≡ step_number (merged forest.now.base) k }
         requires running { AreRunning forest.now (k - 1) (removals_to (merged forest.now.base) (k - 1)) self.old.edges }
-        requires sought { IsSought (labelled_edges self.old.edges) self.old.sought }
+        requires sought { IsSought self.old.edges.places.items self.old.sought }
         requires corners { IsCornered (length self.old.edges.beside.items) (labelled_edges self.old.edges) self.old.corners }
         ensures running { OnOk result (AreRunning forest.now k (removals_to (merged forest.now.base) (k - 1)) self.new.edges) }
-        ensures sought { OnOk result (IsSought (labelled_edges self.new.edges) self.new.sought) }
+        ensures sought { OnOk result (IsSought self.new.edges.places.items self.new.sought) }
         ensures corners { OnOk result (IsCornered (length self.new.edges.beside.items) (labelled_edges self.new.edges) self.new.corners) }
         ensures ended { IfOk result (λ changed. changed.ended
             ≡ filter (is_edge_between step.now.loser step.now.winner) (edges_of (merged forest.now.base) (k - 1) (removals_to (merged forest.now.base) (k - 1)) (chains_at (merged forest.now.base) (k - 1)))) }
@@ -371,7 +325,14 @@ impl LiveEdges {
         )?;
         made.sort_unstable_by_key(|one| one.key);
         let keys = made_keys(alloc, &made)?;
-        self.seek(alloc, &joined, &losing, ended.as_slice(), &keys)?;
+        sought_after(
+            alloc,
+            &mut self.sought,
+            &self.edges,
+            &joined,
+            ended.as_slice(),
+            &keys,
+        );
         requeue(&self.edges, &mut self.corners, &keys)?;
         Ok(Changed { ended, made })
     }
@@ -379,20 +340,17 @@ impl LiveEdges {
     /// Takes points of a set out of the edges with these keys, in the time of their points.
     pub fn remove(&mut self, alloc: Global, losing: &[u32], gone: &PointSet) -> Result<(), Memory>
         requires table { IsTable self.old.edges }
-        requires ascending { AllPairs (λ j k. j < k) losing.now }
         requires there { All (Contains (keys (labelled_edges self.old.edges))) losing.now }
-        requires live { AreLive (map (less_at gone.now losing.now) (labelled_edges self.old.edges)) }
-        requires sought { IsSought (labelled_edges self.old.edges) self.old.sought }
+        requires sought { IsSought self.old.edges.places.items self.old.sought }
         requires corners { IsCornered (length self.old.edges.beside.items) (labelled_edges self.old.edges) self.old.corners }
         ensures edges { OnOk result (labelled_edges self.new.edges ≡ map (less_at gone.now losing.now) (labelled_edges self.old.edges)) }
         ensures table { OnOk result (IsTable self.new.edges) }
         ensures labels { OnOk result (self.new.edges.labels ≡ self.old.edges.labels) }
         ensures room { OnOk result (HaveSameRoom self.old.edges self.new.edges) }
-        ensures sought { OnOk result (IsSought (labelled_edges self.new.edges) self.new.sought) }
+        ensures sought { OnOk result (IsSought self.new.edges.places.items self.new.sought) }
         ensures corners { OnOk result (IsCornered (length self.new.edges.beside.items) (labelled_edges self.new.edges) self.new.corners) }
     {
         self.edges.remove_points(losing, gone);
-        sought_after(alloc, &mut self.sought, losing, &self.edges, losing)?;
         requeue(&self.edges, &mut self.corners, losing)?;
         Ok(())
     }

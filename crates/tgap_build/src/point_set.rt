@@ -1,18 +1,20 @@
 //! Points to be found among others.
 
-ghost use Rattle.std.specs.Prelude.{◌≡◌, ◌<◌, not, map, filter, get_or, length, Contains, IfOk, MatchOption};
-ghost use Rattle.std.specs.List.{list_any};
+ghost use Rattle.std.specs.Prelude.{◌≡◌, ◌<◌, ◌<ℤ◌, ℕ, false, map, get_or, length, All, Contains, IfOk, IsTrue, MatchOption};
+ghost use Rattle.std.specs.declared.cmp.Ordering.TheVariants.{Less};
 ghost use Rattle.std.specs.List.Sorted.{IsStrictlySortedBy};
 ghost use Rattle.tgap_model.specs.declared.geometry.Point.{Point as Place};
 ghost use Rattle.tgap_model.specs.Removals.{is_removed};
 ghost use Rattle.edge_forest.specs.Removed.{point_cmp};
+ghost use Rattle.point_rope.specs.Held.{IsHeld};
 ghost use Rattle.tgap_build.specs.Running.{has_point};
 
+use point_rope::PointTest;
 use std::alloc::Global;
 use std::marker::Model;
-use tgap_model::{List, Memory, Point, Removal};
+use tgap_model::{Memory, Point, Removal, Window};
 
-/// Up to so many points are compared one after the other, which is quicker than a search.
+/// Up to so many points are looked at one after the other, which is quicker than a search.
 const FEW: usize = 8;
 
 /// Points in ascending order, each once.
@@ -57,6 +59,50 @@ fn is_among(points: &[Point], point: &Point) -> bool
     false
 }
 
+/// The lower left corner of a box.
+fn corner_of(bounds: &Window) -> Point
+    ensures left { result.x ≡ bounds.now.x0 }
+    ensures low { result.y ≡ bounds.now.y0 }
+{
+    Point {
+        x: bounds.x0,
+        y: bounds.y0,
+    }
+}
+
+/// Whether a point is right of a box.
+fn is_right_of(point: &Point, bounds: &Window) -> bool
+    ensures { IsTrue result → bounds.now.x1 <ℤ point.now.x }
+{
+    bounds.x1 < point.x
+}
+
+/// Whether a point is as high as some point of a box.
+fn is_level_with(point: &Point, bounds: &Window) -> bool
+    ensures { IsHeld bounds.now point.now → IsTrue result }
+{
+    bounds.y0 <= point.y && point.y <= bounds.y1
+}
+
+/// Whether one of these points, which ascend, may lie in a box. None before place `first` does, and of those from there on a
+/// few are looked at: where these do not tell, one may.
+fn may_lie_in(points: &[Point], first: usize, bounds: &Window) -> bool
+    requires ascending { IsStrictlySortedBy point_cmp points.now }
+    requires before { (k : ℕ) (d : Place) → k < first → k < length points.now → ¬ (IsHeld bounds.now (get_or points.now k d)) }
+    ensures { result ≡ false → All (λ p. ¬ (IsHeld bounds.now p)) points.now }
+{
+    for i in first..points.len() {
+        let point = points[i];
+        if is_right_of(&point, bounds) {
+            return false;
+        }
+        if i - first >= FEW || is_level_with(&point, bounds) {
+            return true;
+        }
+    }
+    false
+}
+
 impl PointSet {
     /// The set of the points of these removals.
     pub fn of(alloc: Global, removals: &[Removal]) -> Result<PointSet, Memory>
@@ -86,27 +132,33 @@ impl PointSet {
         self.place_of(point).is_some()
     }
 
-    /// Whether one of these points is one of the set.
-    pub fn holds_any(&self, points: &[Point]) -> bool
-        ensures { result ≡ list_any (has_point self.now) points.now }
+    /// A place before which the points of the set come before a point, by a search for that one.
+    fn place_behind(&self, point: &Point) -> usize
+        ensures { (k : ℕ) (d : Place) → k < result → k < length self.now → point_cmp (get_or self.now k d) point.now ≡ Less }
     {
-        if self.points.as_slice().is_empty() {
-            return false;
+        match self.points.binary_search(point) {
+            Ok(place) => place,
+            Err(place) => place,
         }
-        for point in points {
-            if self.holds(point) {
-                return true;
-            }
-        }
-        false
     }
 
-    /// Those of the points that are none of the set, in their order.
-    pub fn left_of(&self, points: List<Point>) -> List<Point>
-        ensures { result ≡ filter (λ p. not (has_point self.now p)) points }
+    /// A place before which no point of the set lies in a box.
+    fn first_at(&self, bounds: &Window) -> usize
+        ensures { (k : ℕ) (d : Place) → k < result → k < length self.now → ¬ (IsHeld bounds.now (get_or self.now k d)) }
     {
-        let mut left = points.into_vec();
-        left.retain(|point| !self.holds(point));
-        List::from(left)
+        self.place_behind(&corner_of(bounds))
+    }
+}
+
+impl PointTest for PointSet {
+    ghost passes = { has_point };
+
+    fn passes(&self, point: &Point) -> bool {
+        self.holds(point)
+    }
+
+    fn may_pass(&self, bounds: &Window) -> bool {
+        let first = self.first_at(bounds);
+        may_lie_in(&self.points, first, bounds)
     }
 }

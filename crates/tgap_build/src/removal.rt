@@ -39,8 +39,8 @@ fn push_losing(
     ensures { OnOk result (losing.new.items ≡ losing.old.items ++ keys (filter (has_any gone.now) (option_to_list (edge_in edges.now.places.items key)))) }
 {
     if let Some(edge) = edges.edge(key) {
-        if gone.holds_any(edge.points.as_slice()) {
-            losing.push(edge.key)?;
+        if edge.row().has_any(gone) {
+            losing.push(edge.key())?;
         }
     }
     Ok(())
@@ -107,7 +107,7 @@ fn remove_vertices(
     requires positive { 0 < ratio }
     requires removed { HasRemoved forest.old (k - 1) }
     requires running { AreRunning forest.old k (removals_to (merged forest.old.base) (k - 1)) live.old.edges }
-    requires sought { IsSought (labelled_edges live.old.edges) live.old.sought }
+    requires sought { IsSought live.old.edges.places.items live.old.sought }
     requires corners { IsCornered (length live.old.edges.beside.items) (labelled_edges live.old.edges) live.old.corners }
     requires changed { made.items ≡ map (made_of (merged forest.old.base) k) (filter (is_changed (merged forest.old.base) k) (chains_at (merged forest.old.base) k)) }
     ensures mends { IfOk result (λ mends. mends ≡ (step_record (merged forest.old.base) k).mends) }
@@ -117,7 +117,7 @@ fn remove_vertices(
     ensures edges { OnOk result (forest.new.edges ≡ forest.old.edges) }
     ensures removed { OnOk result (HasRemoved forest.new k) }
     ensures running { OnOk result (AreRunning forest.new k (removals_to (merged forest.old.base) k) live.new.edges) }
-    ensures sought { OnOk result (IsSought (labelled_edges live.new.edges) live.new.sought) }
+    ensures sought { OnOk result (IsSought live.new.edges.places.items live.new.sought) }
     ensures corners { OnOk result (IsCornered (length live.new.edges.beside.items) (labelled_edges live.new.edges) live.new.corners) }
 {
     let made_label = live.edges.label(step.made);
@@ -189,7 +189,7 @@ fn mend_and_remove(
     requires ratio { ratio ≡ forest.old.base.rules.ratio }
     requires removed { HasRemoved forest.old (k - 1) }
     requires running { AreRunning forest.old k (removals_to (merged forest.old.base) (k - 1)) live.old.edges }
-    requires sought { IsSought (labelled_edges live.old.edges) live.old.sought }
+    requires sought { IsSought live.old.edges.places.items live.old.sought }
     requires corners { IsCornered (length live.old.edges.beside.items) (labelled_edges live.old.edges) live.old.corners }
     requires changed { made.items ≡ map (made_of (merged forest.old.base) k) (filter (is_changed (merged forest.old.base) k) (chains_at (merged forest.old.base) k)) }
     ensures mends { IfOk result (λ mends. mends ≡ (step_record (merged forest.old.base) k).mends) }
@@ -198,7 +198,7 @@ fn mend_and_remove(
     ensures open { OnOk result (forest.new.closed ≡ false) }
     ensures removed { OnOk result (HasRemoved forest.new k) }
     ensures running { OnOk result (AreRunning forest.new k (removals_to (merged forest.old.base) k) live.new.edges) }
-    ensures sought { OnOk result (IsSought (labelled_edges live.new.edges) live.new.sought) }
+    ensures sought { OnOk result (IsSought live.new.edges.places.items live.new.sought) }
     ensures corners { OnOk result (IsCornered (length live.new.edges.beside.items) (labelled_edges live.new.edges) live.new.corners) }
 {
     if ratio > 0 {
@@ -229,7 +229,7 @@ pub fn make_step(
     requires area { loser_area ≡ face_area (merged forest.old.base) (k - 1) step.now.loser }
     requires removed { HasRemoved forest.old (k - 1) }
     requires running { AreRunning forest.old (k - 1) (removals_to (merged forest.old.base) (k - 1)) live.old.edges }
-    requires sought { IsSought (labelled_edges live.old.edges) live.old.sought }
+    requires sought { IsSought live.old.edges.places.items live.old.sought }
     requires corners { IsCornered (length live.old.edges.beside.items) (labelled_edges live.old.edges) live.old.corners }
     ensures record { IfOk result (λ r. r ≡ step_record (merged forest.old.base) k) }
     ensures base { OnOk result (forest.new.base ≡ forest.old.base) }
@@ -237,7 +237,7 @@ pub fn make_step(
     ensures open { OnOk result (forest.new.closed ≡ false) }
     ensures removed { OnOk result (HasRemoved forest.new k) }
     ensures running { OnOk result (AreRunning forest.new k (removals_to (merged forest.old.base) k) live.new.edges) }
-    ensures sought { OnOk result (IsSought (labelled_edges live.new.edges) live.new.sought) }
+    ensures sought { OnOk result (IsSought live.new.edges.places.items live.new.sought) }
     ensures corners { OnOk result (IsCornered (length live.new.edges.beside.items) (labelled_edges live.new.edges) live.new.corners) }
 {
     let old = forest.count();

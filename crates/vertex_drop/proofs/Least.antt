@@ -11,7 +11,8 @@ use Rattle.lemmas.proofs.Signs.{Decides-int_le, le_le_trans}
 use Rattle.tgap_model.specs.declared.geometry.Point.{Point}
 use Rattle.tgap_model.specs.Bounds.{max_cross}
 use Rattle.tgap_model.specs.Point.{area2}
-use Rattle.vertex_drop.specs.Corners.{small_area, any_small_corner, has_small_corner, is_triangle, less_of, least_area, least_corner}
+use Rattle.point_rope.specs.Corners.{less_of, least_area}
+use Rattle.vertex_drop.specs.Corners.{small_area, any_small_corner, has_small_corner, is_triangle, least_corner}
 
 -- ---- the rule
 
@@ -60,7 +61,7 @@ module _ (ratio : ℕ) (area : ℤ) where
   -- ---- a row of points
 
   -- three points in a row have a small triangle exactly where the least one is small
-  area_decides : (points : List Point) → any_small_corner ratio area points ≡ is_small_least (least_area points)
+  pub area_decides : (points : List Point) → any_small_corner ratio area points ≡ is_small_least (least_area points)
   area_decides [] = refl
   area_decides (a ∷ []) = refl
   area_decides (a ∷ b ∷ []) = refl

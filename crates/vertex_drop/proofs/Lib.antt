@@ -11,3 +11,5 @@ pub mod Triangles
 pub mod Chosen
 pub mod Reached
 pub mod Candidates
+pub mod Paths
+pub mod Walked

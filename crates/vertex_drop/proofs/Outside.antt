@@ -13,7 +13,8 @@ use Rattle.tgap_model.specs.Clear.{is_clear}
 use Rattle.vertex_drop.specs.declared.triangle.Triangle.{Triangle}
 use Rattle.grid_index.specs.Boxes.{overlap, meets, segment_box}
 use Rattle.vertex_drop.specs.Boxes.{are_less, are_greater, is_off}
-use Rattle.vertex_drop.specs.Held.{IsHeld, IsHeldSegment}
+use Rattle.point_rope.specs.Held.{IsHeld}
+use Rattle.vertex_drop.specs.Held.{IsHeldSegment}
 use Rattle.vertex_drop.specs.Outside.{AreRangesApart, AreApart, AreBeyond, IsOutside, IsTriangle}
 use Rattle.vertex_drop.proofs.Boxes.{off_is_clear}
 

@@ -1,9 +1,9 @@
 -- The sweep depends on the segments that a triangle is tested against, and not on their order; and one vertex, and one edge, more.
-use Rattle.std.proofs.Common.{◌≡◌, ◌<◌, ◌≤◌, ◌+◌, ◌==◌, ℕ, ℤ, pos, ◌*◌, int_le, Bool, true, false, ◌&&◌, ◌||◌, List, [], ◌∷◌, ◌++◌, take, drop, length, get_or, if◌then◌else◌, refl, sym, ap, ◌∙◌, subst, arith}
+use Rattle.std.proofs.Common.{◌≡◌, ◌<◌, ◌≤◌, ◌+◌, ◌==◌, ℕ, ℤ, pos, ◌*◌, int_le, Bool, true, false, ◌&&◌, ◌||◌, List, [], ◌∷◌, ◌++◌, take, drop, length, get_or, if◌then◌else◌, refl, sym, ap, ◌∙◌, subst}
 use Rattle.std.specs.List.{flat_map, list_all}
 use Rattle.std.proofs.lemmas.Bool.{eq-eqb, ne_eqb}
 use Rattle.std.proofs.lemmas.Grind.{flat_map-append}
-use Rattle.std.proofs.lemmas.List.{append-nil, append_assoc, at_drop_more, at_drop_all, drop_all, take_more}
+use Rattle.std.proofs.lemmas.List.{append-nil, append_assoc, at_drop_more, at_drop_all, take_more}
 use Rattle.std.proofs.lemmas.List.Folds.{list_all-append}
 use Rattle.tgap_model.specs.declared.geometry.Point.{Point}
 use Rattle.tgap_model.specs.declared.geometry.Seg.{Seg}
@@ -67,7 +67,7 @@ module _ (ratio : ℕ) (area : ℤ) where
   unfolding is_removable
   removable_alike xs ys a b c h = ap (λ (t : Bool). (area2 a b c == 0) || (int_le (pos (ratio * area2 a b c)) area && t)) (h (is_clear a b c))
 
-  from_gone : (others done : List Seg) (a b c : Point) (points : List Point) → is_removable ratio area (others ++ done ++ path (c ∷ points)) a b c ≡ true
+  pub from_gone : (others done : List Seg) (a b c : Point) (points : List Point) → is_removable ratio area (others ++ done ++ path (c ∷ points)) a b c ≡ true
       → sweep_from ratio area others done a (b ∷ c ∷ points)
       ≡ record { kept = (sweep_from ratio area others done a (c ∷ points)).kept; gone = b ∷ (sweep_from ratio area others done a (c ∷ points)).gone }
   from_gone others done a b c points e = rw (sweep_from, e) refl
@@ -125,7 +125,7 @@ module _ (ratio : ℕ) (area : ℤ) where
   -- ---- one vertex
 
   -- what is left of the points from b on begins with b
-  begins : (others done : List Seg) (a b : Point) (points : List Point)
+  pub begins : (others done : List Seg) (a b : Point) (points : List Point)
       → path (a ∷ (sweep_from ratio area others done b points).kept) ≡ record { a = a; b = b } ∷ path (sweep_from ratio area others done b points).kept
   begins others done a b [] = refl
   begins others done a b (x ∷ []) = refl
@@ -139,82 +139,6 @@ module _ (ratio : ℕ) (area : ℤ) where
           subst (λ (t : Swept). path (a ∷ t.kept) ≡ record { a = a; b = b } ∷ path t.kept) (sym (from_gone others done b x y points e)) h
       by false e h =
           subst (λ (t : Swept). path (a ∷ t.kept) ≡ record { a = a; b = b } ∷ path t.kept) (sym (from_kept others done b x y points e)) refl
-
-  module _ (others : List Seg) (points : List Point) (first : List Seg) (before : List Point) where
-    -- What was kept and removed so far, and what is of the points from a place on, is what is kept and removed of all points, where
-    -- `first` was kept before the edge and `before` removed. The last point that is kept is a.
-    pub record IsSweeping (kept : List Seg) (gone : List Point) (a : Point) (place : ℕ) : Type 0 where
-      pub left : kept ++ path (sweep_from ratio area others kept a (drop place points)).kept ≡ first ++ path (sweep_after ratio area others first points).kept
-      pub removed : gone ++ (sweep_from ratio area others kept a (drop place points)).gone ≡ before ++ (sweep_after ratio area others first points).gone
-
-    pub sweep_begins : (d : Point) → 0 < length points → IsSweeping first before (get_or points 0 d) 1
-    sweep_begins d lt =
-        let all : sweep_after ratio area others first points ≡ sweep_from ratio area others first (get_or points 0 d) (drop 1 points) =
-        at_drop_more (sweep_after ratio area others first) points 0 d lt in
-        record {
-          left = ap (λ (t : Swept). first ++ path t.kept) (sym all);
-          removed = ap (λ (t : Swept). before ++ t.gone) (sym all);
-        }
-
-    module _ (kept : List Seg) (gone : List Point) (a : Point) (place : ℕ) (d : Point) (short : place + 1 < length points) where
-      abbrev b : Point
-      b = get_or points place d
-
-      abbrev c : Point
-      c = get_or points (place + 1) d
-
-      abbrev rest : List Point
-      rest = drop (place + 1) points
-
-      abbrev s : Seg
-      s = record { a = a; b = b }
-
-      -- the points from the place on are b, c and others
-      ahead : (Y : Type 0) (f : List Point → Y) → f (drop place points) ≡ f (b ∷ c ∷ drop (place + 1 + 1) points)
-      ahead Y f = at_drop_more f points place d (omega arith) ∙ at_drop_more (λ (l : List Point). f (b ∷ l)) points (place + 1) d short
-
-      next : (Y : Type 0) (f : List Point → Y) → f (c ∷ drop (place + 1 + 1) points) ≡ f rest
-      next Y f = sym (at_drop_more f points (place + 1) d short)
-
-      pub vertex_gone : is_removable ratio area (others ++ kept ++ path rest) a b c ≡ true → IsSweeping kept gone a place → IsSweeping kept (gone ++ b ∷ []) a (place + 1)
-      vertex_gone e h =
-          let t = sweep_from ratio area others kept a rest in
-          let now : sweep_from ratio area others kept a (drop place points) ≡ record { kept = t.kept; gone = b ∷ t.gone } =
-          ahead Swept (sweep_from ratio area others kept a)
-          ∙ from_gone others kept a b c (drop (place + 1 + 1) points) (next Bool (λ (l : List Point). is_removable ratio area (others ++ kept ++ path l) a b c) ∙ e)
-          ∙ next Swept (λ (l : List Point). let u = sweep_from ratio area others kept a l in record { kept = u.kept; gone = b ∷ u.gone }) in
-          record {
-            left = ap (λ (u : Swept). kept ++ path u.kept) (sym now) ∙ h.left;
-            removed = append_assoc gone (b ∷ []) t.gone ∙ ap (λ (u : Swept). gone ++ u.gone) (sym now) ∙ h.removed;
-          }
-
-      pub vertex_kept : is_removable ratio area (others ++ kept ++ path rest) a b c ≡ false → IsSweeping kept gone a place
-          → IsSweeping (kept ++ s ∷ []) gone b (place + 1)
-      vertex_kept e h =
-          let t = sweep_from ratio area others (kept ++ s ∷ []) b rest in
-          let now : sweep_from ratio area others kept a (drop place points) ≡ record { kept = a ∷ t.kept; gone = t.gone } =
-          ahead Swept (sweep_from ratio area others kept a)
-          ∙ from_kept others kept a b c (drop (place + 1 + 1) points) (next Bool (λ (l : List Point). is_removable ratio area (others ++ kept ++ path l) a b c) ∙ e)
-          ∙ next Swept (λ (l : List Point). let u = sweep_from ratio area others (kept ++ s ∷ []) b l in record { kept = a ∷ u.kept; gone = u.gone }) in
-          record {
-            left =
-                append_assoc kept (s ∷ []) (path t.kept) ∙ ap (λ (l : List Seg). kept ++ l) (sym (begins others (kept ++ s ∷ []) a b rest))
-                ∙ ap (λ (u : Swept). kept ++ path u.kept) (sym now) ∙ h.left;
-            removed = ap (λ (u : Swept). gone ++ u.gone) (sym now) ∙ h.removed;
-          }
-
-    -- the last point stays
-    pub sweep_ends : (kept : List Seg) (gone : List Point) (a : Point) (place : ℕ) (d : Point) → place + 1 ≡ length points → IsSweeping kept gone a place
-        → (kept ++ record { a = a; b = get_or points place d } ∷ [] ≡ first ++ path (sweep_after ratio area others first points).kept)
-        × (gone ≡ before ++ (sweep_after ratio area others first points).gone)
-    sweep_ends kept gone a place d all h =
-        let b = get_or points place d in
-        let now : sweep_from ratio area others kept a (drop place points) ≡ record { kept = a ∷ b ∷ []; gone = [] } =
-        at_drop_more (sweep_from ratio area others kept a) points place d (omega arith)
-        ∙ ap (λ (l : List Point). sweep_from ratio area others kept a (b ∷ l)) (drop_all (place + 1) points (omega arith)) in (
-          ap (λ (u : Swept). kept ++ path u.kept) (sym now) ∙ h.left,
-          sym (append-nil gone) ∙ ap (λ (u : Swept). gone ++ u.gone) (sym now) ∙ h.removed,
-        )
 
   -- what is tested where a sweep stands at a vertex of edge number i is what the sweep of that edge tests
   pub stand_alike : (at : Stand) (edges : List Edge) (i : ℕ) (d : Edge) (kept : List Seg) (a b c : Point) → Ascend edges → i < length edges

@@ -1,8 +1,8 @@
 -- Of a closed row of four points whose triangle has an area none goes: across each corner there is a segment of the row.
-use Rattle.std.proofs.Common.{◌≡◌, ℕ, ℤ, pos, ◌*◌, ◌==◌, ◌&&◌, not, int_le, unsigned_abs, Bool, true, false, List, [], ◌∷◌, ◌++◌, length, refl, sym, ap, ◌∙◌, true≢false, arith}
+use Rattle.std.proofs.Common.{◌≡◌, ◌<◌, ◌≤◌, None, Some, if◌then◌else◌, ℕ, ℤ, pos, ◌*◌, ◌==◌, ◌&&◌, not, int_le, unsigned_abs, Bool, true, false, List, [], ◌∷◌, ◌++◌, length, refl, sym, ap, ◌∙◌, true≢false, arith}
 use Rattle.std.specs.List.{list_all}
 use Rattle.std.specs.Cmp.Derive.{both_true}
-use Rattle.std.proofs.lemmas.Bool.{and_parts, or_from, or_left, or_right, and_left, and_right, eqb-true}
+use Rattle.std.proofs.lemmas.Bool.{and_parts, or_from, or_left, or_right, and_left, and_right, eqb-true, eq-eqb, ne_eqb}
 use Rattle.std.proofs.lemmas.List.{append-nil}
 use Rattle.std.proofs.lemmas.List.Folds.{list_all-append}
 use Rattle.tgap_model.specs.declared.geometry.Point.{Point}
@@ -13,7 +13,8 @@ use Rattle.tgap_model.specs.Point.{area2, cross as cross_of}
 use Rattle.tgap_model.specs.Removals.{Swept, is_removable, sweep_points}
 use Rattle.tgap_model.proofs.Points.{same_point-true, same_point-from}
 use Rattle.lemmas.proofs.Polynomials.{same_value, cross}
-use Rattle.vertex_drop.specs.Corners.{point_at, is_triangle}
+use Rattle.point_rope.specs.Corners.{least_area}
+use Rattle.vertex_drop.specs.Corners.{point_at, is_closed, is_triangle, least_corner}
 use Rattle.vertex_drop.proofs.Swept.{from_kept}
 
 -- the corners in turn
@@ -72,3 +73,72 @@ module _ (ratio : ℕ) (area : ℤ) (others : List Seg) where
           (or_left (same_point b b) (same_point b d) (same_point-from b b refl)) in
           from_kept ratio area others [] a b c (d ∷ []) one
           ∙ ap (λ (s : Swept). record { kept = a ∷ s.kept; gone = s.gone }) (from_kept ratio area others (record { a = a; b = b } ∷ []) b c d [] two)
+
+-- ---- the least corner of a closed row of four points
+
+-- a triangle is such a row with an area
+triangle_is : (points : List Point) → is_triangle points ≡ (is_closed points && not (area2 (point_at points 0) (point_at points 1) (point_at points 2) == 0))
+triangle_is points = by (length points == 4)
+  where
+    by : (t : Bool) → (t && (same_point (point_at points 0) (point_at points 3) && not (area2 (point_at points 0) (point_at points 1) (point_at points 2) == 0)))
+        ≡ ((t && same_point (point_at points 0) (point_at points 3)) && not (area2 (point_at points 0) (point_at points 1) (point_at points 2) == 0))
+    by true = refl
+    by false = refl
+
+-- both corners of the row have the area of the triangle
+closed_area : (points : List Point) → is_closed points ≡ true → least_area points ≡ Some (area2 (point_at points 0) (point_at points 1) (point_at points 2))
+closed_area points h =
+    let parts = and_parts (length points == 4) (same_point (point_at points 0) (point_at points 3)) h in
+    by points (eqb-true (length points) 4 parts.0) parts.1
+  where
+    by : (points : List Point) → length points ≡ 4 → same_point (point_at points 0) (point_at points 3) ≡ true
+        → least_area points ≡ Some (area2 (point_at points 0) (point_at points 1) (point_at points 2))
+    by [] n t = absurd (omega (arith, n))
+    by (a ∷ []) n t = absurd (omega (arith, n))
+    by (a ∷ b ∷ []) n t = absurd (omega (arith, n))
+    by (a ∷ b ∷ c ∷ []) n t = absurd (omega (arith, n))
+    by (a ∷ b ∷ c ∷ d ∷ e ∷ points) n t = absurd (omega (arith, n))
+    by (a ∷ b ∷ c ∷ d ∷ []) n t =
+        let turned : area2 b c d ≡ area2 a b c =
+        ap (λ (p : Point). area2 b c p) (sym (same_point-true a d t)) ∙ ap unsigned_abs (cross_turn a b c) in
+        ap Some (omega (arith, turned))
+
+module _ (points : List Point) where
+  abbrev flat : Bool
+  flat = area2 (point_at points 0) (point_at points 1) (point_at points 2) == 0
+
+  -- what the row's least corner is, by the two tests
+  least_corner_is : least_corner points ≡ (if is_closed points && not flat then None else least_area points)
+  unfolding least_corner
+  least_corner_is = ap (λ (t : Bool). if t then None else least_area points) (triangle_is points)
+
+  pub closed_has_none : (n : ℕ) → least_area points ≡ Some n → 0 < n → is_closed points ≡ true → None ≡ least_corner points
+  closed_has_none n least some closed = sym (least_corner_is ∙ ap (λ (t : Bool). if t then None else least_area points) (both_true closed (ap not apart)))
+    where
+      same : {x y : ℕ} → Some x ≡ Some y → x ≡ y
+      same e = cc
+
+      apart : flat ≡ false
+      apart = ne_eqb _ 0 (λ e. let f = same (sym least ∙ closed_area points closed) in omega (arith, e, f, some))
+
+  pub open_has_least : is_closed points ≡ false → least_area points ≡ least_corner points
+  open_has_least e = sym (least_corner_is ∙ ap (λ (t : Bool). if t && not flat then None else least_area points) e)
+
+  pub flat_has_least : (n : ℕ) → least_area points ≡ Some n → n ≤ 0 → least_area points ≡ least_corner points
+  flat_has_least n least none = by (is_closed points) refl
+    where
+      same : {x y : ℕ} → Some x ≡ Some y → x ≡ y
+      same e = cc
+
+      by : (t : Bool) → is_closed points ≡ t → least_area points ≡ least_corner points
+      by false e = open_has_least e
+      by true e =
+          let zero_area = eq-eqb (area2 (point_at points 0) (point_at points 1) (point_at points 2)) 0 (let f = same (sym least ∙ closed_area points e) in omega (arith, f, none)) in
+          sym (least_corner_is ∙ ap (λ (t : Bool). if t then None else least_area points) (and_right (is_closed points) (not flat) (ap not zero_area)))
+
+  pub few_have_none : least_area points ≡ None → least_area points ≡ least_corner points
+  few_have_none e = by (is_closed points && not flat) ∙ sym least_corner_is
+    where
+      by : (t : Bool) → least_area points ≡ (if t then None else least_area points)
+      by true = e
+      by false = refl

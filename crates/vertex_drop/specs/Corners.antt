@@ -1,10 +1,11 @@
 -- Three points in a row that a sweep may cut short.
-use Rattle.std.specs.Prelude.{ℕ, ℤ, pos, ◌*◌, ◌==◌, ◌||◌, ◌&&◌, int_le, min, not, Bool, false, List, [], ◌∷◌, length, get_or, if◌then◌else◌, Option, None, Some}
+use Rattle.std.specs.Prelude.{ℕ, ℤ, pos, ◌*◌, ◌==◌, ◌||◌, ◌&&◌, int_le, not, Bool, false, List, [], ◌∷◌, length, get_or, if◌then◌else◌, Option, None}
 use Rattle.tgap_model.specs.declared.geometry.Point.{Point}
 use Rattle.tgap_model.specs.declared.slice.Edge.{Edge}
 use Rattle.tgap_model.specs.Base.{same_point}
 use Rattle.tgap_model.specs.Point.{area2}
 use Rattle.tgap_model.specs.Removals.{has_side}
+use Rattle.point_rope.specs.Corners.{least_area}
 
 -- a triangle with twice this area is none, or small enough
 abbrev pub small_area : ℕ → ℤ → ℕ → Bool
@@ -21,21 +22,13 @@ any_small_corner ratio area (a ∷ []) = false
 any_small_corner ratio area (a ∷ b ∷ []) = false
 any_small_corner ratio area (a ∷ b ∷ c ∷ points) = is_small_corner ratio area a b c || any_small_corner ratio area (b ∷ c ∷ points)
 
--- the less of a number and another one that may be missing
-abbrev pub less_of : ℕ → Option ℕ → ℕ
-less_of n None = n
-less_of n (Some m) = min n m
-
--- twice the area of the least triangle of three points in a row of these
-abbrev pub least_area : List Point → Option ℕ
-least_area [] = None
-least_area (a ∷ []) = None
-least_area (a ∷ b ∷ []) = None
-least_area (a ∷ b ∷ c ∷ points) = Some (less_of (area2 a b c) (least_area (b ∷ c ∷ points)))
-
 -- the point at a place
 abbrev pub point_at : List Point → ℕ → Point
 point_at points i = get_or points i (record { x = pos 0; y = pos 0 })
+
+-- three points and the first of them again
+abbrev pub is_closed : List Point → Bool
+is_closed points = (length points == 4) && same_point (point_at points 0) (point_at points 3)
 
 -- A closed row of four points of which three have a triangle with an area. No corner of it goes: the segment across is
 -- one of its own.

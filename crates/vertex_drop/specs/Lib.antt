@@ -4,3 +4,4 @@ pub mod Outside
 pub mod Left
 pub mod Sweep
 pub mod Corners
+pub mod Chunks

@@ -4,7 +4,7 @@ use Rattle.tgap_model.specs.declared.geometry.Seg.{Seg}
 use Rattle.tgap_model.specs.declared.geometry.Window.{Window}
 use Rattle.tgap_model.specs.Point.{cross}
 use Rattle.vertex_drop.specs.declared.triangle.Triangle.{Triangle}
-use Rattle.vertex_drop.specs.Held.{IsNearPoint, IsHeld}
+use Rattle.point_rope.specs.Held.{IsNearPoint, IsHeld}
 
 -- the numbers from a to b are less than those from c to d, or greater
 abbrev pub AreRangesApart : ℤ → ℤ → ℤ → ℤ → Type 0

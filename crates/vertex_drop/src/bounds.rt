@@ -1,47 +1,9 @@
-//! Boxes round points, which tell quickly that a triangle is clear of a segment.
+//! Boxes that lie apart from one another, which tell quickly that a triangle is clear of a segment.
 
-ghost use Rattle.std.specs.Prelude.{◌<ℤ◌, IsTrue, All};
-ghost use Rattle.vertex_drop.specs.Held.{IsHeld};
+ghost use Rattle.std.specs.Prelude.{◌<ℤ◌, IsTrue};
 ghost use Rattle.vertex_drop.specs.Outside.{AreRangesApart, AreApart, AreBeyond, IsOutside};
-ghost use Rattle.tgap_model.specs.declared.geometry.Point.{Point as Place};
 
-use tgap_model::{Point, Seg, Window};
-
-/// A box that holds no point.
-pub fn no_bounds() -> Window
-    ensures { (p : Place) → ¬ (IsHeld result p) }
-{
-    Window {
-        x0: i64::MAX,
-        y0: i64::MAX,
-        x1: i64::MIN,
-        y1: i64::MIN,
-    }
-}
-
-/// A box that holds the point and what this box holds.
-pub fn extended(bounds: Window, p: Point) -> Window
-    ensures point { IsHeld result p }
-    ensures others { (q : Place) → IsHeld bounds q → IsHeld result q }
-{
-    Window {
-        x0: bounds.x0.min(p.x),
-        y0: bounds.y0.min(p.y),
-        x1: bounds.x1.max(p.x),
-        y1: bounds.y1.max(p.y),
-    }
-}
-
-/// A box that holds these points.
-pub fn bounds_of(points: &[Point]) -> Window
-    ensures { All (IsHeld result) points.now }
-{
-    let mut bounds = no_bounds();
-    for point in points {
-        bounds = extended(bounds, *point);
-    }
-    bounds
-}
+use tgap_model::{Seg, Window};
 
 /// Whether one of two boxes is left of the other.
 fn are_side_by_side(s: &Window, t: &Window) -> bool

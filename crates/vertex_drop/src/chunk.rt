@@ -1,52 +1,56 @@
 //! Segments in chunks, of which a triangle is clear at once where its box is apart from that of the chunk.
 
-ghost use Rattle.std.specs.Prelude.{◌≡◌, ◌++◌, ◌∷◌, [], length, OnOk};
+ghost use Rattle.std.specs.Prelude.{◌≡◌, ◌++◌, ◌∷◌, [], length, All, OnOk};
 ghost use Rattle.std.specs.List.{list_all};
 ghost use Rattle.tgap_model.specs.Clear.{is_clear};
-ghost use Rattle.vertex_drop.specs.Held.{IsNearSegment, joined};
+ghost use Rattle.tgap_model.specs.Removals.{path};
+ghost use Rattle.point_rope.specs.Held.{IsNearPoint, IsHeld};
+ghost use Rattle.vertex_drop.specs.Held.{IsNearSegment};
+ghost use Rattle.vertex_drop.specs.Chunks.{segments_of, joined};
 ghost use Rattle.vertex_drop.specs.Outside.{IsTriangle};
 
-use crate::bounds::{are_apart, extended, no_bounds};
-use crate::triangle::{Triangle, are_segments_clear};
+use crate::bounds::are_apart;
+use crate::triangle::{Triangle, are_segments_clear, is_path_clear};
+use point_rope::{extended, no_bounds};
 use std::alloc::Global;
 use std::marker::Model;
-use tgap_model::{List, Memory, Seg, Window};
+use tgap_model::{List, Memory, Point, Seg, Window};
 
 /// Some segments, and a box that holds them. Contracts see the list of the segments.
 #[derive(Debug, Drop)]
-pub struct Chunk {
-    segments: List<Seg>,
+pub struct Segments {
+    items: List<Seg>,
     bounds: Window,
 }
 
-impl Model for Chunk {
+impl Model for Segments {
     ghost use Rattle.std.specs.Prelude.{List as Sequence, All};
     ghost use Rattle.tgap_model.specs.declared.geometry.Seg.{Seg as Segment};
     ghost use Rattle.vertex_drop.specs.Held.{IsHeldSegment};
 
     ghost Value = { Sequence Segment };
 
-    ghost view = { λ c. c.segments };
+    ghost view = { λ c. c.items };
 
-    ghost invariant = { λ c. All (IsHeldSegment c.bounds) c.segments };
+    ghost invariant = { λ c. All (IsHeldSegment c.bounds) c.items };
 }
 
-impl Chunk {
-    /// The chunk of no segment. It takes no memory.
-    pub fn new(alloc: Global) -> Chunk
+impl Segments {
+    /// No segment. It takes no memory.
+    pub fn new(alloc: Global) -> Segments
         ensures { result ≡ [] }
     {
-        Chunk {
-            segments: List::new(alloc),
+        Segments {
+            items: List::new(alloc),
             bounds: no_bounds(),
         }
     }
 
-    /// How many segments it has.
+    /// How many there are.
     pub fn len(&self) -> usize
         ensures { result ≡ length self.now }
     {
-        self.segments.len()
+        self.items.len()
     }
 
     /// Appends a segment.
@@ -55,20 +59,79 @@ impl Chunk {
         ensures { OnOk result (self.new ≡ self.old ++ s ∷ []) }
     {
         self.bounds = extended(extended(self.bounds, s.a), s.b);
-        self.segments.push(s)
+        self.items.push(s)
     }
 
-    /// Whether the triangle is clear of each of the segments.
+    /// Whether the triangle is clear of each of them.
     pub fn is_clear_of(&self, t: &Triangle) -> bool
         requires { IsTriangle t.now }
         ensures { result ≡ list_all (is_clear t.now.a t.now.b t.now.c) self.now }
     {
-        are_apart(&self.bounds, &t.bounds) || are_segments_clear(t, self.segments.as_slice())
+        are_apart(&self.bounds, &t.bounds) || are_segments_clear(t, self.items.as_slice())
+    }
+}
+
+/// The segments of a lent row of points, and a box that holds them. Contracts see the list of the segments.
+#[derive(Debug, Drop)]
+pub struct LentPath<'a> {
+    points: &'a [Point],
+    bounds: Window,
+}
+
+impl<'a> Model for LentPath<'a> {
+    ghost use Rattle.std.specs.Prelude.{List as Sequence, All};
+    ghost use Rattle.tgap_model.specs.declared.geometry.Seg.{Seg as Segment};
+    ghost use Rattle.tgap_model.specs.Removals.{path};
+    ghost use Rattle.point_rope.specs.Held.{IsNearPoint, IsHeld};
+
+    ghost Value = { Sequence Segment };
+
+    ghost view = { λ c. path c.points.now };
+
+    ghost invariant = { λ c. All IsNearPoint c.points.now × All (IsHeld c.bounds) c.points.now };
+}
+
+impl<'a> LentPath<'a> {
+    /// The segments of these points, which the box holds.
+    pub fn new(points: &'a [Point], bounds: Window) -> LentPath<'a>
+        requires near { All IsNearPoint points.now }
+        requires held { All (IsHeld bounds) points.now }
+        ensures { result ≡ path points.now }
+    {
+        LentPath { points, bounds }
+    }
+
+    /// Whether the triangle is clear of each of them.
+    pub fn is_clear_of(&self, t: &Triangle) -> bool
+        requires { IsTriangle t.now }
+        ensures { result ≡ list_all (is_clear t.now.a t.now.b t.now.c) self.now }
+    {
+        are_apart(&self.bounds, &t.bounds) || is_path_clear(t, self.points)
+    }
+}
+
+/// Segments of its own, or those of a lent row of points.
+#[derive(Debug, Drop)]
+pub enum Chunk<'a> {
+    Own(Segments),
+    Lent(LentPath<'a>),
+}
+
+impl<'a> Chunk<'a> {
+    /// Whether the triangle is clear of each of its segments.
+    pub fn is_clear_of(&self, t: &Triangle) -> bool
+        requires { IsTriangle t.now }
+        ensures { result ≡ list_all (is_clear t.now.a t.now.b t.now.c) (segments_of self.now) }
+    {
+        match self {
+            Chunk::Own(segments) => segments.is_clear_of(t),
+            Chunk::Lent(path) => path.is_clear_of(t),
+        }
     }
 }
 
 /// Whether the triangle is clear of each segment of some chunks.
-pub fn are_chunks_clear(t: &Triangle, chunks: &[Chunk]) -> bool
+pub fn are_chunks_clear(t: &Triangle, chunks: &[Chunk<'_>]) -> bool
     requires { IsTriangle t.now }
     ensures { result ≡ list_all (is_clear t.now.a t.now.b t.now.c) (joined chunks.now) }
 {
@@ -78,4 +141,14 @@ pub fn are_chunks_clear(t: &Triangle, chunks: &[Chunk]) -> bool
         }
     }
     true
+}
+
+/// Puts segments at the end of some chunks. A chunk of no segment is not made.
+pub fn put<'a>(chunks: &mut List<Chunk<'a>>, segments: Segments) -> Result<(), Memory>
+    ensures { OnOk result (joined chunks.new ≡ joined chunks.old ++ segments) }
+{
+    if segments.len() == 0 {
+        return Ok(());
+    }
+    chunks.push(Chunk::Own(segments))
 }

@@ -5,11 +5,13 @@ ghost use Rattle.std.specs.Option.{option_map};
 ghost use Rattle.tgap_model.specs.Base.{same_point};
 ghost use Rattle.tgap_model.specs.Bounds.{max_cross};
 ghost use Rattle.tgap_model.specs.Point.{area2};
-ghost use Rattle.vertex_drop.specs.Corners.{has_small_corner, is_triangle, least_area, least_corner, may_lose};
-ghost use Rattle.vertex_drop.specs.Held.{IsNearPoint};
+ghost use Rattle.vertex_drop.specs.Corners.{has_small_corner, is_closed, is_triangle, least_corner, may_lose};
+ghost use Rattle.point_rope.specs.Corners.{least_area};
+ghost use Rattle.point_rope.specs.Held.{IsNearPoint};
 
 use crate::removable::is_small_area;
 use grid_geo::area2;
+use point_rope::Rope;
 use std::alloc::Global;
 use tgap_model::{Edge, Memory, Point};
 
@@ -24,7 +26,7 @@ fn has_area(a: Point, b: Point, c: Point) -> bool
 }
 
 /// Whether two points are one.
-fn is_same(a: Point, b: Point) -> bool
+pub fn is_same(a: Point, b: Point) -> bool
     ensures { result ≡ same_point a b }
 {
     a.x == b.x && a.y == b.y
@@ -58,11 +60,9 @@ fn least_area(points: &[Point]) -> Option<i128>
     Some(least)
 }
 
-/// Twice the area of the least triangle of three points in a row of these, in square grid units: 0 where three are on
-/// one line, and none where there are fewer than three points. There is none too where they are the corners of a
-/// triangle with an area and the first of them again: of such a row no point ever goes. It takes one pass over them.
+/// The same, and none too where the points are the corners of a triangle with an area and the first of them again.
 #[tactic(auto, unfolding(crate::specs::Corners::least_corner))]
-pub fn least_corner(points: &[Point]) -> Option<i128>
+fn least_corner_of(points: &[Point]) -> Option<i128>
     requires { All IsNearPoint points.now }
     ensures exact { result ≡ option_map pos (least_corner points.now) }
     ensures small { (n : ℕ) → least_corner points.now ≡ Some n → n ≤ max_cross }
@@ -73,13 +73,35 @@ pub fn least_corner(points: &[Point]) -> Option<i128>
     least_area(points)
 }
 
+/// Whether these are three points and the first of them again.
+fn is_closed(row: &Rope) -> bool
+    ensures { result ≡ is_closed row.now }
+{
+    row.len() == 4 && is_same(row.at(0), row.at(3))
+}
+
+/// Twice the area of the least triangle of three points in a row of these, in square grid units: 0 where three are on
+/// one line, and none where there are fewer than three points. There is none too where they are the corners of a
+/// triangle with an area and the first of them again: of such a row no point ever goes. It takes the time of the runs of
+/// the row, and of the points of the last run.
+pub fn least_corner(row: &Rope) -> Option<u128>
+    ensures { result ≡ least_corner row.now }
+{
+    let area = row.least_area()?;
+    if is_closed(row) && area > 0 {
+        None
+    } else {
+        Some(area)
+    }
+}
+
 /// Whether three points in a row of these are on one line, or have a triangle that is small enough, where the points
 /// are not those of a triangle alone.
 fn has_small_corner(points: &[Point], loser_area: i128, ratio: u32) -> bool
     requires { All IsNearPoint points.now }
     ensures { result ≡ has_small_corner ratio loser_area points.now }
 {
-    match least_corner(points) {
+    match least_corner_of(points) {
         Some(area) => is_small_area(area, loser_area, ratio),
         None => false,
     }

@@ -1,46 +1,49 @@
 //! The segments that are kept of the edges while they are swept.
 
-ghost use Rattle.std.specs.Prelude.{◌≡◌, ◌++◌, ◌∷◌, [], OnOk};
+ghost use Rattle.std.specs.Prelude.{◌≡◌, ◌++◌, ◌∷◌, [], All, OnOk};
 ghost use Rattle.std.specs.List.{list_all};
 ghost use Rattle.tgap_model.specs.Clear.{is_clear};
+ghost use Rattle.tgap_model.specs.Removals.{path};
+ghost use Rattle.point_rope.specs.Held.{IsNearPoint, IsHeld};
 ghost use Rattle.vertex_drop.specs.Held.{IsNearSegment};
 ghost use Rattle.vertex_drop.specs.Outside.{IsTriangle};
 
-use crate::chunk::{Chunk, are_chunks_clear};
+use crate::chunk::{Chunk, LentPath, Segments, are_chunks_clear, put};
 use crate::triangle::Triangle;
 use std::alloc::Global;
 use std::marker::Model;
 use std::mem;
-use tgap_model::{List, Memory, Seg};
+use tgap_model::{List, Memory, Point, Seg, Window};
 
-/// How many segments a chunk has at most: few enough that its box is small, and many enough that there are few chunks.
+/// How many segments a chunk of its own segments has at most: few enough that its box is small, and many enough that there
+/// are few chunks.
 const CHUNK_SIZE: usize = 32;
 
-/// Segments in their order, in chunks of which the last one grows. Contracts see the list of the segments.
+/// Segments in their order, in chunks; the segments after the last chunk grow. Contracts see the list of the segments.
 #[derive(Debug, Drop)]
-pub struct Kept {
-    full: List<Chunk>,
-    growing: Chunk,
+pub struct Kept<'a> {
+    full: List<Chunk<'a>>,
+    growing: Segments,
 }
 
-impl Model for Kept {
+impl<'a> Model for Kept<'a> {
     ghost use Rattle.std.specs.Prelude.{List as Sequence, ◌++◌};
     ghost use Rattle.tgap_model.specs.declared.geometry.Seg.{Seg as Segment};
-    ghost use Rattle.vertex_drop.specs.Held.{joined};
+    ghost use Rattle.vertex_drop.specs.Chunks.{joined};
 
     ghost Value = { Sequence Segment };
 
     ghost view = { λ k. joined k.full ++ k.growing };
 }
 
-impl Kept {
+impl<'a> Kept<'a> {
     /// No segment. It takes no memory.
-    pub fn new(alloc: Global) -> Kept
+    pub fn new(alloc: Global) -> Kept<'a>
         ensures { result ≡ [] }
     {
         Kept {
             full: List::new(alloc),
-            growing: Chunk::new(alloc),
+            growing: Segments::new(alloc),
         }
     }
 
@@ -48,8 +51,8 @@ impl Kept {
     pub fn close(&mut self, alloc: Global) -> Result<(), Memory>
         ensures { OnOk result (self.new ≡ self.old) }
     {
-        let chunk = mem::replace(&mut self.growing, Chunk::new(alloc));
-        self.full.push(chunk)
+        let segments = mem::replace(&mut self.growing, Segments::new(alloc));
+        put(&mut self.full, segments)
     }
 
     /// Appends a segment.
@@ -61,6 +64,17 @@ impl Kept {
             self.close(alloc)?;
         }
         self.growing.push(s)
+    }
+
+    /// Appends the segments of a lent row of points, which the box holds. Its points are not looked at.
+    pub fn lend(&mut self, alloc: Global, points: &'a [Point], bounds: Window) -> Result<(), Memory>
+        requires near { All IsNearPoint points.now }
+        requires held { All (IsHeld bounds) points.now }
+        ensures { OnOk result (self.new ≡ self.old ++ path points.now) }
+    {
+        let segments = mem::replace(&mut self.growing, Segments::new(alloc));
+        put(&mut self.full, segments)?;
+        self.full.push(Chunk::Lent(LentPath::new(points, bounds)))
     }
 
     /// Whether the triangle is clear of each of the segments.

@@ -7,11 +7,13 @@ ghost use Rattle.grid_index.specs.Live.{IsLiveEdge};
 ghost use Rattle.vertex_drop.specs.Left.{is_swept, first_left, left_segments, passes_on, passes_at, IsPlaceIn};
 ghost use Rattle.vertex_drop.specs.Outside.{IsTriangle};
 
+use crate::table::LiveTable;
 use crate::triangle::Triangle;
 use grid_geo::clear_of;
-use grid_index::{LiveTable, SegmentPlace};
+use grid_index::SegmentPlace;
+use point_rope::EdgeRow;
 use std::alloc::Global;
-use tgap_model::{Edge, Memory, Seg};
+use tgap_model::{Memory, Seg};
 
 /// Where a sweep stands: at a vertex of an edge, by its key and its place. It sweeps the edges with these keys, which
 /// border the face `made`.
@@ -32,38 +34,38 @@ fn is_among(keys: &[u32], key: u32) -> bool
 }
 
 /// Whether the edge is one that the sweep goes over.
-fn is_swept(at: Stand<'_>, edge: &Edge) -> bool
+fn is_swept(at: Stand<'_>, edge: &EdgeRow<'_>) -> bool
     requires { AllPairs (λ j k. j < k) at.keys.now }
     ensures { result ≡ is_swept at.entry.made at.entry.keys.now edge.now }
 {
-    edge.has_side(at.made) && is_among(at.keys, edge.key)
+    edge.has_side(at.made) && is_among(at.keys, edge.key())
 }
 
 /// Whether the edge was swept before that at which the sweep stands.
-fn was_swept(at: Stand<'_>, edge: &Edge) -> bool
+fn was_swept(at: Stand<'_>, edge: &EdgeRow<'_>) -> bool
     requires { AllPairs (λ j k. j < k) at.keys.now }
     ensures { result ≡ (nat_lt edge.now.key at.entry.key && is_swept at.entry.made at.entry.keys.now edge.now) }
 {
-    edge.key < at.key && is_swept(at, edge)
+    edge.key() < at.key && is_swept(at, edge)
 }
 
 /// The place of the first segment of an edge that the sweep has not come to.
-fn first_left(at: Stand<'_>, edge: &Edge) -> usize
+fn first_left(at: Stand<'_>, edge: &EdgeRow<'_>) -> usize
     requires keys { AllPairs (λ j k. j < k) at.keys.now }
     requires at { at.place + 1 < 2 ^ 32 }
     ensures { result ≡ first_left at.entry edge.now }
 {
-    if edge.key == at.key {
+    if edge.key() == at.key {
         at.place + 1
     } else if was_swept(at, edge) {
-        edge.points.len()
+        edge.len()
     } else {
         0
     }
 }
 
 /// Whether the segment of an edge is one that the sweep has come to, or the triangle is clear of it.
-fn is_clear_on(t: &Triangle, at: Stand<'_>, edge: &Edge, place: usize) -> bool
+fn is_clear_on(t: &Triangle, at: Stand<'_>, edge: &EdgeRow<'_>, place: usize) -> bool
     requires triangle { IsTriangle t.now }
     requires keys { AllPairs (λ j k. j < k) at.keys.now }
     requires at { at.place + 1 < 2 ^ 32 }
@@ -71,13 +73,12 @@ fn is_clear_on(t: &Triangle, at: Stand<'_>, edge: &Edge, place: usize) -> bool
     requires place { place + 1 < length edge.now.points }
     ensures { result ≡ passes_on (is_clear t.now.a t.now.b t.now.c) at.entry edge.now place }
 {
-    let points = edge.points.as_slice();
     if place < first_left(at, edge) {
         return true;
     }
     let s = Seg {
-        a: points[place],
-        b: points[place + 1],
+        a: edge.at(place),
+        b: edge.at(place + 1),
     };
     clear_of(t.a, t.b, t.c, s)
 }
@@ -90,8 +91,8 @@ fn is_clear_at<L: LiveTable>(t: &Triangle, at: Stand<'_>, live: &L, segment: Seg
     requires segment { IsPlaceIn (L.edges live.now) segment }
     ensures { result ≡ passes_at (is_clear t.now.a t.now.b t.now.c) at.entry (L.edges live.now) segment }
 {
-    match live.with_key(segment.key) {
-        Some(edge) => is_clear_on(t, at, edge, segment.place as usize),
+    match live.row(segment.key) {
+        Some(edge) => is_clear_on(t, at, &edge, segment.place as usize),
         None => true,
     }
 }

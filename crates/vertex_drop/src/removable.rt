@@ -7,16 +7,16 @@ ghost use Rattle.tgap_model.specs.Point.{cross};
 ghost use Rattle.tgap_model.specs.Clear.{is_clear};
 ghost use Rattle.tgap_model.specs.Removals.{is_removable};
 ghost use Rattle.vertex_drop.specs.Corners.{small_area};
-ghost use Rattle.vertex_drop.specs.Held.{IsNearPoint};
+ghost use Rattle.point_rope.specs.Held.{IsNearPoint};
 ghost use Rattle.vertex_drop.specs.Left.{left_segments};
 ghost use Rattle.vertex_drop.specs.Outside.{IsTriangle};
 
-use crate::bounds::bounds_of;
 use crate::kept::Kept;
 use crate::near::{Stand, is_clear_of_left};
+use crate::table::LiveTable;
 use crate::triangle::Triangle;
 use grid_geo::area2;
-use grid_index::LiveTable;
+use point_rope::bounds_of;
 use std::alloc::Global;
 use tgap_model::{Memory, Point};
 
@@ -35,6 +35,14 @@ fn is_small(rule: Rule, area: i128) -> bool
     i128::from(rule.ratio) * area <= rule.area
 }
 
+/// Whether a corner with twice this area may go, by its area.
+pub fn may_go(rule: Rule, area: i128) -> bool
+    requires { unsigned_abs area ≤ max_cross }
+    ensures { (n : ℕ) → area ≡ pos n → result ≡ small_area rule.ratio rule.area n }
+{
+    area == 0 || is_small(rule, area)
+}
+
 /// Whether a corner with twice this area may go, by the rule of a step: it has no area, or `ratio` times it is at most
 /// `loser_area`, which is twice the area of the loser. What may go by its area still has to be clear of the other
 /// segments.
@@ -46,7 +54,7 @@ pub fn is_small_area(area: i128, loser_area: i128, ratio: u32) -> bool
         ratio,
         area: loser_area,
     };
-    area == 0 || is_small(rule, area)
+    may_go(rule, area)
 }
 
 /// Three points in a row of points.
@@ -83,7 +91,7 @@ fn is_clear_of_all<L: LiveTable>(
     t: &Triangle,
     at: Stand<'_>,
     live: &L,
-    kept: &Kept,
+    kept: &Kept<'_>,
 ) -> Result<bool, Memory>
     requires triangle { IsTriangle t.now }
     requires keys { AllPairs (λ j k. j < k) at.keys.now }
@@ -103,7 +111,7 @@ pub fn is_removable<L: LiveTable>(
     corner: Corner,
     at: Stand<'_>,
     live: &L,
-    kept: &Kept,
+    kept: &Kept<'_>,
 ) -> Result<bool, Memory>
     requires a { IsNearPoint corner.a }
     requires b { IsNearPoint corner.b }

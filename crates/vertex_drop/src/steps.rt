@@ -11,21 +11,24 @@ ghost use Rattle.vertex_drop.specs.Sweep.{IsEdgeSwept, sweep_chosen};
 use crate::corners::small_keys;
 use crate::kept::Kept;
 use crate::near::Stand;
-use crate::removable::{Corner, Rule, is_removable};
-use grid_index::{Live, LiveTable};
+use crate::removable::Rule;
+use crate::rows::sweep_next;
+use crate::table::LiveTable;
+use grid_index::Live;
+use point_rope::EdgeRow;
 use std::alloc::Global;
-use tgap_model::{Edge, List, Memory, Point, Removal, Seg};
+use tgap_model::{List, Memory, Point, Removal, Seg};
 
 /// Sweeps an edge for the new face `made`, where the edges with these keys are swept. The segments that are left of it
 /// are put at the end of `kept`, and the points that are removed at the end of `gone`.
-fn sweep_edge<L: LiveTable>(
+fn sweep_edge<'a, L: LiveTable>(
     alloc: Global,
     rule: Rule,
     made: u32,
     keys: &[u32],
     live: &L,
-    edge: &Edge,
-    kept: &mut Kept,
+    edge: &EdgeRow<'a>,
+    kept: &mut Kept<'a>,
     gone: &mut Vec<Point>,
 ) -> Result<(), Memory>
     requires keys { AllPairs (λ j k. j < k) keys.now }
@@ -34,40 +37,34 @@ fn sweep_edge<L: LiveTable>(
     ensures { (i : ℕ) (d : Line) → i < length (L.edges live.now) → edge.now ≡ get_or (L.edges live.now) i d
         → OnOk result (IsEdgeSwept rule (is_swept made keys.now) (L.edges live.now) i d kept.old kept.new gone.old.items gone.new.items) }
 {
-    let points = edge.points.as_slice();
-    let key = edge.key;
-    let last = points.len() - 1;
-    let mut a = points[0];
-    for place in 1..last {
-        let b = points[place];
-        let c = points[place + 1];
+    let last = edge.len() - 1;
+    let mut a = edge.at(0);
+    let mut place = 1;
+    while place < last {
         let at = Stand {
             made,
             keys,
-            key,
+            key: edge.key(),
             place,
         };
-        if is_removable(alloc, rule, Corner { a, b, c }, at, live, kept)? {
-            gone.push(b)?;
-        } else {
-            kept.push(alloc, Seg { a, b })?;
-            a = b;
-        }
+        let (b, next) = sweep_next(alloc, rule, at, live, edge, a, kept, gone)?;
+        a = b;
+        place = next;
     }
-    let b = points[last];
+    let b = edge.at(last);
     kept.push(alloc, Seg { a, b })?;
     kept.close(alloc)
 }
 
 /// Sweeps the edge with this key.
-fn sweep_key<L: LiveTable>(
+fn sweep_key<'a, L: LiveTable>(
     alloc: Global,
     rule: Rule,
     made: u32,
     keys: &[u32],
-    live: &L,
+    live: &'a L,
     key: u32,
-    kept: &mut Kept,
+    kept: &mut Kept<'a>,
     gone: &mut Vec<Point>,
 ) -> Result<(), Memory>
     requires keys { AllPairs (λ j k. j < k) keys.now }
@@ -75,8 +72,8 @@ fn sweep_key<L: LiveTable>(
         → OnOk result (IsEdgeSwept rule (is_swept made keys.now) (L.edges live.now) i d kept.old kept.new gone.old.items gone.new.items) }
     ensures live { AreLive (L.edges live.now) }
 {
-    match live.with_key(key) {
-        Some(edge) => sweep_edge(alloc, rule, made, keys, live, edge, kept, gone),
+    match live.row(key) {
+        Some(edge) => sweep_edge(alloc, rule, made, keys, live, &edge, kept, gone),
         None => Ok(()),
     }
 }
@@ -120,10 +117,12 @@ fn removals_of(alloc: Global, points: &[Point], step: u32) -> Result<List<Remova
 /// times `ratio` is at most `loser_area`. There may be keys of other edges among them that border that face. Only the
 /// edges with these keys are read and swept, since no vertex of another one goes.
 ///
-/// It finds each edge by its key. Of a vertex whose triangle is too large, or has no area, no segment is looked at. For
-/// any other one it asks once for the segments whose boxes meet that of the triangle, finds the edge of each by its
-/// key, and goes over the boxes of what is left of the edges swept so far, a box
-/// for every 32 segments of an edge or fewer.
+/// It finds each edge by its key. An edge is swept in the time of the runs of its row, and of the points of those runs
+/// that have a corner which is small enough, or no summary, or follow a vertex that went: any other run is passed over,
+/// and kept as it lies. Of a vertex whose triangle is too large, or has no area, no segment is looked at. For any other
+/// one it asks once for the segments whose boxes meet that of the triangle, finds the edge of each by its key, and goes
+/// over the boxes of what is left of the edges swept so far: one for each run that was passed over, and one for every 32
+/// other segments of an edge or fewer. Segments are looked at where their box meets that of the triangle.
 pub fn sweep_some<L: LiveTable>(
     alloc: Global,
     live: &L,

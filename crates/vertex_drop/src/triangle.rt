@@ -3,6 +3,8 @@
 ghost use Rattle.std.specs.Prelude.{◌≡◌, All};
 ghost use Rattle.std.specs.List.{list_all};
 ghost use Rattle.tgap_model.specs.Clear.{is_clear};
+ghost use Rattle.tgap_model.specs.Removals.{path};
+ghost use Rattle.point_rope.specs.Held.{IsNearPoint};
 ghost use Rattle.vertex_drop.specs.Held.{IsNearSegment};
 ghost use Rattle.vertex_drop.specs.Outside.{IsTriangle};
 
@@ -36,6 +38,24 @@ pub fn are_segments_clear(t: &Triangle, segments: &[Seg]) -> bool
 {
     for s in segments {
         if !is_segment_clear(t, *s) {
+            return false;
+        }
+    }
+    true
+}
+
+/// Whether the triangle is clear of each segment of a row of points.
+pub fn is_path_clear(t: &Triangle, points: &[Point]) -> bool
+    requires triangle { IsTriangle t.now }
+    requires points { All IsNearPoint points.now }
+    ensures { result ≡ list_all (is_clear t.now.a t.now.b t.now.c) (path points.now) }
+{
+    for i in 1..points.len() {
+        let s = Seg {
+            a: points[i - 1],
+            b: points[i],
+        };
+        if !is_segment_clear(t, s) {
             return false;
         }
     }

@@ -3,22 +3,41 @@
 ghost use Rattle.std.specs.Prelude.{◌≡◌, map, filter, All, IfOk};
 ghost use Rattle.tgap_model.specs.Removals.{sweep};
 ghost use Rattle.vertex_drop.specs.Corners.{has_small_corner, may_lose};
-ghost use Rattle.vertex_drop.specs.Held.{IsNearPoint};
+ghost use Rattle.point_rope.specs.Held.{IsNearPoint};
 
 use grid_index::Live;
+use point_rope::Rope;
 use std::alloc::Global;
-use tgap_model::{Edge, List, Memory, Point, Removal};
+use tgap_model::{Edge, List, Memory, Removal, copied_points};
 use vertex_drop::{is_small_area, least_corner, sweep_some};
 
-/// Whether the least corner of these points is small.
-fn has_small_corner(points: &[Point], loser_area: i128, ratio: u32) -> bool
-    requires { All IsNearPoint points.now }
-    ensures { result ≡ has_small_corner ratio loser_area points.now }
+/// Whether the least corner of a row of points is small.
+fn has_small_corner(row: &Rope, loser_area: i128, ratio: u32) -> bool
+    requires { All IsNearPoint row.now }
+    ensures { result ≡ has_small_corner ratio loser_area row.now }
 {
-    match least_corner(points) {
-        Some(area) => is_small_area(area, loser_area, ratio),
+    match least_corner(row) {
+        Some(area) => is_small_area(area as i128, loser_area, ratio),
         None => false,
     }
+}
+
+/// Whether an edge borders the face and has a small corner.
+fn may_lose(
+    alloc: Global,
+    edge: &Edge,
+    made: u32,
+    loser_area: i128,
+    ratio: u32,
+) -> Result<bool, Memory>
+    requires { All IsNearPoint edge.now.points }
+    ensures { IfOk result (λ may. may ≡ may_lose ratio loser_area made edge.now) }
+{
+    if !edge.has_side(made) {
+        return Ok(false);
+    }
+    let row = Rope::of(alloc, copied_points(alloc, edge.points.as_slice())?)?;
+    Ok(has_small_corner(&row, loser_area, ratio))
 }
 
 /// The keys of the edges that border the face and have a small corner.
@@ -34,7 +53,7 @@ fn small_keys(
 {
     let mut keys = Vec::new(alloc);
     for edge in edges {
-        if edge.has_side(made) && has_small_corner(edge.points.as_slice(), loser_area, ratio) {
+        if may_lose(alloc, edge, made, loser_area, ratio)? {
             keys.push(edge.key)?;
         }
     }

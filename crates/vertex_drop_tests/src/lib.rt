@@ -4,4 +4,8 @@
 #[cfg(test)]
 mod keys;
 #[cfg(test)]
+mod ropes;
+#[cfg(test)]
 mod sweeps;
+#[cfg(test)]
+mod table;

@@ -2,7 +2,7 @@
 
 ghost use Rattle.std.specs.Prelude.{◌≡◌, ◌<◌, IfOk, All};
 ghost use Rattle.grid_index.specs.Live.{IsLiveEdge};
-ghost use Rattle.vertex_drop.specs.Held.{IsNearPoint};
+ghost use Rattle.point_rope.specs.Held.{IsNearPoint};
 
 use crate::keys::swept_by_keys;
 use grid_index::Live;

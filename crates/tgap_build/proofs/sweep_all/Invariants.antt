@@ -18,7 +18,7 @@ invariant-loop-i l = record {
   unclosed : l.forest.closed ≡ false;
   removed : HasRemoved l.forest l.i;
   running : AreRunning l.forest l.i (removals_to (merged l.forest.base) l.i) l.live.edges;
-  sought : IsSought (labelled_edges l.live.edges) l.live.sought;
+  sought : IsSought l.live.edges.places.items l.live.sought;
   corners : IsCornered (length l.live.edges.beside.items) (labelled_edges l.live.edges) l.live.corners;
   records : l.records ≡ map (step_record (merged l.fn.forest.base)) (range_with_len 1 l.i);
 }

@@ -1,20 +1,21 @@
 -- One more edge is out.
-use Rattle.std.proofs.Common.{◌≡◌, ℕ, ◌<◌, true, false, List, length, get_or, set, Option, Some, None, Vec, Global, refl, sym, ap, ◌∙◌, subst, arith}
+use Rattle.std.proofs.Common.{◌≡◌, ℕ, ◌<◌, true, false, List, length, get_or, set, Option, Some, None, refl, sym, ap, ◌∙◌, subst, arith}
 use Rattle.std.proofs.lemmas.List.{length-set}
 use Rattle.tgap_model.specs.declared.geometry.Point.{Point}
 use Rattle.tgap_model.specs.declared.slice.Edge.{Edge}
 use Rattle.grid_index.specs.Keyed.{edge_in, edges_in}
+use Rattle.point_rope.specs.Rows.{oriented, glued}
 use Rattle.tgap_build.specs.declared.joined.OldEdge.{OldEdge}
 use Rattle.tgap_build.proofs.Filters.{filter_all}
 use Rattle.tgap_build.proofs.Merging.{key_there}
 use Rattle.tgap_build.proofs.TableChanges.{place_read, keyed_emptied}
 use Rattle.tgap_build.proofs.TakenRows.{part_placed, part_still, left_more, still_more, row_more}
-use Rattle.tgap_build.proofs.edge_table.take_row.Goals.{in-Some+in_ok-row, in_default}
+use Rattle.tgap_build.proofs.edge_table.take_row.Goals.{in-Some+in_ok-append, in_default}
 use Rattle.tgap_build.proofs.edge_table.take_row.Goals as goal
 
 pub loop-part-init : goal.loop-part-init
 loop-part-init c = record {
-  row = c.new-row.ensures.items;
+  row = c.new-row.ensures;
   keyed = c.requires.keyed;
   left = sym (filter_all (λ (e : Edge). true) (edges_in c.args.places.now.items) (λ e m. refl));
   still = λ k out. refl;
@@ -43,11 +44,11 @@ loop-part-preserved c =
     let there = key_there p0 c.requires.keyed part.key (c.requires.there i d within) in
     record {
       row = elim c.match-take.branch [
-        | in-Some+in_ok-row w ↦
-            ap (λ (v : Vec Point Global). v.items) w.row-is
-            ∙ row_more p0 parts i d within c.loop-part.row.items before.row w.in_ok-row.row.items w.in-Some.edge
+        | in-Some+in_ok-append w ↦
+            w.row-is
+            ∙ row_more p0 parts i d within c.loop-part.row before.row w.append.new.self w.in-Some.edge
             (sym here ∙ place_read now part.key l c.index_mut.result.now c.take.result (Some w.in-Some.edge) c.index_mut.ensures.value c.take.ensures.value w.in-Some.is)
-            w.in_ok-row.ensures
+            (w.in_ok-append.ensures.ok ∙ ap (λ (ps : List Point). glued c.loop-part.row (oriented part.turned ps)) w.into_row.ensures)
         | in_default w ↦
             absurd (let none = place_read now part.key l c.index_mut.result.now c.take.result None c.index_mut.ensures.value c.take.ensures.value w.in_default.is in
             let some = sym there.1 ∙ sym here ∙ none in cc)

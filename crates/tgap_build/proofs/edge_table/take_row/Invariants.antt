@@ -7,7 +7,7 @@ use Rattle.tgap_build.proofs.edge_table.take_row.Given as goal
 
 abbrev pub invariant-loop-part : goal.invariant-loop-part
 invariant-loop-part l = record {
-  row : l.row.items ≡ joined_row l.fn.places.items (take l.part-index l.parts);
+  row : l.row ≡ joined_row l.fn.places.items (take l.part-index l.parts);
   keyed : AreAtKeys l.places.items;
   left : edges_in l.places.items ≡ without_keys (old_keys (take l.part-index l.parts)) (edges_in l.fn.places.items);
   still : (k : ℕ) → (Contains (old_keys (take l.part-index l.parts)) k → ⊥) → edge_in l.places.items k ≡ edge_in l.fn.places.items k;

@@ -16,9 +16,10 @@ use Rattle.tgap_model.specs.Merged.{merged}
 use Rattle.tgap_model.specs.Chains.{chains_at}
 use Rattle.tgap_model.specs.Removals.{has_side, is_removed, removals_to}
 use Rattle.tgap_model.specs.Records.{mend_of}
+use Rattle.tgap_model.proofs.BaseFacts.{base_facts}
 use Rattle.map_laws.proofs.Lists.{all_members, kept_among, map_among}
 use Rattle.grid_index.specs.Keyed.{edge_in}
-use Rattle.grid_index.specs.Live.{keys, AreLive}
+use Rattle.grid_index.specs.Live.{keys}
 use Rattle.edge_forest.specs.declared.face_labels.FaceLabels.{FaceLabels}
 use Rattle.edge_forest.specs.FaceLabels.{label_of}
 use Rattle.edge_forest.specs.Forest.{is_gone}
@@ -30,7 +31,7 @@ use Rattle.tgap_build.specs.Changes.{whole_of, made_of, may_need, made_mends, le
 use Rattle.tgap_build.proofs.Alive.{key_within}
 use Rattle.tgap_build.proofs.EdgeTables.{ascending}
 use Rattle.tgap_build.proofs.Filters.{filter_both}
-use Rattle.tgap_build.proofs.KeyedEdges.{keys_ascend, gone_there}
+use Rattle.tgap_build.proofs.KeyedEdges.{gone_there}
 use Rattle.tgap_build.proofs.LessEdges.{less_at_is}
 use Rattle.tgap_build.proofs.LosingEdges.{losing_border}
 use Rattle.tgap_build.proofs.LostEdges.{table_points}
@@ -38,7 +39,7 @@ use Rattle.tgap_build.proofs.NeededEdges.{changed_order, losing_keys_are, needed
 use Rattle.tgap_build.proofs.Removed.{step_removed}
 use Rattle.tgap_build.proofs.Run.{running_less}
 use Rattle.tgap_build.proofs.StepMends.{mends_all}
-use Rattle.tgap_build.proofs.StepSweep.{made_sides, labelled_live, told_faces, swept_list, less_faces, less_live}
+use Rattle.tgap_build.proofs.StepSweep.{made_sides, labelled_live, told_faces, swept_list, less_faces}
 use Rattle.tgap_build.proofs.StepTable.{made_small}
 use Rattle.tgap_build.proofs.Swept.{list_steps, list_apart, list_there, list_left}
 use Rattle.tgap_build.proofs.TableLive.{counts_few}
@@ -76,9 +77,6 @@ candidates-requires-clause-label c =
     let room : s.made < length t.beside.items = omega (arith, made_small f.base w.base w.partition k some last, ap (λ (x : MergeStep). x.made) is, r.lists) in
     subst (λ (l : ℕ). l < length t.beside.items) (sym c.label-made_label.ensures) (r.table.label_room s.made room)
 
-pub candidates-requires-clause-live : goal.candidates-requires-clause-live
-candidates-requires-clause-live c = labelled_live c.args.forest.now c.args.k c.requires.some c.requires.made c.args.live.now.edges c.requires.running
-
 pub swept-requires-clause-live : goal.swept-requires-clause-live
 swept-requires-clause-live c =
     let f = c.args.forest.now in
@@ -92,6 +90,12 @@ swept-requires-clause-live c =
     let is = c.requires.step in
     let before = removals_to (merged f.base) (k - 1) in
     labelled_live f k some c.requires.made t r
+
+pub swept-requires-clause-few : goal.swept-requires-clause-few
+swept-requires-clause-few c =
+    let f = c.args.forest.now in
+    let r = c.requires.running in
+    omega (arith, r.places, (base_facts f.base r.forest.base).few_arcs)
 
 pub swept-requires-clause-ascending : goal.swept-requires-clause-ascending
 swept-requires-clause-ascending c = subst (AllPairs (λ (i j : ℕ). i < j)) (sym c.deref.ensures.value) c.in_ok-keys.ensures.ascending
@@ -280,32 +284,6 @@ remove-requires-clause-left c =
     let told = c.in_ok-removals.ensures.removals in
     subst (λ (n : ℕ). All (λ (x : Removal). is_gone f n x.point ≡ false) removals) (sym c.requires.made) (list_left f k w.base w.partition some last c.requires.removed (table_edges t) r.edges _ _ _ removals c.requires.ratio refl area (told_faces f k some c.requires.made t r c.requires.removed _ label _ removals c.requires.ratio label_is area told))
 
-pub remove-requires-2-clause-ascending : goal.remove-requires-2-clause-ascending
-remove-requires-2-clause-ascending c =
-    let f = c.args.forest.now in
-    let k = c.args.k in
-    let some = c.requires.some in
-    let t = c.args.live.now.edges in
-    let r = c.requires.running in
-    let w = r.forest in
-    let last : k ≤ length (history_of f.base) = omega (arith, w.steps, c.requires.made) in
-    let s = c.args.step.now in
-    let is = c.requires.step in
-    let before = removals_to (merged f.base) (k - 1) in
-    let label = c.label-made_label.result in
-    let label_is = c.label-made_label.ensures ∙ ap (λ (x : MergeStep). label_of t.labels x.made) is in
-    let removals = c.in_ok-removals.removals in
-    let area = to_z-of_z w128 c.args.loser_area c.ranges.loser_area ∙ c.requires.area in
-    let told = c.in_ok-removals.ensures.removals in
-    let gone = c.in_ok-gone.gone in
-    let found : (p : Point) → has_point gone p ≡ is_removed removals p = λ p. c.in_ok-gone.ensures p ∙ ap (λ (rs : List Removal). is_removed rs p) c.as_slice.ensures in
-    let losing = c.in_ok-losing.ensures ∙ ap (flat_map (λ j. keys (filter (has_any gone) (option_to_list (edge_in t.places.items j))))) c.deref-2.ensures.value
-    ∙ losing_border f k some c.requires.made t r c.requires.removed _ label _ removals c.requires.ratio label_is area told gone found c.in_ok-keys.keys.items c.in_ok-keys.ensures.ascending c.in_ok-keys.ensures.small in
-    let q = (λ (e : Edge). has_any gone e && has_side label e) in
-    let here = c.deref-4.ensures.value ∙ losing ∙ ap keys (filter_both (has_any gone) (has_side label) (labelled_edges t)) in
-    let ascend = ascending t.places.items r.table.keyed in
-    subst (AllPairs (λ (i j : ℕ). i < j)) (sym here) (keys_ascend (labelled_edges t) ascend q)
-
 pub remove-requires-2-clause-there : goal.remove-requires-2-clause-there
 remove-requires-2-clause-there c =
     let f = c.args.forest.now in
@@ -331,33 +309,6 @@ remove-requires-2-clause-there c =
     let here = c.deref-4.ensures.value ∙ losing ∙ ap keys (filter_both (has_any gone) (has_side label) (labelled_edges t)) in
     let ascend = ascending t.places.items r.table.keyed in
     subst (All (Contains (keys (labelled_edges t)))) (sym here) (gone_there (labelled_edges t) ascend q)
-
-pub remove-requires-2-clause-live : goal.remove-requires-2-clause-live
-remove-requires-2-clause-live c =
-    let f = c.args.forest.now in
-    let k = c.args.k in
-    let some = c.requires.some in
-    let t = c.args.live.now.edges in
-    let r = c.requires.running in
-    let w = r.forest in
-    let last : k ≤ length (history_of f.base) = omega (arith, w.steps, c.requires.made) in
-    let s = c.args.step.now in
-    let is = c.requires.step in
-    let before = removals_to (merged f.base) (k - 1) in
-    let label = c.label-made_label.result in
-    let label_is = c.label-made_label.ensures ∙ ap (λ (x : MergeStep). label_of t.labels x.made) is in
-    let removals = c.in_ok-removals.removals in
-    let area = to_z-of_z w128 c.args.loser_area c.ranges.loser_area ∙ c.requires.area in
-    let told = c.in_ok-removals.ensures.removals in
-    let gone = c.in_ok-gone.gone in
-    let found : (p : Point) → has_point gone p ≡ is_removed removals p = λ p. c.in_ok-gone.ensures p ∙ ap (λ (rs : List Removal). is_removed rs p) c.as_slice.ensures in
-    let losing = c.in_ok-losing.ensures ∙ ap (flat_map (λ j. keys (filter (has_any gone) (option_to_list (edge_in t.places.items j))))) c.deref-2.ensures.value
-    ∙ losing_border f k some c.requires.made t r c.requires.removed _ label _ removals c.requires.ratio label_is area told gone found c.in_ok-keys.keys.items c.in_ok-keys.ensures.ascending c.in_ok-keys.ensures.small in
-    let q = (λ (e : Edge). has_any gone e && has_side label e) in
-    let here = c.deref-4.ensures.value ∙ losing ∙ ap keys (filter_both (has_any gone) (has_side label) (labelled_edges t)) in
-    let ascend = ascending t.places.items r.table.keyed in
-    subst AreLive (sym (ap (λ (ks : List ℕ). map (less_at gone ks) (labelled_edges t)) here ∙ less_at_is gone (labelled_edges t) ascend q))
-    (less_live f k some c.requires.made t r c.requires.removed _ label _ removals c.requires.ratio label_is area told gone found)
 
 pub returns-clause-removed : goal.returns-clause-removed
 returns-clause-removed c =

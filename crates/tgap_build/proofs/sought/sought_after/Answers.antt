@@ -1,21 +1,14 @@
--- The look-up has the edges before, and then those after.
-use Rattle.std.proofs.Common.{◌∙◌, List, Option, sym, subst}
-use Rattle.tgap_model.specs.declared.slice.Edge.{Edge}
-use Rattle.grid_index.specs.Keyed.{edges_in, edges_at, IsExchange}
-use Rattle.grid_index.specs.Slots.{IsIndexed}
-use Rattle.tgap_build.specs.Sought.{IsSought}
+-- Each edge has the box that it had, or one of its own.
+use Rattle.std.proofs.Common.{length, sym, ◌∙◌, subst}
+use Rattle.tgap_build.specs.Sought.{IsSought, HasRoom}
+use Rattle.tgap_build.proofs.BoxedEdges.{boxed_after}
 use Rattle.tgap_build.proofs.sought.sought_after.Goals as goal
 
-pub replace-requires-clause-exchange : goal.replace-requires-clause-exchange
-replace-requires-clause-exchange c =
-    let before = c.requires.exchange.0 in (
-      before,
-      subst (IsSought before) (sym c.take.ensures.value ∙ c.in-Some.is) c.requires.exchange.1,
-      subst (λ (ps : List (Option Edge)). IsExchange before c.args.gone.now (edges_at ps c.args.come.now) (edges_in ps)) (sym c.places.ensures) c.requires.exchange.2,
-    )
-
 pub returns : goal.returns
-returns c = λ before h ex.
-    subst (λ (ps : List (Option Edge)). IsIndexed (edges_in ps) c.replace.new.self) c.places.ensures
-    (c.in_ok-replace.ensures before (subst (IsSought before) (sym c.take.ensures.value ∙ c.in-Some.is) h)
-    (subst (λ (ps : List (Option Edge)). IsExchange before c.args.gone.now (edges_at ps c.args.come.now) (edges_in ps)) (sym c.places.ensures) ex))
+returns c = λ before h same.
+    let places = c.args.edges.now.places.items in
+    let told = sym c.take.ensures.value ∙ c.in-Some.is in
+    let room = subst (HasRoom (length places)) told c.requires in
+    boxed_after before places c.in-Some.boxes c.renew_keys.new.boxes c.args.come.now (subst (IsSought before) told h) same
+    (c.renew_keys.ensures.room ∙ c.forget_ended.ensures.room ∙ c.forget_keys.ensures.room ∙ room)
+    (λ k at. c.renew_keys.ensures.kept k (c.forget_ended.ensures.kept k (c.forget_keys.ensures.kept k at))) c.renew_keys.ensures.here

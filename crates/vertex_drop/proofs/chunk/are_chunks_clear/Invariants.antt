@@ -2,7 +2,7 @@
 use Rattle.std.proofs.Common.{◌≡◌, drop}
 use Rattle.std.specs.List.{list_all}
 use Rattle.tgap_model.specs.Clear.{is_clear}
-use Rattle.vertex_drop.specs.Held.{joined}
+use Rattle.vertex_drop.specs.Chunks.{joined}
 use Rattle.vertex_drop.proofs.chunk.are_chunks_clear.Given as goal
 
 abbrev pub invariant-loop-chunk : goal.invariant-loop-chunk

@@ -6,7 +6,8 @@ use Rattle.tgap_model.specs.declared.geometry.Point.{Point}
 use Rattle.tgap_model.specs.Bounds.{max_cross}
 use Rattle.tgap_model.specs.Point.{area2}
 use Rattle.vertex_drop.proofs.Least.{none_of_few, least_begins, least_more, least_ends, min_is}
-use Rattle.vertex_drop.proofs.Small.{area_small, wide_area}
+use Rattle.point_rope.proofs.SmallAreas.{area_small}
+use Rattle.vertex_drop.proofs.Small.{wide_area}
 use Rattle.vertex_drop.proofs.corners.least_area.Goals as goal
 
 pub returns-then-points-lt3-clause-exact : goal.returns-then-points-lt3-clause-exact

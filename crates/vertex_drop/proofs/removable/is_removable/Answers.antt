@@ -5,7 +5,8 @@ use Rattle.tgap_model.specs.Bounds.{max_cross}
 use Rattle.tgap_model.specs.Point.{area2}
 use Rattle.tgap_model.specs.Clear.{is_clear}
 use Rattle.vertex_drop.specs.Left.{left_segments}
-use Rattle.vertex_drop.proofs.Small.{area_small, wide_area, area_of_zero, not_zero}
+use Rattle.point_rope.proofs.SmallAreas.{area_small}
+use Rattle.vertex_drop.proofs.Small.{wide_area, area_of_zero, not_zero}
 use Rattle.vertex_drop.proofs.Removed.{removed_flat, kept_large, removed_clear}
 use Rattle.vertex_drop.proofs.removable.is_removable.Goals as goal
 

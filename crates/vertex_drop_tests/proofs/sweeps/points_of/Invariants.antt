@@ -1,6 +1,6 @@
 -- the points so far are within the limits
 use Rattle.std.proofs.Common.{All}
-use Rattle.vertex_drop.specs.Held.{IsNearPoint}
+use Rattle.point_rope.specs.Held.{IsNearPoint}
 use Rattle.vertex_drop_tests.proofs.sweeps.points_of.Given as goal
 
 abbrev pub invariant-loop-x : goal.invariant-loop-x

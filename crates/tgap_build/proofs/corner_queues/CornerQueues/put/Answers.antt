@@ -1,17 +1,10 @@
--- An edge of the table is within the limits, and its labels have lists.
+-- The labels of an edge of the table have lists.
 use Rattle.std.proofs.Common.{ℕ, ◌<◌, sym, subst}
 use Rattle.map_laws.proofs.Lists.{members_all}
-use Rattle.grid_index.specs.Live.{IsLiveEdge}
 use Rattle.tgap_build.specs.Table.{labelled_edges, IsHeld}
 use Rattle.tgap_build.proofs.EdgeTables.{at_among}
 use Rattle.tgap_build.proofs.Visits.{listed_within}
 use Rattle.tgap_build.proofs.corner_queues.CornerQueues.put.Goals as goal
-
-pub put_edge-requires-clause-near : goal.put_edge-requires-clause-near
-put_edge-requires-clause-near c =
-    let t = c.args.edges.now in
-    let here = at_among t.places.items c.args.key c.in-Some.edge.now (sym c.in-Some.ensures) in
-    (members_all IsLiveEdge (labelled_edges t) c.in-Some.edge.now c.requires.live.each here).limits
 
 pub put_edge-requires-clause-left : goal.put_edge-requires-clause-left
 put_edge-requires-clause-left c =

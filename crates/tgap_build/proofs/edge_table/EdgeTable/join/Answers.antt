@@ -18,17 +18,18 @@ index_mut-requires c =
     omega (arith, l, c.in_ok-row.ensures.room, c.take_row.new.places.ok.0)
 
 made : (c : goal.Joined-index_mut)
-    → set c.take_row.new.places.items c.args.key (Some (record { key = c.args.key; left = c.sides-left.result.0; right = c.sides-left.result.1; points = c.from.result }))
+    → set c.take_row.new.places.items c.args.key (Some c.new.result)
     ≡ set c.take_row.new.places.items c.args.key (Some (joined_edge c.args.self.now.places.items c.args.key c.args.parts.now))
 made c =
     ap (λ (e : Edge). set c.take_row.new.places.items c.args.key (Some e))
-    (ap₂ (λ (a b : ℕ). record { key = c.args.key; left = a; right = b; points = c.from.result }) c.sides-left.ensures.left c.sides-left.ensures.right
+    (c.new.ensures
+    ∙ ap₂ (λ (a b : ℕ). record { key = c.args.key; left = a; right = b; points = c.in_ok-row.row }) c.sides-left.ensures.left c.sides-left.ensures.right
     ∙ ap (λ (ps : List Point). record {
       key = c.args.key;
       left = (edge_with c.args.self.now.places.items c.args.key).left;
       right = (edge_with c.args.self.now.places.items c.args.key).right;
       points = ps;
-    }) (c.from.ensures ∙ c.in_ok-row.ensures.row))
+    }) c.in_ok-row.ensures.row)
 
 pub returns-clause-table : goal.returns-clause-table
 returns-clause-table c =

@@ -14,7 +14,7 @@ returns-in-Some-clause-table c =
     let k = c.args.key in
     let gone = c.args.gone.now in
     let at = place_read places k c.requires.key c.index_mut.result.now c.take.result (Some c.in-Some.edge) c.index_mut.ensures.value c.take.ensures.value c.in-Some.is in
-    let there = set_again places k c.take.new.self (Some c.less-edge.result) ∙ ap (λ (e : Edge). set places k (Some e)) c.less-edge.ensures
+    let there = set_again places k c.take.new.self (Some c.remove.new.self) ∙ ap (λ (e : Edge). set places k (Some e)) c.remove.ensures
     ∙ ap (λ (o : Option Edge). set places k (option_map (less gone) o)) (sym at) in
     subst (IsTableOf c.args.self.now.labels c.args.self.now.beside.items) (sym there)
     (less_table places c.requires.table.keyed k c.requires.key gone c.args.self.now.labels c.args.self.now.beside.items c.requires.table)
@@ -25,7 +25,7 @@ returns-in-Some-clause-edges c =
     let k = c.args.key in
     let gone = c.args.gone.now in
     let at = place_read places k c.requires.key c.index_mut.result.now c.take.result (Some c.in-Some.edge) c.index_mut.ensures.value c.take.ensures.value c.in-Some.is in
-    let there = set_again places k c.take.new.self (Some c.less-edge.result) ∙ ap (λ (e : Edge). set places k (Some e)) c.less-edge.ensures
+    let there = set_again places k c.take.new.self (Some c.remove.new.self) ∙ ap (λ (e : Edge). set places k (Some e)) c.remove.ensures
     ∙ ap (λ (o : Option Edge). set places k (option_map (less gone) o)) (sym at) in
     ap edges_in there ∙ less_edges places c.requires.table.keyed k c.requires.key gone
 

@@ -8,17 +8,15 @@ use Rattle.tgap_model.specs.declared.merge.MergeStep.{MergeStep}
 use Rattle.tgap_model.specs.declared.slice.Edge.{Edge}
 use Rattle.tgap_model.specs.Merged.{merged}
 use Rattle.tgap_model.specs.Removals.{removals_to}
-use Rattle.grid_index.specs.Keyed.{edges_at}
-use Rattle.grid_index.specs.Live.{keys, AreLive}
+use Rattle.grid_index.specs.Live.{keys}
 use Rattle.edge_forest.specs.declared.face_labels.FaceLabels.{FaceLabels}
 use Rattle.edge_forest.specs.FaceLabels.{HasLabel}
-use Rattle.tgap_build.specs.declared.edge_table.EdgeTable.{EdgeTable}
 use Rattle.tgap_build.specs.declared.live_edges.Made.{Made}
-use Rattle.tgap_build.specs.Sought.{IsSought}
-use Rattle.tgap_build.specs.Table.{labelled_edges, IsTable}
+use Rattle.tgap_build.specs.Sought.{IsSought, HasRoom}
+use Rattle.tgap_build.specs.Table.{labelled_edges}
 use Rattle.tgap_build.specs.Queues.{IsCornered, AreKeptBut}
-use Rattle.tgap_build.specs.Running.{AreRunning}
-use Rattle.tgap_build.specs.Changes.{born_chains, part_keys, whole_of, made_of, IsChange}
+use Rattle.tgap_build.specs.Changes.{born_chains, part_keys, whole_of, made_of}
+use Rattle.tgap_build.proofs.BoxedTables.{sought_room, same_places}
 use Rattle.tgap_build.proofs.Born.{within}
 use Rattle.tgap_build.proofs.ChangedChains.{losing_order}
 use Rattle.tgap_build.proofs.KeptEdges.{kept_exchange}
@@ -177,65 +175,13 @@ pub push_whole-requires-clause-others : goal.push_whole-requires-clause-others
 push_whole-requires-clause-others c =
     subst IsNonDecreasing (sym c.deref-4.ensures.value) (IsNonDecreasingBy-from_sort (λ (n : ℕ). n) c.sort_unstable.new.self.items c.sort_unstable.ensures.sorted)
 
-pub seek-requires-clause-keyed : goal.seek-requires-clause-keyed
-seek-requires-clause-keyed c =
-    let f = c.args.forest.now in
-    let k = c.args.k in
-    let old = c.args.old in
-    let some = c.requires.some in
-    let grown = c.requires.grown in
+pub sought_after-requires : goal.sought_after-requires
+sought_after-requires c =
     let t0 = c.args.self.now.edges in
-    let r = c.requires.running in
-    let s = c.args.step.now in
-    let is = c.requires.step in
-    let t1 = c.merge.new.self in
     let m = c.in_ok-ended.ensures in
-    let losing = c.in_ok-ended.field-0.losing.items in
-    let losing_told = m.losing in
-    let ended = c.in_ok-ended.field-0.ended in
-    let ended_told = m.ended in
-    (c.in_ok-made.ensures.table (labelled_edges t1) (first_joined f k old some grown t0 t1 r s is m.table m.edges m.labelled losing losing_told ended ended_told)).table.keyed
-
-pub seek-requires-clause-sought : goal.seek-requires-clause-sought
-seek-requires-clause-sought c =
-    let f = c.args.forest.now in
-    let k = c.args.k in
-    let old = c.args.old in
-    let some = c.requires.some in
-    let grown = c.requires.grown in
-    let t0 = c.args.self.now.edges in
-    let r = c.requires.running in
-    let s = c.args.step.now in
-    let is = c.requires.step in
-    let t1 = c.merge.new.self in
-    let m = c.in_ok-ended.ensures in
-    let losing = c.in_ok-ended.field-0.losing.items in
-    let losing_told = m.losing in
-    let ended = c.in_ok-ended.field-0.ended in
-    let ended_told = m.ended in
-    let t = c.join_new.new.self.edges in
-    let state = c.in_ok-made.ensures.table (labelled_edges t1) (first_joined f k old some grown t0 t1 r s is m.table m.edges m.labelled losing losing_told ended ended_told) in
-    let places = c.in_ok-made.ensures.room.places ∙ m.room.places ∙ r.places in
-    let joined = c.sort_unstable.new.self.items in
-    let told = c.in_ok-made.ensures.joined ∙ ap (λ (ks : List ℕ). ks ++ flat_map (part_keys (merged f.base) k) (born_chains f k old (length f.edges))) c.new-joined.ensures.items in
-    let joined_told = subst (λ (ks : List ℕ). IsPermutation ks joined) told c.sort_unstable.ensures.permutation in
-    let raw = c.push_whole.new.made.items in
-    let sorted = c.sort_unstable_by_key.new.self.items in
-    let others = λ (losing_side keys but : List ℕ). map (whole_of t.places.items s losing_side) (filter (λ i. not (list_any (λ j. j == i) but)) keys) in
-    let made_told = c.in_ok-push_whole.ensures
-    ∙ ap (λ (os : List Made). os ++ others c.deref-2.result.now c.deref-3.result.now c.deref-4.result.now) c.in_ok-made.ensures.made
-    ∙ ap₂ (λ (a b : List ℕ). map (made_of (merged f.base) k) (born_chains f k old (length f.edges)) ++ others a b c.deref-4.result.now) c.deref-2.ensures.value c.deref-3.ensures.value
-    ∙ ap (λ (ks : List ℕ). map (made_of (merged f.base) k) (born_chains f k old (length f.edges)) ++ others losing losing ks) c.deref-4.ensures.value in
-    let order = IsNonDecreasingBy-from_sort_by_key (λ (o : Made). o.key) sorted c.sort_unstable_by_key.ensures.sorted (λ a r q k. search rules) in
-    let keys_told = c.deref-8.ensures.value ∙ c.in_ok-keys.ensures ∙ ap (map (λ (o : Made). o.key)) c.deref-5.ensures.value in
-    let come = edges_at t.places.items c.deref-8.result.now in
-    let all = subst (λ (ks : List ℕ). IsChange (labelled_edges t0) (ks ++ c.deref-7.result.now ++ keys c.as_slice.result.now) come (labelled_edges t)) (sym c.deref-6.ensures.value)
-    (subst (λ (ks : List ℕ). IsChange (labelled_edges t0) (joined ++ ks ++ keys c.as_slice.result.now) come (labelled_edges t)) (sym c.deref-7.ensures.value)
-    (subst (λ (es : List Edge). IsChange (labelled_edges t0) (joined ++ losing ++ keys es) come (labelled_edges t)) (sym c.as_slice.ensures)
-    (subst (λ (ks : List ℕ). IsChange (labelled_edges t0) (joined ++ losing ++ keys ended) (edges_at t.places.items ks) (labelled_edges t)) (sym keys_told)
-    (exchange f k old some grown t0 t1 r s is m.table m.edges m.labelled losing losing_told ended ended_told t state places joined joined_told raw sorted made_told c.sort_unstable_by_key.ensures.permutation order)))) in
-    let looked = subst (IsSought (labelled_edges t0)) (sym c.in_ok-made.ensures.sought) c.requires.sought in
-    (labelled_edges t0, looked, all)
+    let places = c.in_ok-made.ensures.room.places ∙ m.room.places in
+    subst (HasRoom (length c.join_new.new.self.edges.places.items)) (sym c.in_ok-made.ensures.sought)
+    (subst (λ (n : ℕ). HasRoom n c.args.self.now.sought) (sym places) (sought_room t0.places.items c.args.self.now.sought c.requires.sought))
 
 pub returns-clause-sought : goal.returns-clause-sought
 returns-clause-sought c =
@@ -268,15 +214,11 @@ returns-clause-sought c =
     ∙ ap₂ (λ (a b : List ℕ). map (made_of (merged f.base) k) (born_chains f k old (length f.edges)) ++ others a b c.deref-4.result.now) c.deref-2.ensures.value c.deref-3.ensures.value
     ∙ ap (λ (ks : List ℕ). map (made_of (merged f.base) k) (born_chains f k old (length f.edges)) ++ others losing losing ks) c.deref-4.ensures.value in
     let order = IsNonDecreasingBy-from_sort_by_key (λ (o : Made). o.key) sorted c.sort_unstable_by_key.ensures.sorted (λ a r q k. search rules) in
-    let keys_told = c.deref-8.ensures.value ∙ c.in_ok-keys.ensures ∙ ap (map (λ (o : Made). o.key)) c.deref-5.ensures.value in
-    let come = edges_at t.places.items c.deref-8.result.now in
-    let all = subst (λ (ks : List ℕ). IsChange (labelled_edges t0) (ks ++ c.deref-7.result.now ++ keys c.as_slice.result.now) come (labelled_edges t)) (sym c.deref-6.ensures.value)
-    (subst (λ (ks : List ℕ). IsChange (labelled_edges t0) (joined ++ ks ++ keys c.as_slice.result.now) come (labelled_edges t)) (sym c.deref-7.ensures.value)
-    (subst (λ (es : List Edge). IsChange (labelled_edges t0) (joined ++ losing ++ keys es) come (labelled_edges t)) (sym c.as_slice.ensures)
-    (subst (λ (ks : List ℕ). IsChange (labelled_edges t0) (joined ++ losing ++ keys ended) (edges_at t.places.items ks) (labelled_edges t)) (sym keys_told)
-    (exchange f k old some grown t0 t1 r s is m.table m.edges m.labelled losing losing_told ended ended_told t state places joined joined_told raw sorted made_told c.sort_unstable_by_key.ensures.permutation order)))) in
-    let looked = subst (IsSought (labelled_edges t0)) (sym c.in_ok-made.ensures.sought) c.requires.sought in
-    subst (λ (u : EdgeTable). IsSought (labelled_edges u) c.seek.new.self.sought) (sym c.in_ok-seek.ensures.edges) (c.in_ok-seek.ensures.sought (labelled_edges t0) looked all)
+    let ex = exchange f k old some grown t0 t1 r s is m.table m.edges m.labelled losing losing_told ended ended_told t state places joined joined_told raw sorted made_told c.sort_unstable_by_key.ensures.permutation order in
+    let keys_told = c.deref-7.ensures.value ∙ c.in_ok-keys.ensures ∙ ap (map (λ (o : Made). o.key)) c.deref-5.ensures.value in
+    let kept = kept_exchange t.places.items state.table.keyed (labelled_edges t0) (labelled_edges t) (joined ++ losing ++ keys ended) (map (λ (o : Made). o.key) sorted) ex in
+    c.sought_after.ensures t0.places.items (subst (IsSought t0.places.items) (sym c.in_ok-made.ensures.sought) c.requires.sought)
+    (same_places t0.places.items t.places.items r.table.keyed state.table.keyed c.deref-7.result.now (subst (λ (ks : List ℕ). AreKeptBut ks (labelled_edges t0) (labelled_edges t)) (sym keys_told) kept))
 
 pub returns-clause-made : goal.returns-clause-made
 returns-clause-made c =
@@ -333,11 +275,10 @@ returns-clause-running c =
     let places = c.in_ok-made.ensures.room.places ∙ m.room.places ∙ r.places in
     let labels = c.in_ok-made.ensures.labels in
     let has = λ (face : ℕ) (h : HasLabel t1.labels face). subst (λ (l : FaceLabels). HasLabel l face) (sym labels) h in
-    subst (AreRunning f k (removals_to (merged f.base) (k - 1))) (sym c.in_ok-seek.ensures.edges)
-    (running_next f grown.forest k some (within f k old some grown) (removals_to (merged f.base) (k - 1)) (removals_to (merged f.base) (k - 1)) t0 t r state.table
+    running_next f grown.forest k some (within f k old some grown) (removals_to (merged f.base) (k - 1)) (removals_to (merged f.base) (k - 1)) t0 t r state.table
     (edges_now f k old some grown t0 t1 r s is m.table m.edges m.labelled losing losing_told ended ended_told t state) (c.in_ok-made.ensures.room.places ∙ m.room.places) (c.in_ok-made.ensures.room.lists ∙ m.room.lists)
     (subst (λ (x : MergeStep). HasLabel t.labels x.made) is (has s.made m.made))
-    (λ face p q n known. has face (m.others face (λ e. p (e ∙ ap (λ (x : MergeStep). x.loser) is)) (λ e. q (e ∙ ap (λ (x : MergeStep). x.winner) is)) (λ e. n (e ∙ ap (λ (x : MergeStep). x.made) is)) known)))
+    (λ face p q n known. has face (m.others face (λ e. p (e ∙ ap (λ (x : MergeStep). x.loser) is)) (λ e. q (e ∙ ap (λ (x : MergeStep). x.winner) is)) (λ e. n (e ∙ ap (λ (x : MergeStep). x.made) is)) known))
 
 pub requeue-requires-clause-table : goal.requeue-requires-clause-table
 requeue-requires-clause-table c =
@@ -358,97 +299,17 @@ requeue-requires-clause-table c =
     let ended_told = m.ended in
     let t = c.join_new.new.self.edges in
     let state = c.in_ok-made.ensures.table (labelled_edges t1) (first_joined f k old some grown t0 t1 r s is m.table m.edges m.labelled losing losing_told ended ended_told) in
-    let places = c.in_ok-made.ensures.room.places ∙ m.room.places ∙ r.places in
-    let joined = c.sort_unstable.new.self.items in
-    let told = c.in_ok-made.ensures.joined ∙ ap (λ (ks : List ℕ). ks ++ flat_map (part_keys (merged f.base) k) (born_chains f k old (length f.edges))) c.new-joined.ensures.items in
-    let joined_told = subst (λ (ks : List ℕ). IsPermutation ks joined) told c.sort_unstable.ensures.permutation in
-    let raw = c.push_whole.new.made.items in
-    let sorted = c.sort_unstable_by_key.new.self.items in
-    let others = λ (losing_side keys but : List ℕ). map (whole_of t.places.items s losing_side) (filter (λ i. not (list_any (λ j. j == i) but)) keys) in
-    let made_told = c.in_ok-push_whole.ensures
-    ∙ ap (λ (os : List Made). os ++ others c.deref-2.result.now c.deref-3.result.now c.deref-4.result.now) c.in_ok-made.ensures.made
-    ∙ ap₂ (λ (a b : List ℕ). map (made_of (merged f.base) k) (born_chains f k old (length f.edges)) ++ others a b c.deref-4.result.now) c.deref-2.ensures.value c.deref-3.ensures.value
-    ∙ ap (λ (ks : List ℕ). map (made_of (merged f.base) k) (born_chains f k old (length f.edges)) ++ others losing losing ks) c.deref-4.ensures.value in
-    let order = IsNonDecreasingBy-from_sort_by_key (λ (o : Made). o.key) sorted c.sort_unstable_by_key.ensures.sorted (λ a r q k. search rules) in
-    let ex = exchange f k old some grown t0 t1 r s is m.table m.edges m.labelled losing losing_told ended ended_told t state places joined joined_told raw sorted made_told c.sort_unstable_by_key.ensures.permutation order in
-    let u = c.seek.new.self.edges in
-    let now = c.in_ok-seek.ensures.edges in
-    subst IsTable (sym now) state.table
-
-pub requeue-requires-clause-live : goal.requeue-requires-clause-live
-requeue-requires-clause-live c =
-    let f = c.args.forest.now in
-    let k = c.args.k in
-    let old = c.args.old in
-    let some = c.requires.some in
-    let grown = c.requires.grown in
-    let t0 = c.args.self.now.edges in
-    let r = c.requires.running in
-    let s = c.args.step.now in
-    let is = c.requires.step in
-    let t1 = c.merge.new.self in
-    let m = c.in_ok-ended.ensures in
-    let losing = c.in_ok-ended.field-0.losing.items in
-    let losing_told = m.losing in
-    let ended = c.in_ok-ended.field-0.ended in
-    let ended_told = m.ended in
-    let t = c.join_new.new.self.edges in
-    let state = c.in_ok-made.ensures.table (labelled_edges t1) (first_joined f k old some grown t0 t1 r s is m.table m.edges m.labelled losing losing_told ended ended_told) in
-    let places = c.in_ok-made.ensures.room.places ∙ m.room.places ∙ r.places in
-    let joined = c.sort_unstable.new.self.items in
-    let told = c.in_ok-made.ensures.joined ∙ ap (λ (ks : List ℕ). ks ++ flat_map (part_keys (merged f.base) k) (born_chains f k old (length f.edges))) c.new-joined.ensures.items in
-    let joined_told = subst (λ (ks : List ℕ). IsPermutation ks joined) told c.sort_unstable.ensures.permutation in
-    let raw = c.push_whole.new.made.items in
-    let sorted = c.sort_unstable_by_key.new.self.items in
-    let others = λ (losing_side keys but : List ℕ). map (whole_of t.places.items s losing_side) (filter (λ i. not (list_any (λ j. j == i) but)) keys) in
-    let made_told = c.in_ok-push_whole.ensures
-    ∙ ap (λ (os : List Made). os ++ others c.deref-2.result.now c.deref-3.result.now c.deref-4.result.now) c.in_ok-made.ensures.made
-    ∙ ap₂ (λ (a b : List ℕ). map (made_of (merged f.base) k) (born_chains f k old (length f.edges)) ++ others a b c.deref-4.result.now) c.deref-2.ensures.value c.deref-3.ensures.value
-    ∙ ap (λ (ks : List ℕ). map (made_of (merged f.base) k) (born_chains f k old (length f.edges)) ++ others losing losing ks) c.deref-4.ensures.value in
-    let order = IsNonDecreasingBy-from_sort_by_key (λ (o : Made). o.key) sorted c.sort_unstable_by_key.ensures.sorted (λ a r q k. search rules) in
-    let ex = exchange f k old some grown t0 t1 r s is m.table m.edges m.labelled losing losing_told ended ended_told t state places joined joined_told raw sorted made_told c.sort_unstable_by_key.ensures.permutation order in
-    let u = c.seek.new.self.edges in
-    let now = c.in_ok-seek.ensures.edges in
-    subst (λ (v : EdgeTable). AreLive (labelled_edges v)) (sym now) ex.live
+    state.table
 
 pub requeue-requires-clause-corners : goal.requeue-requires-clause-corners
 requeue-requires-clause-corners c =
-    let f = c.args.forest.now in
-    let k = c.args.k in
-    let old = c.args.old in
-    let some = c.requires.some in
-    let grown = c.requires.grown in
     let t0 = c.args.self.now.edges in
-    let r = c.requires.running in
-    let s = c.args.step.now in
-    let is = c.requires.step in
-    let t1 = c.merge.new.self in
     let m = c.in_ok-ended.ensures in
-    let losing = c.in_ok-ended.field-0.losing.items in
-    let losing_told = m.losing in
-    let ended = c.in_ok-ended.field-0.ended in
-    let ended_told = m.ended in
-    let t = c.join_new.new.self.edges in
-    let state = c.in_ok-made.ensures.table (labelled_edges t1) (first_joined f k old some grown t0 t1 r s is m.table m.edges m.labelled losing losing_told ended ended_told) in
-    let places = c.in_ok-made.ensures.room.places ∙ m.room.places ∙ r.places in
-    let joined = c.sort_unstable.new.self.items in
-    let told = c.in_ok-made.ensures.joined ∙ ap (λ (ks : List ℕ). ks ++ flat_map (part_keys (merged f.base) k) (born_chains f k old (length f.edges))) c.new-joined.ensures.items in
-    let joined_told = subst (λ (ks : List ℕ). IsPermutation ks joined) told c.sort_unstable.ensures.permutation in
-    let raw = c.push_whole.new.made.items in
-    let sorted = c.sort_unstable_by_key.new.self.items in
-    let others = λ (losing_side keys but : List ℕ). map (whole_of t.places.items s losing_side) (filter (λ i. not (list_any (λ j. j == i) but)) keys) in
-    let made_told = c.in_ok-push_whole.ensures
-    ∙ ap (λ (os : List Made). os ++ others c.deref-2.result.now c.deref-3.result.now c.deref-4.result.now) c.in_ok-made.ensures.made
-    ∙ ap₂ (λ (a b : List ℕ). map (made_of (merged f.base) k) (born_chains f k old (length f.edges)) ++ others a b c.deref-4.result.now) c.deref-2.ensures.value c.deref-3.ensures.value
-    ∙ ap (λ (ks : List ℕ). map (made_of (merged f.base) k) (born_chains f k old (length f.edges)) ++ others losing losing ks) c.deref-4.ensures.value in
-    let order = IsNonDecreasingBy-from_sort_by_key (λ (o : Made). o.key) sorted c.sort_unstable_by_key.ensures.sorted (λ a r q k. search rules) in
-    let ex = exchange f k old some grown t0 t1 r s is m.table m.edges m.labelled losing losing_told ended ended_told t state places joined joined_told raw sorted made_told c.sort_unstable_by_key.ensures.permutation order in
-    let u = c.seek.new.self.edges in
-    let now = c.in_ok-seek.ensures.edges in
-    let lists = ap (λ (v : EdgeTable). length v.beside.items) now ∙ c.in_ok-made.ensures.room.lists ∙ m.room.lists in
-    let kept = subst (λ (n : ℕ). IsCornered n (labelled_edges t0) c.seek.new.self.corners) (sym lists)
-    (subst (IsCornered (length t0.beside.items) (labelled_edges t0)) (sym (c.in_ok-seek.ensures.corners ∙ c.in_ok-made.ensures.corners)) c.requires.corners) in
-    (labelled_edges t0, kept)
+    let lists = c.in_ok-made.ensures.room.lists ∙ m.room.lists in (
+      labelled_edges t0,
+      subst (λ (n : ℕ). IsCornered n (labelled_edges t0) c.join_new.new.self.corners) (sym lists)
+          (subst (IsCornered (length t0.beside.items) (labelled_edges t0)) (sym c.in_ok-made.ensures.corners) c.requires.corners),
+    )
 
 pub returns-clause-corners : goal.returns-clause-corners
 returns-clause-corners c =
@@ -482,13 +343,10 @@ returns-clause-corners c =
     ∙ ap (λ (ks : List ℕ). map (made_of (merged f.base) k) (born_chains f k old (length f.edges)) ++ others losing losing ks) c.deref-4.ensures.value in
     let order = IsNonDecreasingBy-from_sort_by_key (λ (o : Made). o.key) sorted c.sort_unstable_by_key.ensures.sorted (λ a r q k. search rules) in
     let ex = exchange f k old some grown t0 t1 r s is m.table m.edges m.labelled losing losing_told ended ended_told t state places joined joined_told raw sorted made_told c.sort_unstable_by_key.ensures.permutation order in
-    let u = c.seek.new.self.edges in
-    let now = c.in_ok-seek.ensures.edges in
-    let lists = ap (λ (v : EdgeTable). length v.beside.items) now ∙ c.in_ok-made.ensures.room.lists ∙ m.room.lists in
-    let kept = subst (λ (n : ℕ). IsCornered n (labelled_edges t0) c.seek.new.self.corners) (sym lists)
-    (subst (IsCornered (length t0.beside.items) (labelled_edges t0)) (sym (c.in_ok-seek.ensures.corners ∙ c.in_ok-made.ensures.corners)) c.requires.corners) in
-    let keys_told = c.deref-9.ensures.value ∙ c.in_ok-keys.ensures ∙ ap (map (λ (o : Made). o.key)) c.deref-5.ensures.value in
+    let lists = c.in_ok-made.ensures.room.lists ∙ m.room.lists in
+    let kept = subst (λ (n : ℕ). IsCornered n (labelled_edges t0) c.join_new.new.self.corners) (sym lists)
+    (subst (IsCornered (length t0.beside.items) (labelled_edges t0)) (sym c.in_ok-made.ensures.corners) c.requires.corners) in
+    let keys_told = c.deref-8.ensures.value ∙ c.in_ok-keys.ensures ∙ ap (map (λ (o : Made). o.key)) c.deref-5.ensures.value in
     c.in_ok-requeue.ensures (labelled_edges t0) kept
-    (subst (λ (ks : List ℕ). AreKeptBut ks (labelled_edges t0) (labelled_edges u)) (sym keys_told)
-    (subst (λ (v : EdgeTable). AreKeptBut (map (λ (o : Made). o.key) sorted) (labelled_edges t0) (labelled_edges v)) (sym now)
-    (kept_exchange t.places.items state.table.keyed (labelled_edges t0) (labelled_edges t) (joined ++ losing ++ keys ended) (map (λ (o : Made). o.key) sorted) ex)))
+    (subst (λ (ks : List ℕ). AreKeptBut ks (labelled_edges t0) (labelled_edges t)) (sym keys_told)
+    (kept_exchange t.places.items state.table.keyed (labelled_edges t0) (labelled_edges t) (joined ++ losing ++ keys ended) (map (λ (o : Made). o.key) sorted) ex))

@@ -66,6 +66,12 @@ of-requires-clause-sides c =
     subst (All (λ (e : Edge). (e.left < faces) × (e.right < faces))) (sym (edges_are c))
     (start_sides m c.requires.forest.base (removals_to (merged m) 0) faces (omega (arith, classes_are c)))
 
+pub of-requires-clause-near : goal.of-requires-clause-near
+of-requires-clause-near c =
+    let m = c.args.forest.now.base in
+    let live = subst AreLive (sym (edges_are c)) (after_live m c.requires.forest.base c.requires.forest.partition 0 (omega arith)) in
+    λ i d l. (live.each i d l).limits
+
 pub returns-clause-running : goal.returns-clause-running
 returns-clause-running c =
     let m = c.args.forest.now.base in

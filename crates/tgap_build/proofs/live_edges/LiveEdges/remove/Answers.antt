@@ -1,11 +1,11 @@
--- The edges that lose a point are exchanged in the look-up.
+-- The boxes hold the points that are left.
 use Rattle.std.proofs.Common.{◌<◌, ℕ, length, Contains, sym, subst}
 use Rattle.map_laws.proofs.Lists.{all_members, members_all}
-use Rattle.grid_index.specs.Live.{keys, AreLive}
+use Rattle.grid_index.specs.Live.{keys}
 use Rattle.tgap_build.specs.Table.{labelled_edges}
 use Rattle.tgap_build.specs.Queues.{IsCornered, AreKeptBut}
+use Rattle.tgap_build.proofs.BoxedTables.{sought_less}
 use Rattle.tgap_build.proofs.KeptEdges.{kept_less}
-use Rattle.tgap_build.proofs.LessEdges.{less_exchange}
 use Rattle.tgap_build.proofs.TableLive.{keys_placed}
 use Rattle.tgap_build.proofs.live_edges.LiveEdges.remove.Goals as goal
 
@@ -15,24 +15,12 @@ remove_points-requires-clause-room c =
     all_members (λ k. k < length t.places.items) c.args.losing.now (λ k m.
     keys_placed t.places.items c.requires.table.keyed k (members_all (Contains (keys (labelled_edges t))) c.args.losing.now k c.requires.there m))
 
-pub sought_after-requires-clause-exchange : goal.sought_after-requires-clause-exchange
-sought_after-requires-clause-exchange c =
-    let edges = labelled_edges c.args.self.now.edges in (
-      edges,
-      c.requires.sought,
-      less_exchange c.args.gone.now c.args.losing.now c.requires.ascending edges c.remove_points.new.self.places.items c.remove_points.ensures.table.keyed
-          c.remove_points.ensures.edges c.requires.there c.requires.live,
-    )
-
 pub returns-clause-sought : goal.returns-clause-sought
 returns-clause-sought c =
-    let edges = labelled_edges c.args.self.now.edges in
-    c.in_ok-sought_after.ensures edges c.requires.sought
-    (less_exchange c.args.gone.now c.args.losing.now c.requires.ascending edges c.remove_points.new.self.places.items c.remove_points.ensures.table.keyed
-    c.remove_points.ensures.edges c.requires.there c.requires.live)
-
-pub requeue-requires-clause-live : goal.requeue-requires-clause-live
-requeue-requires-clause-live c = subst AreLive (sym c.remove_points.ensures.edges) c.requires.live
+    let t = c.args.self.now.edges in
+    let after = c.remove_points.ensures in
+    sought_less c.args.gone.now c.args.losing.now t.places.items c.remove_points.new.self.places.items c.requires.table.keyed after.table.keyed after.edges after.room.places
+    c.args.self.now.sought c.requires.sought
 
 pub requeue-requires-clause-corners : goal.requeue-requires-clause-corners
 requeue-requires-clause-corners c =

@@ -1,7 +1,0 @@
--- the box holds the points so far
-use Rattle.std.proofs.Common.{take, All}
-use Rattle.vertex_drop.specs.Held.{IsHeld}
-use Rattle.vertex_drop.proofs.bounds.bounds_of.Given as goal
-
-abbrev pub invariant-loop-point : goal.invariant-loop-point
-invariant-loop-point l = All (IsHeld l.bounds) (take l.point-index l.points)

@@ -1,6 +1,0 @@
-use Rattle.std.proofs.Common.{arith}
-use Rattle.std.proofs.lemmas.Int.{ints}
-use Rattle.vertex_drop.proofs.bounds.no_bounds.Goals as goal
-
-pub returns : goal.returns
-returns c p h = omega (arith, ints, h.left, h.right)
