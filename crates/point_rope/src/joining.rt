@@ -13,7 +13,7 @@ use tgap_model::{Memory, Point};
 
 /// How many points a run of a long row has: few enough that they are moved and looked at in the time of a few hundred
 /// comparisons, and many enough that there are few runs.
-const RUN: usize = 64;
+const RUN: usize = 256;
 
 /// How many points stand together at most.
 pub const MOST: usize = 2 * RUN;

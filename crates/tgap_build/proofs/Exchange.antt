@@ -1,12 +1,11 @@
 -- Of the edges before a step, with their labels, those whose keys are told go, and those that the step changed come.
-use Rattle.std.proofs.Common.{◌≡◌, inl, inr, ℕ, ◌+◌, ◌-◌, ◌<◌, ◌==◌, ◌||◌, Bool, true, false, cond, not, List, [], ◌∷◌, ◌++◌, map, filter, length, All, AllPairs, Contains, IsPermutation, refl, sym, ap, ap₂, ◌∙◌, subst, true≢false, arith}
+use Rattle.std.proofs.Common.{◌≡◌, inl, inr, ℕ, ◌+◌, ◌-◌, ◌<◌, ◌==◌, ◌||◌, Bool, true, false, cond, not, List, [], ◌∷◌, ◌++◌, map, filter, length, All, AllPairs, IsPermutation, refl, sym, ap, ap₂, ◌∙◌, subst, true≢false, arith}
 use Rattle.std.specs.Prelude.{flat_map}
 use Rattle.std.specs.List.{list_any}
 use Rattle.std.proofs.lemmas.Bool.{eq-eqb, eqb-true, ltb-true, or_parts, false_from_ne_true}
 use Rattle.std.proofs.lemmas.List.Folds.{list_any-append}
 use Rattle.std.proofs.lemmas.List.Kept.{AllPairs-filter}
 use Rattle.std.proofs.lemmas.List.Sorted.{IsPermutation-sym, IsPermutation-filter_both}
-use Rattle.lemmas.proofs.Members.{filter_agree_on}
 use Rattle.lemmas.proofs.Orders.{nat_lt_order, order_by_key}
 use Rattle.lemmas.proofs.Sorting.{sorted_pairs}
 use Rattle.tgap_model.specs.declared.merge.MergeStep.{MergeStep}
@@ -20,22 +19,20 @@ use Rattle.map_laws.specs.ChainLaws.{chains_left}
 use Rattle.map_laws.proofs.ChainMembers.{Among, any_among, filter_among, among_left, append_among, sorted_same}
 use Rattle.map_laws.proofs.ChainLinks.{chains_sorted}
 use Rattle.map_laws.proofs.ChainsExist.{chains_exist}
-use Rattle.map_laws.proofs.Lists.{all_members, members_all, any_from, kept_among, among_kept, map_among, among_map}
-use Rattle.removal_laws.proofs.ChainEnds.{contained, among_contained}
-use Rattle.grid_index.specs.Keyed.{edges_at, IsExchange}
-use Rattle.grid_index.specs.Live.{keys, without_keys, AreLive}
+use Rattle.map_laws.proofs.Lists.{members_all, any_from, kept_among, among_kept, map_among, among_map}
+use Rattle.grid_index.specs.Keyed.{edges_at}
+use Rattle.grid_index.specs.Live.{keys, without_keys}
 use Rattle.record_laws.specs.RunLaws.{chain_of_run}
 use Rattle.record_laws.proofs.Holders.{same_key}
-use Rattle.record_laws.proofs.StepFacts.{run_is_part, run_member}
 use Rattle.edge_forest.specs.declared.face_labels.FaceLabels.{FaceLabels}
 use Rattle.edge_forest.specs.Forest.{EdgeForest, IsForest}
 use Rattle.tgap_build.specs.declared.edge_table.EdgeTable.{EdgeTable}
 use Rattle.tgap_build.specs.declared.live_edges.Made.{Made}
-use Rattle.tgap_build.specs.Table.{faced, labelled_edges, moved_edge, left_by}
+use Rattle.tgap_build.specs.Table.{faced, labelled_edges, moved_edge}
 use Rattle.tgap_build.specs.Changes.{HasGrown, born_chains, part_keys, losing_keys, made_of, is_changed, is_part_of, HasJoined, IsChange}
 use Rattle.tgap_build.proofs.EdgesAt.{edges_at_are}
 use Rattle.tgap_build.proofs.KeyedEdges.{Ascend, sorted, pairs_mapped}
-use Rattle.tgap_build.proofs.Born.{within, own_key, part_from, part_of, born_here}
+use Rattle.tgap_build.proofs.Born.{own_key, part_from, born_here}
 use Rattle.tgap_build.proofs.Joining.{permuted, losing_is}
 use Rattle.tgap_build.proofs.ChangedChains.{lost, lost_known, changed_from, fresh_changes, lost_changes}
 

@@ -1,5 +1,5 @@
 -- Numbers in an order, and at which place of it each one stands.
-use Rattle.std.proofs.Common.{◌≡◌, ◌≢◌, ◌⊎◌, inl, inr, ℕ, ◌+◌, ◌<◌, List, length, map, get_or, set, All, AllPairs, Contains, IsPermutation, sym, ap, ◌∙◌, subst, arith}
+use Rattle.std.proofs.Common.{◌≡◌, ◌≢◌, inl, inr, ℕ, ◌+◌, ◌<◌, List, length, map, get_or, set, AllPairs, Contains, IsPermutation, sym, ap, ◌∙◌, subst, arith}
 use Rattle.std.specs.List.{range_with_len}
 use Rattle.std.proofs.lemmas.Bool.{cases_eq, cases_lt}
 use Rattle.std.proofs.lemmas.List.{length-map, length-set, get_or-map, get_or-set_same, get_or-set_other, get_or_default, ext_get_or}
@@ -8,10 +8,8 @@ use Rattle.std.proofs.lemmas.List.FromFn.{get_or-range_with_len, length-range_wi
 use Rattle.std.proofs.lemmas.List.Sorted.{Contains-permutation}
 use Rattle.tgap_model.specs.declared.geometry.Window.{Window}
 use Rattle.lemmas.proofs.Sorting.{AllPairs-permutation}
-use Rattle.grid_index.specs.Near.{near_boxes}
 use Rattle.grid_index.specs.Picked.{no_box, box_at, IsOrdered}
-use Rattle.grid_index.proofs.Meeting.{near_below}
-use Rattle.grid_index.proofs.Ordering.{near_ordered, order_below, order_length}
+use Rattle.grid_index.proofs.Ordering.{order_below, order_length}
 use Rattle.tgap_build.specs.KeyBoxes.{AreInverse, boxes_by_key, AreKeyed}
 
 -- ---- an order of all numbers below so many

@@ -1,10 +1,8 @@
 -- Edges less the points that go: those with some keys, and all less the removals of a step.
-use Rattle.std.proofs.Common.{◌≡◌, inl, inr, ℕ, ◌<◌, ◌==◌, ◌&&◌, ◌||◌, Bool, true, false, cond, not, List, [], ◌∷◌, ◌++◌, map, filter, All, AllPairs, Contains, IsPermutation, Option, refl, sym, ap, ap₂, ◌∙◌, subst, arith}
+use Rattle.std.proofs.Common.{◌≡◌, inl, inr, ℕ, ◌==◌, ◌&&◌, ◌||◌, Bool, true, false, cond, not, List, [], ◌∷◌, ◌++◌, map, filter, All, refl, sym, ap, ap₂, ◌∙◌}
 use Rattle.std.specs.List.{list_any}
 use Rattle.std.proofs.lemmas.Bool.{and_cases, or_parts}
-use Rattle.std.proofs.lemmas.List.{map-append}
 use Rattle.std.proofs.lemmas.List.Folds.{list_any-append}
-use Rattle.std.proofs.lemmas.List.Sorted.{IsPermutation-sym, IsPermutation-map, IsPermutation-filter_both}
 use Rattle.lemmas.proofs.Members.{filter_agree_on}
 use Rattle.tgap_model.specs.declared.geometry.Point.{Point}
 use Rattle.tgap_model.specs.declared.slice.Edge.{Edge}
@@ -13,13 +11,11 @@ use Rattle.tgap_model.specs.Removals.{without, has_side, is_removed}
 use Rattle.removal_laws.specs.StandLaws.{edges_less}
 use Rattle.map_laws.proofs.ChainMembers.{Among, filter_among}
 use Rattle.map_laws.proofs.Lists.{all_members, members_all}
-use Rattle.grid_index.specs.Keyed.{edges_in, AreAtKeys, edges_at, IsExchange}
-use Rattle.grid_index.specs.Live.{keys, without_keys, AreLive}
+use Rattle.grid_index.specs.Live.{keys}
 use Rattle.edge_forest.specs.declared.face_labels.FaceLabels.{FaceLabels}
 use Rattle.tgap_build.specs.Table.{faced}
 use Rattle.tgap_build.specs.Running.{has_point, has_any, less}
 use Rattle.tgap_build.specs.Changes.{less_where, less_at}
-use Rattle.tgap_build.proofs.EdgesAt.{has_one, edges_at_are}
 use Rattle.tgap_build.proofs.Filters.{map_agree, filter_all}
 use Rattle.tgap_build.proofs.KeyedEdges.{Ascend, listed}
 

@@ -1,8 +1,8 @@
 -- Points, sorted and without repeats: the same are there.
-use Rattle.std.proofs.Common.{◌≡◌, ℕ, ◌==◌, Bool, true, false, ◌||◌, List, [], ◌∷◌, map, Contains, IsPermutation, MatchOption, get_or, length, ◌<◌, refl, sym, ap, ◌∙◌, subst, true≢false, arith}
+use Rattle.std.proofs.Common.{◌≡◌, ℕ, Bool, true, false, ◌||◌, List, [], ◌∷◌, map, Contains, IsPermutation, MatchOption, get_or, length, ◌<◌, refl, sym, ap, ◌∙◌, subst, true≢false}
 use Rattle.std.specs.Prelude.{Option, Some, None, is_some}
-use Rattle.std.specs.List.{dedup, list_any}
-use Rattle.std.proofs.lemmas.Bool.{eqb-true, false_from_ne_true}
+use Rattle.std.specs.List.{dedup}
+use Rattle.std.proofs.lemmas.Bool.{false_from_ne_true}
 use Rattle.std.proofs.lemmas.List.Kept.{Contains-from_dedup}
 use Rattle.std.proofs.lemmas.List.Sorted.{Contains-permutation, IsPermutation-sym}
 use Rattle.tgap_model.specs.declared.geometry.Point.{Point}
@@ -36,15 +36,6 @@ set_is ps sorted moved p = by (has_point ps p) refl
 -- a point that has no place is none of them
 pub none_placed : (ps : List Point) (p : Point) → (Contains ps p → ⊥) → has_point ps p ≡ false
 none_placed ps p none = false_from_ne_true (has_point ps p) (λ t. none (has_contains ps p t))
-
--- in an empty set there is none
-none_in : (points : List Point) → list_any (has_point []) points ≡ false
-none_in [] = refl
-none_in (p ∷ points) = none_in points
-
-pub none_has : (ps points : List Point) → (length ps == 0) ≡ true → list_any (has_point ps) points ≡ false
-none_has [] points e = none_in points
-none_has (q ∷ ps) points e = absurd (omega (arith, eqb-true _ _ e))
 
 -- a search tells whether it is
 pub search_tells : (ps : List Point) (p : Point) (o : Option ℕ) → MatchOption o (Contains ps p → ⊥) (λ i. (i < length ps) × (get_or ps i p ≡ p)) → is_some o ≡ has_point ps p

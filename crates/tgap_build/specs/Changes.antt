@@ -1,5 +1,5 @@
 -- What a step changes in the edges that are kept while the history is run.
-use Rattle.std.specs.Prelude.{◌≡◌, ◌<◌, ◌≤◌, ℕ, ◌+◌, ◌-◌, ◌==◌, nat_lt, Bool, false, ◌&&◌, ◌||◌, not, List, [], ◌∷◌, ◌++◌, map, filter, length, All, Contains, IsPermutation, Option, if◌then◌else◌}
+use Rattle.std.specs.Prelude.{◌≡◌, ◌<◌, ◌≤◌, ℕ, ◌+◌, ◌-◌, ◌==◌, nat_lt, Bool, false, ◌&&◌, ◌||◌, not, List, [], ◌∷◌, ◌++◌, map, filter, length, IsPermutation, Option, if◌then◌else◌}
 use Rattle.std.specs.List.{list_any, range_with_len}
 use Rattle.tgap_model.specs.declared.geometry.Point.{Point}
 use Rattle.tgap_model.specs.declared.merge.MergeStep.{MergeStep}
@@ -12,7 +12,7 @@ use Rattle.tgap_model.specs.Chains.{Chain, key, chains_at}
 use Rattle.tgap_model.specs.Removals.{edge_of, edges_of, has_side, removals_to}
 use Rattle.tgap_model.specs.Records.{runs, pieces_from, puts_from, is_needed}
 use Rattle.map_laws.specs.ChainLaws.{chains_left}
-use Rattle.grid_index.specs.Live.{keys, without_keys, AreLive}
+use Rattle.grid_index.specs.Live.{keys, without_keys}
 use Rattle.record_laws.specs.RunLaws.{chain_of_run}
 use Rattle.edge_forest.specs.Edges.{edge_at, chain_of, is_alive}
 use Rattle.edge_forest.specs.Forest.{EdgeForest, IsForest}

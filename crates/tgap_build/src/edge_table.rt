@@ -1,6 +1,6 @@
 //! Edges by their keys, while the history is run.
 
-ghost use Rattle.std.specs.Prelude.{◌≡◌, ◌≢◌, ◌<◌, ◌↔◌, ◌++◌, ◌∷◌, [], ℕ, None, filter, map, length, replicate, set, reverse, option_map, option_to_list, All, AllPairs, Contains, IsPermutation, IfOk, IsTrue, OnOk, not};
+ghost use Rattle.std.specs.Prelude.{◌≡◌, ◌≢◌, ◌<◌, ◌↔◌, ◌++◌, ◌∷◌, [], ℕ, None, filter, map, length, replicate, set, option_map, option_to_list, All, AllPairs, Contains, IsPermutation, IfOk, IsTrue, OnOk, not};
 ghost use Rattle.tgap_model.specs.Base.{in_limits};
 ghost use Rattle.tgap_model.specs.Removals.{has_side};
 ghost use Rattle.tgap_model.specs.Records.{is_edge_between};

@@ -40,7 +40,7 @@ fn saw_edge(alloc: Global, count: u16, flat: &[u16]) -> Result<Edge, Memory>
     ensures { IfOk result IsLiveEdge }
 {
     let points = saw(alloc, count, flat)?;
-    if points.len() < 2 || 1000 < points.len() {
+    if points.len() < 2 || 2000 < points.len() {
         return Err(Memory);
     }
     Ok(Edge {
@@ -83,11 +83,11 @@ fn flat_teeth_of_a_long_saw(rt: HostRuntime) -> Result<(), Fail> {
     let alloc = rt.alloc();
     // The triangle of a flat tooth has twice the area 2, that of one beside it 11, and any other one 20.
     for (count, flat, loser_area, gone) in [
-        (400, [63, 128, 301].as_slice(), 2, [63, 128, 301].as_slice()),
-        (400, [63, 128, 301].as_slice(), 1, [].as_slice()),
-        (400, [].as_slice(), 19, [].as_slice()),
-        (400, [1, 398].as_slice(), 10, [1, 398].as_slice()),
-        (400, [0, 399].as_slice(), 10, [].as_slice()),
+        (1600, [255, 512, 1201].as_slice(), 2, [255, 512, 1201].as_slice()),
+        (1600, [255, 512, 1201].as_slice(), 1, [].as_slice()),
+        (1600, [].as_slice(), 19, [].as_slice()),
+        (1600, [1, 1598].as_slice(), 10, [1, 1598].as_slice()),
+        (1600, [0, 1599].as_slice(), 10, [].as_slice()),
         (64, [63].as_slice(), 10, [].as_slice()),
         (65, [63].as_slice(), 10, [63].as_slice()),
     ] {

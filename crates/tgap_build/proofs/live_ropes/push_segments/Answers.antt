@@ -1,4 +1,4 @@
-use Rattle.std.proofs.Common.{◌<◌, ◌-◌, ◌^◌, List, length, sym, ap, ◌∙◌, subst}
+use Rattle.std.proofs.Common.{◌<◌, ◌-◌, ◌^◌, length, sym, ap, ◌∙◌, subst}
 use Rattle.std.specs.Option.{option_map}
 use Rattle.tgap_model.specs.declared.slice.Edge.{Edge}
 use Rattle.grid_index.specs.Live.{IsLiveEdge}

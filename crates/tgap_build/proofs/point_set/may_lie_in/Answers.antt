@@ -1,5 +1,5 @@
 -- A point right of the box is the last one that is looked at.
-use Rattle.std.proofs.Common.{◌≡◌, ◌<◌, ◌≤◌, ◌<ℤ◌, ℕ, ⊎_elim, get_or, refl, sym, subst, true≢false, arith}
+use Rattle.std.proofs.Common.{◌<◌, ◌≤◌, ◌<ℤ◌, ℕ, ⊎_elim, get_or, refl, sym, subst, true≢false, arith}
 use Rattle.std.proofs.lemmas.Bool.{cases_lt}
 use Rattle.std.proofs.lemmas.List.{get_or_default}
 use Rattle.tgap_model.specs.declared.geometry.Point.{Point}

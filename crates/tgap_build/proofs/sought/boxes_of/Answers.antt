@@ -1,5 +1,5 @@
 -- One box more.
-use Rattle.std.proofs.Common.{◌≡◌, ◌+◌, ℕ, ◌<◌, List, ◌++◌, ◌∷◌, [], length, None, ap, ◌∙◌, subst, sym, arith}
+use Rattle.std.proofs.Common.{◌+◌, ℕ, ◌<◌, List, length, None, ap, ◌∙◌, subst, sym, arith}
 use Rattle.std.proofs.lemmas.List.{length_push, get_or_default}
 use Rattle.tgap_model.specs.declared.geometry.Window.{Window}
 use Rattle.tgap_build.specs.Sought.{IsBoxedAt}

@@ -11,8 +11,8 @@ use Rattle.tgap_build.specs.Queues.{IsQueued, IsQueuedBeside, IsBeside}
 use Rattle.tgap_build.proofs.CornerLists.{candidates_ascend, candidates_beside, candidate_among, all_put_back, told_beside}
 use Rattle.tgap_build.proofs.corner_queues.CornerQueues.small_beside.Goals as goal
 
-pub put_all_back-requires-clause-label : goal.put_all_back-requires-clause-label
-put_all_back-requires-clause-label c =
+pub put_all_back-requires : goal.put_all_back-requires
+put_all_back-requires c =
     let n = length-set c.args.self.now.queues.items c.args.label c.take_small.new.self in
     omega (arith, n, c.requires.label)
 

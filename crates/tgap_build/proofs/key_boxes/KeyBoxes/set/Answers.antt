@@ -1,5 +1,5 @@
 -- The box of a key is that of its slot, and no other key has that slot.
-use Rattle.std.proofs.Common.{◌≡◌, ◌<◌, ℕ, List, length, get_or, slice_set, sym, ap, ◌∙◌, subst, arith}
+use Rattle.std.proofs.Common.{◌<◌, ℕ, List, length, slice_set, sym, ap, ◌∙◌, subst, arith}
 use Rattle.std.proofs.lemmas.List.{get_or_default}
 use Rattle.tgap_model.specs.declared.geometry.Window.{Window}
 use Rattle.tgap_build.specs.KeyBoxes.{boxes_by_key}

@@ -1,8 +1,6 @@
 -- Only the edges whose boxes meet the area have segments near it.
-use Rattle.std.proofs.Common.{◌≡◌, ℕ, List, IfOk, Result, ap, ◌∙◌, subst}
+use Rattle.std.proofs.Common.{◌≡◌, List, IfOk, ap, ◌∙◌, subst}
 use Rattle.std.specs.List.{flat_map}
-use Rattle.tgap_model.specs.declared.slice.Edge.{Edge}
-use Rattle.tgap_model.specs.declared.failure.Memory.{Memory}
 use Rattle.grid_index.specs.declared.live.SegmentPlace.{SegmentPlace}
 use Rattle.grid_index.specs.Live.{near_segments}
 use Rattle.tgap_build.specs.Sought.{segments_in}
