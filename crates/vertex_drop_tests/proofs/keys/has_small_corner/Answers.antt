@@ -1,7 +1,7 @@
 -- The least corner decides, and fits.
-use Rattle.std.proofs.Common.{◌≡◌, ◌≤◌, ℕ, ℤ, pos, unsigned_abs, Bool, true, false, Option, None, Some, List, All, if◌then◌else◌, refl, sym, ap, ◌∙◌, subst}
+use Rattle.std.proofs.Common.{◌≡◌, ◌≤◌, ℕ, ℤ, pos, unsigned_abs, Bool, true, false, None, Some, List, All, if◌then◌else◌, FitsSigned, refl, sym, ap, ◌∙◌, subst, arith}
 use Rattle.std.specs.Int.{w128}
-use Rattle.std.proofs.lemmas.Int.{to_z-of_z}
+use Rattle.std.proofs.lemmas.Int.{ints, to_z-of_z}
 use Rattle.tgap_model.specs.declared.geometry.Point.{Point}
 use Rattle.tgap_model.specs.Bounds.{max_cross}
 use Rattle.point_rope.specs.Corners.{least_area}
@@ -23,6 +23,12 @@ corner_is_area points n e = by (is_triangle points) e
 
 corner_small : (points : List Point) (n : ℕ) → All IsNearPoint points → Some n ≡ least_corner points → n ≤ max_cross
 corner_small points n near e = least_small points n near (corner_is_area points n e)
+
+area_fits : (n : ℕ) → n ≤ max_cross → FitsSigned w128 (pos n)
+area_fits n le = omega (arith, ints)
+
+pub overflow_cast-area : goal.overflow_cast-area
+overflow_cast-area c = area_fits c.in-Some.area (corner_small c.args.row.now c.in-Some.area c.requires c.in-Some.ensures)
 
 pub is_small_area-requires : goal.is_small_area-requires
 is_small_area-requires c =
