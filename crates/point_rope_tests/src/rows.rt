@@ -120,7 +120,9 @@ fn points_go_out_of_the_middle(rt: HostRuntime) -> Result<(), Fail> {
         // (600 - 399) * (601 - 600) * (601 - 399)
         assert_eq!(rt; row.least_area(), Some(40602));
         let bounds = row.bounds();
-        assert!(rt; bounds.x0 <= 399 && 601 <= bounds.x1 && bounds.y0 <= 159201 && 361201 <= bounds.y1);
+        assert!(rt;
+            bounds.x0 <= 399 && 601 <= bounds.x1 && bounds.y0 <= 159201 && 361201 <= bounds.y1
+        );
         row.remove(&Between { low: 0, high: 600 });
         assert_eq!(rt; numbers_of(alloc, &row)?.as_slice(), [601i64].as_slice());
         assert_eq!(rt; row.least_area(), None);
