@@ -83,7 +83,12 @@ fn flat_teeth_of_a_long_saw(rt: HostRuntime) -> Result<(), Fail> {
     let alloc = rt.alloc();
     // The triangle of a flat tooth has twice the area 2, that of one beside it 11, and any other one 20.
     for (count, flat, loser_area, gone) in [
-        (1600, [255, 512, 1201].as_slice(), 2, [255, 512, 1201].as_slice()),
+        (
+            1600,
+            [255, 512, 1201].as_slice(),
+            2,
+            [255, 512, 1201].as_slice(),
+        ),
         (1600, [255, 512, 1201].as_slice(), 1, [].as_slice()),
         (1600, [].as_slice(), 19, [].as_slice()),
         (1600, [1, 1598].as_slice(), 10, [1, 1598].as_slice()),
