@@ -1,5 +1,5 @@
 -- Slots that are emptied by key, and given to what comes.
-use Rattle.std.proofs.Common.{◌≡◌, ◌⊎◌, inl, inr, ℕ, zero, suc, ◌+◌, ◌<◌, ◌≤◌, Bool, true, false, cond, not, nat_eq, ◌&&◌, ◌||◌, ◌==◌, List, [], ◌∷◌, ◌++◌, length, filter, map, get_or, take, Contains, IsPermutation, Option, Some, None, refl, sym, ap, ap₂, ◌∙◌, subst, subst₂, append_assoc, true≢false, arith}
+use Rattle.std.proofs.Common.{◌≡◌, ◌⊎◌, inl, inr, ℕ, zero, suc, ◌+◌, ◌<◌, ◌≤◌, Bool, true, false, cond, not, nat_eq, ◌&&◌, ◌||◌, ◌==◌, List, [], ◌∷◌, ◌++◌, length, filter, map, get_or, take, Contains, IsPermutation, Option, Some, None, refl, sym, ap, ap₂, ◌∙◌, subst, append_assoc, true≢false, arith}
 use Rattle.std.specs.Prelude.{option_to_list, slice_set}
 use Rattle.std.proofs.lemmas.Bool.{cases_lt, cases_eq}
 use Rattle.std.proofs.lemmas.Bool.Decides.{nat_tests}
@@ -113,10 +113,6 @@ IsEmptied-leave key old new at has h = record {
 
 pub IsEmptied-end : (key : ℕ) (old new : List (Option Entry)) (at : ℕ) → length new ≤ at → IsEmptied key old new at → held new ≡ filter (stays (key ∷ [])) (held old)
 IsEmptied-end key old new at l h = let long = h.long in all_kept key old new long (λ i m. h.done i (omega arith))
-
--- what was emptied stays so where an equal list and an equal place stand for its own
-pub IsEmptied-same : (key : ℕ) (old : List (Option Entry)) {new newer : List (Option Entry)} {at next : ℕ} → newer ≡ new → next ≡ at → IsEmptied key old new at → IsEmptied key old newer next
-IsEmptied-same key old e f h = subst₂ (λ (n : List (Option Entry)) (a : ℕ). IsEmptied key old n a) (sym e) (sym f) h
 
 -- ---- one key after the other
 

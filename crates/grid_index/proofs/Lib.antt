@@ -6,6 +6,7 @@ pub mod Hulls
 pub mod Sorted
 pub mod Counted
 pub mod Ordering
+pub mod Inverses
 pub mod Pieces
 pub mod Renewal
 pub mod Holding
@@ -18,4 +19,3 @@ pub mod Emptied
 pub mod Sought
 pub mod Skipping
 pub mod KeyedPlaces
-pub mod SoughtAreas

@@ -1,5 +1,5 @@
 -- Edges put in order of key, the least ones first.
-use Rattle.std.proofs.Common.{◌≡◌, ◌≢◌, ℕ, suc, ◌-◌, ◌<◌, ◌≤◌, Bool, true, false, cond, not, nat_lt, ◌==◌, ◌||◌, List, [], ◌∷◌, ◌++◌, length, get_or, All, AllPairs, Contains, IsPermutation, refl, sym, ap, ◌∙◌, subst, subst₂, append_assoc, arith}
+use Rattle.std.proofs.Common.{◌≡◌, ◌≢◌, ℕ, ◌<◌, ◌≤◌, Bool, true, false, cond, not, nat_lt, ◌==◌, ◌||◌, List, [], ◌∷◌, ◌++◌, length, get_or, All, AllPairs, Contains, IsPermutation, refl, sym, ap, ◌∙◌, subst, subst₂, append_assoc, arith}
 use Rattle.std.specs.List.{list_any}
 use Rattle.std.proofs.lemmas.Bool.Decides.{nat_tests}
 use Rattle.std.proofs.lemmas.List.{append-nil, get_or_append_left, get_or_push, length-append}
@@ -60,9 +60,6 @@ pub record IsBelow (key : ℕ) (changed0 come0 changed come : List Edge) : Type 
   pub least : (es : List Edge) → All (λ e. key ≤ e.key) es → changed ++ in_order (es ++ come) ≡ changed0 ++ in_order (es ++ come0)
   pub front : IsFront come come0
 
-pub IsBelow-start : (key : ℕ) (changed come : List Edge) → IsBelow key changed come changed come
-IsBelow-start key changed come = record { least = λ es h. refl; front = ([], sym (append-nil come)) }
-
 pub IsBelow-next : (key : ℕ) (changed0 come0 changed come : List Edge) (c : Edge) → AllPairs (λ e f. f.key < e.key) come0 → c.key < key → IsBelow key changed0 come0 changed (come ++ c ∷ [])
     → IsBelow key changed0 come0 (changed ++ c ∷ []) come
 IsBelow-next key changed0 come0 changed come c descend less h = record {
@@ -106,9 +103,6 @@ pub record IsMerging (gone : List ℕ) (rest0 come0 rest changed come : List Edg
   pub sum : changed ++ in_order (without_keys gone rest ++ come) ≡ in_order (without_keys gone rest0 ++ come0)
   pub rests : IsFront rest rest0
   pub comes : IsFront come come0
-
-pub IsMerging-start : (gone : List ℕ) (rest come : List Edge) → IsMerging gone rest come rest [] come
-IsMerging-start gone rest come = record { sum = refl; rests = ([], sym (append-nil rest)); comes = ([], sym (append-nil come)) }
 
 module _ (gone : List ℕ) (rest0 come0 rest changed come changed1 come1 : List Edge) (x : Edge)
     (descend : AllPairs (λ e f. f.key < e.key) rest0)
@@ -189,11 +183,6 @@ in_order_ascends edges apart =
   where
     decides : (m n : ℕ) → m ≢ n → (nat_lt m n || nat_lt n m) ≡ true
     decides m n ne = grind (arith, nat_tests)
-
--- what ascends, turned round
-pub descends : (xs ys : List Edge) → AllPairs (λ e f. e.key < f.key) xs → length ys ≡ length xs → ((k : ℕ) (d : Edge) → k < length xs → get_or ys k d ≡ get_or xs (length xs - suc k) d) → AllPairs (λ e f. f.key < e.key) ys
-descends xs ys h n turned i j d less l =
-    subst₂ (λ (e f : Edge). f.key < e.key) (sym (turned i d (omega arith))) (sym (turned j d (omega arith))) (h (length xs - suc j) (length xs - suc i) d (omega arith) (omega arith))
 
 -- all keys differ
 pub distinct : (stay come : List Edge) → AllPairs (λ e f. e.key < f.key) stay → AllPairs (λ e f. e.key < f.key) come → All (λ e. All (λ f. f.key ≢ e.key) come) stay → AllPairs (λ e f. e.key ≢ f.key) (stay ++ come)

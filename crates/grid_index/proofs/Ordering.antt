@@ -1,7 +1,7 @@
 -- Boxes looked up in another order.
-use Rattle.std.proofs.Common.{◌≡◌, ℕ, ◌+◌, ◌-◌, ◌++◌, take, drop, ◌<◌, ◌≤◌, Bool, true, false, cond, List, [], ◌∷◌, length, get_or, map, filter, All, IsPermutation, refl, sym, ap, ◌∙◌, subst₂, arith}
+use Rattle.std.proofs.Common.{◌≡◌, ℕ, ◌<◌, Bool, true, false, cond, List, [], ◌∷◌, length, get_or, map, filter, All, IsPermutation, refl, sym, ap, ◌∙◌, subst₂, arith}
 use Rattle.std.specs.List.{range_with_len}
-use Rattle.std.proofs.lemmas.List.{length-map, get_or-map, length-take-le, length-append, length-drop, get_or-append_right, get_or-drop}
+use Rattle.std.proofs.lemmas.List.{length-map, get_or-map}
 use Rattle.std.proofs.lemmas.List.Elements.{All-head, All-tail}
 use Rattle.std.proofs.lemmas.List.FromFn.{fill_by_all, length-range_with_len}
 use Rattle.std.proofs.lemmas.List.Sorted.{All-permutation, length_permutation}
@@ -60,22 +60,3 @@ near_ordered area boxes order row o =
         ap (map at) (sym (near_filtered area row (length order) (omega (arith, long))))
         ∙ map-filter at (meets_at area row) (meets_at area boxes) (range_with_len 0 (length order)) same
         ∙ ap (filter (meets_at area boxes)) (sym (fill_by_all at order (length order) 0 refl (λ k l. refl)))
-
--- ---- a list whose first elements are written over
-
--- the others stand where they stood
-pub untouched : {A : Type 0} (f : A → A) (xs ys : List A) (i : ℕ) (d : A) → i < length xs → ys ≡ map f (take i xs) ++ drop i xs → get_or ys i d ≡ get_or xs i d
-untouched f xs ys i d l e =
-    let n = length-map (take i xs) f ∙ length-take-le i xs (omega arith) in
-    let here : i - i ≡ 0 = omega arith in
-    let there : i + 0 ≡ i = omega arith in
-    ap (λ zs. get_or zs i d) e ∙ get_or-append_right (map f (take i xs)) (drop i xs) i i d n (omega arith) ∙ ap (λ k. get_or (drop i xs) k d) here
-    ∙ get_or-drop i xs 0 d ∙ ap (λ k. get_or xs k d) there
-
-pub length_over : {A : Type 0} (f : A → A) (xs ys : List A) (i : ℕ) → i ≤ length xs → ys ≡ map f (take i xs) ++ drop i xs → length ys ≡ length xs
-length_over f xs ys i l e =
-    let n = length-map (take i xs) f ∙ length-take-le i xs l in
-    let m = length-append (map f (take i xs)) (drop i xs) in
-    let k = length-drop i xs in
-    let all = ap length e in
-    omega arith

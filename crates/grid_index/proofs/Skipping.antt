@@ -4,7 +4,7 @@ use Rattle.std.proofs.lemmas.Bool.{false_from_ne_true, cases_lt}
 use Rattle.tgap_model.specs.declared.geometry.Window.{Window}
 use Rattle.grid_index.specs.declared.tree.TheConstants.{FANOUT}
 use Rattle.grid_index.specs.Boxes.{Covers}
-use Rattle.grid_index.specs.Tower.{IsHull, IsTower, AreHulls, AreLevels, IsClear}
+use Rattle.grid_index.specs.Tower.{IsHull, AreHulls, AreLevels, IsClear}
 
 -- the last level holds the row, and the others hold it
 hulls_last : (up : List Window) (levels : List (List Window)) (last row : List Window) → AreHulls up (levels ++ last ∷ []) row → AreHulls up levels last × IsHull last row
@@ -14,11 +14,6 @@ hulls_last up (down ∷ levels) last row (hull, hulls) = let rest = hulls_last d
 pub levels_last : (levels : List (List Window)) (last row : List Window) → AreLevels (levels ++ last ∷ []) row → AreLevels levels last × IsHull last row
 levels_last [] last row h = (tt, h)
 levels_last (top ∷ levels) last row h = hulls_last top levels last row h
-
--- levels over boxes hold them
-pub tower_levels : (levels : List (List Window)) (boxes : List Window) → IsTower levels boxes → AreLevels levels boxes
-tower_levels [] boxes h = tt
-tower_levels (top ∷ levels) boxes h = h.1
 
 -- of a test that what holds a box passes where the box does
 module _ (hits : Window → Bool) where

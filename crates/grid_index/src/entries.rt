@@ -13,7 +13,7 @@ use std::alloc::Global;
 use tgap_model::{Edge, List, Memory, Point, Window};
 
 /// The bounding box of some points. Only the order of edges, and so time, depends on it.
-pub fn outline(points: &[Point]) -> Window {
+fn outline(points: &[Point]) -> Window {
     let mut all = NOWHERE;
     for point in points {
         all = Window {

@@ -8,7 +8,6 @@ ghost use Rattle.grid_index.specs.declared.segments.Entry.{Entry as Held};
 ghost use Rattle.grid_index.specs.Boxes.{Covers};
 ghost use Rattle.grid_index.specs.Slots.{held, slot_at, taken, stays, has_key, is_near, entry_near, AreNear, IsBounded, IsHolder};
 
-use crate::boxes::copied;
 use crate::keys::KeyBox;
 use crate::live::SegmentPlace;
 use crate::segments::{Entry, NOWHERE};
@@ -69,7 +68,7 @@ fn row_of(alloc: Global, slots: &[Option<Entry>]) -> Result<List<Window>, Memory
 fn widened(alloc: Global, boxes: &[Window], more: usize) -> Result<List<Window>, Memory>
     ensures { IfOk result (λ row. row ≡ boxes.now ++ replicate more NOWHERE) }
 {
-    let mut row = copied(alloc, boxes)?;
+    let mut row = List::from(Vec::from_slice(alloc, boxes)?);
     for _i in 0..more {
         row.push(NOWHERE)?;
     }

@@ -45,28 +45,6 @@ module _ (queues : List (List (Reverse Entry))) (label : ℕ) (queue : List (Rev
 pub queued_on : (before after : List (List (Reverse Entry))) → TellAsMuch before after → (e : Edge) → IsQueued before e → IsQueued after e
 queued_on before after more e h n is = let both = h n is in (more e.left e.key n both.0, more e.right e.key n both.1)
 
-pub all_queued_on : (before after : List (List (Reverse Entry))) → TellAsMuch before after → (edges : List Edge) → All (IsQueued before) edges → All (IsQueued after) edges
-all_queued_on before after more edges h = all_members (IsQueued after) edges (λ e m. queued_on before after more e (members_all (IsQueued before) edges e h m))
-
-same_some : (m n : ℕ) → Some m ≡ Some n → m ≡ n
-same_some m n e = ap (λ (o : Option ℕ). elim o [ None ↦ m | Some k ↦ k ]) e
-
--- ---- an edge is put in at its labels
-
-pub both_put : (e : Edge) (n : ℕ) → least_corner e.points ≡ Some n → (one two : List (List (Reverse Entry)))
-    → ((m : ℕ) → n ≤ m → is_queued (queue_at one e.left) e.key m ≡ true) → TellAsMuch one two
-    → ((m : ℕ) → n ≤ m → is_queued (queue_at two e.right) e.key m ≡ true) → IsQueued two e
-both_put e n is one two first more second m told =
-    let same : n ≡ m = same_some n m (sym is ∙ told) in
-    let le : n ≤ m = omega (arith, same) in
-    (more e.left e.key m (first m le), second m le)
-
-pub none_put : (e : Edge) → least_corner e.points ≡ None → (queues : List (List (Reverse Entry))) → IsQueued queues e
-none_put e is queues n told = absurd (differ (sym is ∙ told))
-  where
-    differ : None ≡ Some n → ⊥
-    differ h = true≢false (sym (ap (λ (o : Option ℕ). elim o [ None ↦ false | Some k ↦ true ]) h))
-
 -- ---- one key more
 
 -- what holds at each place below one

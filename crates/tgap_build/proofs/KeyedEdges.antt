@@ -5,7 +5,7 @@ use Rattle.std.specs.List.{list_any}
 use Rattle.std.specs.List.Sorted.{IsNonDecreasingBy}
 use Rattle.std.proofs.lemmas.Bool.{cases_lt, lt-ltb, eqb-true, false_from_ne_true}
 use Rattle.std.proofs.lemmas.List.Elements.{All-map}
-use Rattle.std.proofs.lemmas.List.Kept.{AllPairs-cons, AllPairs-filter}
+use Rattle.std.proofs.lemmas.List.Kept.{AllPairs-cons}
 use Rattle.std.proofs.lemmas.List.Sorted.{Contains-permutation, IsPermutation-sym}
 use Rattle.lemmas.specs.Sorting.{is_sorted_by, IsStrictOrderOn}
 use Rattle.lemmas.proofs.Orders.{nat_lt_order, order_by_key}
@@ -114,7 +114,3 @@ module _ (edges : List Edge) (a : Ascend edges) (p : Edge → Bool) where
   gone_there = all_members (Contains (keys edges)) (keys (filter p edges)) (λ k m.
       let e = map_among (λ (f : Edge). f.key) (filter p edges) k m in
       subst (Contains (keys edges)) e.2 (contained (keys edges) e.0.key (among_map (λ (f : Edge). f.key) edges e.0 (kept_among p edges e.0 e.1))))
-
-  pub keys_ascend : AllPairs (λ j k. j < k) (keys (filter p edges))
-  keys_ascend =
-      pairs_mapped (λ (j k : ℕ). j < k) (λ (e : Edge). e.key) (filter p edges) (AllPairs-filter (λ (e f : Edge). e.key < f.key) p edges a)

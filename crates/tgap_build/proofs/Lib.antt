@@ -50,6 +50,5 @@ pub mod CornerLists
 pub mod SmallAreas
 pub mod KeptEdges
 pub mod LosingEdges
-pub mod Inverses
 pub mod BoxedEdges
 pub mod BoxedTables

@@ -1,7 +1,6 @@
 pub mod Built
 pub mod Running
 pub mod Sought
-pub mod KeyBoxes
 pub mod Table
 pub mod OldEdges
 pub mod Boxes

@@ -20,7 +20,6 @@ mod corner_queues;
 mod edge_table;
 mod edges;
 mod joined;
-mod key_boxes;
 mod live_edges;
 mod live_ropes;
 mod measures;

@@ -24,11 +24,11 @@ use crate::corner_queues::{CornerQueues, requeue};
 use crate::edge_table::{EdgeTable, Merging};
 use crate::edges::edges_of;
 use crate::joined::{OldEdge, old_edges};
-use crate::key_boxes::KeyBoxes;
 use crate::point_set::PointSet;
 use crate::sought::sought_after;
 use edge_forest::Forest;
 use face_tree::FaceTree;
+use grid_index::EdgeBoxes;
 use std::alloc::Global;
 use tgap_model::{Edge, List, Memory, MergeStep, Piece};
 
@@ -37,7 +37,7 @@ use tgap_model::{Edge, List, Memory, MergeStep, Piece};
 #[derive(Debug, Drop)]
 pub struct LiveEdges {
     pub edges: EdgeTable,
-    pub sought: Option<KeyBoxes>,
+    pub sought: Option<EdgeBoxes>,
     pub corners: Option<CornerQueues>,
 }
 

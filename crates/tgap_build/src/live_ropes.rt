@@ -7,8 +7,7 @@ ghost use Rattle.grid_index.specs.Keyed.{edge_in, edges_in, AreAtKeys};
 ghost use Rattle.grid_index.specs.Live.{AreLive};
 ghost use Rattle.tgap_build.specs.Sought.{AreBoxed, segments_in};
 
-use crate::key_boxes::KeyBoxes;
-use grid_index::SegmentPlace;
+use grid_index::{EdgeBoxes, SegmentPlace};
 use point_rope::{EdgeRow, RopeEdge};
 use std::alloc::Global;
 use std::marker::Model;
@@ -62,7 +61,7 @@ fn segments_of(
 #[derive(Drop)]
 pub struct LiveRopes<'a> {
     places: &'a [Option<RopeEdge>],
-    boxes: &'a KeyBoxes,
+    boxes: &'a EdgeBoxes,
 }
 
 impl<'a> Model for LiveRopes<'a> {
@@ -81,7 +80,7 @@ impl<'a> Model for LiveRopes<'a> {
 
 impl<'a> LiveRopes<'a> {
     /// The edges at these places, with the look-up of their boxes.
-    pub fn of(places: &'a [Option<RopeEdge>], boxes: &'a KeyBoxes) -> LiveRopes<'a>
+    pub fn of(places: &'a [Option<RopeEdge>], boxes: &'a EdgeBoxes) -> LiveRopes<'a>
         requires keyed { AreAtKeys places.now }
         requires live { AreLive (edges_in places.now) }
         requires boxed { AreBoxed places.now boxes.now }
@@ -102,7 +101,7 @@ impl<'a> LiveTable for LiveRopes<'a> {
     }
 
     fn near(&self, alloc: Global, area: Window) -> Result<List<SegmentPlace>, Memory> {
-        let keys = self.boxes.near(alloc, &area)?;
-        segments_of(alloc, self.places, &keys, &area)
+        let keys = self.boxes.near(alloc, area)?;
+        segments_of(alloc, self.places, keys.as_slice(), &area)
     }
 }

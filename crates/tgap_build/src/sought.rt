@@ -13,8 +13,8 @@ ghost use Rattle.tgap_build.specs.Sought.{IsBoxedAt, AreBoxed, IsSought, HasRoom
 ghost use Rattle.tgap_build.specs.Table.{labelled_edges};
 
 use crate::edge_table::EdgeTable;
-use crate::key_boxes::KeyBoxes;
 use crate::live_ropes::LiveRopes;
+use grid_index::EdgeBoxes;
 use point_rope::{RopeEdge, no_bounds};
 use std::alloc::Global;
 use tgap_model::{Edge, List, Memory, Removal, Window};
@@ -42,7 +42,7 @@ fn boxes_of(alloc: Global, places: &[Option<RopeEdge>]) -> Result<List<Window>, 
 }
 
 /// Takes the box of a key out of the look-up, where no edge has the key.
-fn forget(alloc: Global, boxes: &mut KeyBoxes, edges: &EdgeTable, key: u32)
+fn forget(alloc: Global, boxes: &mut EdgeBoxes, edges: &EdgeTable, key: u32)
     requires { length boxes.old ≡ length edges.now.places.items }
     ensures kept { (k : ℕ) → IsBoxedAt edges.now.places.items boxes.old k → IsBoxedAt edges.now.places.items boxes.new k }
     ensures room { length boxes.new ≡ length boxes.old }
@@ -53,7 +53,7 @@ fn forget(alloc: Global, boxes: &mut KeyBoxes, edges: &EdgeTable, key: u32)
 }
 
 /// Takes the boxes of those of these keys out that no edge has.
-fn forget_keys(alloc: Global, boxes: &mut KeyBoxes, edges: &EdgeTable, keys: &[u32])
+fn forget_keys(alloc: Global, boxes: &mut EdgeBoxes, edges: &EdgeTable, keys: &[u32])
     requires { length boxes.old ≡ length edges.now.places.items }
     ensures kept { (k : ℕ) → IsBoxedAt edges.now.places.items boxes.old k → IsBoxedAt edges.now.places.items boxes.new k }
     ensures room { length boxes.new ≡ length boxes.old }
@@ -64,7 +64,7 @@ fn forget_keys(alloc: Global, boxes: &mut KeyBoxes, edges: &EdgeTable, keys: &[u
 }
 
 /// Takes the boxes of edges out that ended.
-fn forget_ended(alloc: Global, boxes: &mut KeyBoxes, edges: &EdgeTable, ended: &[Edge])
+fn forget_ended(alloc: Global, boxes: &mut EdgeBoxes, edges: &EdgeTable, ended: &[Edge])
     requires { length boxes.old ≡ length edges.now.places.items }
     ensures kept { (k : ℕ) → IsBoxedAt edges.now.places.items boxes.old k → IsBoxedAt edges.now.places.items boxes.new k }
     ensures room { length boxes.new ≡ length boxes.old }
@@ -75,7 +75,7 @@ fn forget_ended(alloc: Global, boxes: &mut KeyBoxes, edges: &EdgeTable, ended: &
 }
 
 /// Makes the box of the edge with a key anew, if there is one.
-fn renew(alloc: Global, boxes: &mut KeyBoxes, edges: &EdgeTable, key: u32)
+fn renew(alloc: Global, boxes: &mut EdgeBoxes, edges: &EdgeTable, key: u32)
     requires { length boxes.old ≡ length edges.now.places.items }
     ensures here { IsBoxedAt edges.now.places.items boxes.new key }
     ensures kept { (k : ℕ) → IsBoxedAt edges.now.places.items boxes.old k → IsBoxedAt edges.now.places.items boxes.new k }
@@ -87,7 +87,7 @@ fn renew(alloc: Global, boxes: &mut KeyBoxes, edges: &EdgeTable, key: u32)
 }
 
 /// Makes the boxes of the edges with these keys anew.
-fn renew_keys(alloc: Global, boxes: &mut KeyBoxes, edges: &EdgeTable, keys: &[u32])
+fn renew_keys(alloc: Global, boxes: &mut EdgeBoxes, edges: &EdgeTable, keys: &[u32])
     requires { length boxes.old ≡ length edges.now.places.items }
     ensures here { All (IsBoxedAt edges.now.places.items boxes.new) keys.now }
     ensures kept { (k : ℕ) → IsBoxedAt edges.now.places.items boxes.old k → IsBoxedAt edges.now.places.items boxes.new k }
@@ -103,7 +103,7 @@ fn renew_keys(alloc: Global, boxes: &mut KeyBoxes, edges: &EdgeTable, keys: &[u3
 /// for each of them, and of the runs of those that came.
 pub fn sought_after(
     alloc: Global,
-    sought: &mut Option<KeyBoxes>,
+    sought: &mut Option<EdgeBoxes>,
     edges: &EdgeTable,
     joined: &[u32],
     ended: &[Edge],
@@ -123,14 +123,14 @@ pub fn sought_after(
 }
 
 /// The look-up of the edges, which is made where there is none.
-fn look_up(alloc: Global, sought: Option<KeyBoxes>, edges: &EdgeTable) -> Result<KeyBoxes, Memory>
+fn look_up(alloc: Global, sought: Option<EdgeBoxes>, edges: &EdgeTable) -> Result<EdgeBoxes, Memory>
     requires sought { IsSought edges.now.places.items sought }
     requires few { length edges.now.places.items < 2 ^ 32 - 1 }
     ensures { IfOk result (AreBoxed edges.now.places.items) }
 {
     match sought {
         Some(boxes) => Ok(boxes),
-        None => KeyBoxes::of(alloc, boxes_of(alloc, edges.places())?),
+        None => EdgeBoxes::of(alloc, &boxes_of(alloc, edges.places())?),
     }
 }
 
@@ -140,7 +140,7 @@ fn look_up(alloc: Global, sought: Option<KeyBoxes>, edges: &EdgeTable) -> Result
 pub fn swept(
     alloc: Global,
     edges: &EdgeTable,
-    sought: &mut Option<KeyBoxes>,
+    sought: &mut Option<EdgeBoxes>,
     keys: &[u32],
     made: u32,
     loser_area: i128,

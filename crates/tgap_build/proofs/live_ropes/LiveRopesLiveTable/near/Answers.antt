@@ -11,6 +11,6 @@ pub returns-clause-near : goal.returns-clause-near
 returns-clause-near c =
     let area = c.args.area in
     let places = c.self.inside.places.now in
-    let all = ap (flat_map (segments_in area places)) (c.deref.ensures.value ∙ c.in_ok-keys.ensures)
+    let all = ap (flat_map (segments_in area places)) (c.as_slice.ensures ∙ c.in_ok-keys.ensures)
     ∙ near_is area places c.self.inside.boxes.now c.self.invariant.2 ∙ ap (near_segments area) c.self.view_is in
     subst (λ (ss : List SegmentPlace). IfOk c.segments_of.result (λ (places : List SegmentPlace). places ≡ ss)) all c.segments_of.ensures

@@ -1,6 +1,0 @@
--- The keys in the slots so far.
-use Rattle.std.proofs.Common.{◌≡◌, map, take, get_or}
-use Rattle.tgap_build.proofs.key_boxes.keys_of.Given as goal
-
-abbrev pub invariant-loop-slot : goal.invariant-loop-slot
-invariant-loop-slot l = l.found.items ≡ map (λ i. get_or l.keys i 0) (take l.slot-index l.slots)
