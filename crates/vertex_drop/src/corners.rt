@@ -1,17 +1,15 @@
 //! How small the corners of edges are.
 
-ghost use Rattle.std.specs.Prelude.{◌≡◌, ◌≤◌, ◌==◌, not, ℕ, pos, Some, map, filter, All, IfOk};
-ghost use Rattle.std.specs.Option.{option_map};
+ghost use Rattle.std.specs.Prelude.{◌≡◌, ◌≤◌, ◌==◌, not, ℕ, Some, map, filter, All, IfOk};
 ghost use Rattle.tgap_model.specs.Base.{same_point};
 ghost use Rattle.tgap_model.specs.Bounds.{max_cross};
 ghost use Rattle.tgap_model.specs.Point.{area2};
 ghost use Rattle.vertex_drop.specs.Corners.{has_small_corner, is_closed, is_triangle, least_corner, may_lose};
-ghost use Rattle.point_rope.specs.Corners.{least_area};
 ghost use Rattle.point_rope.specs.Held.{IsNearPoint};
 
 use crate::removable::is_small_area;
 use grid_geo::area2;
-use point_rope::Rope;
+use point_rope::{Rope, least_area};
 use std::alloc::Global;
 use tgap_model::{Edge, Memory, Point};
 
@@ -43,28 +41,11 @@ fn is_triangle(points: &[Point]) -> bool
     is_same(points[0], points[3]) && has_area(points[0], points[1], points[2])
 }
 
-/// Twice the area of the least triangle of three points in a row of these, in square grid units: 0 where three are on
-/// one line, and none where there are fewer than three points.
-fn least_area(points: &[Point]) -> Option<i128>
-    requires { All IsNearPoint points.now }
-    ensures exact { result ≡ option_map pos (least_area points.now) }
-    ensures small { (n : ℕ) → least_area points.now ≡ Some n → n ≤ max_cross }
-{
-    if points.len() < 3 {
-        return None;
-    }
-    let mut least = area2(points[0], points[1], points[2]);
-    for i in 3..points.len() {
-        least = least.min(area2(points[i - 2], points[i - 1], points[i]));
-    }
-    Some(least)
-}
-
-/// The same, and none too where the points are the corners of a triangle with an area and the first of them again.
+/// What `least_corner` tells of a row, of these points.
 #[tactic(auto, unfolding(crate::specs::Corners::least_corner))]
-fn least_corner_of(points: &[Point]) -> Option<i128>
+fn least_corner_of(points: &[Point]) -> Option<u128>
     requires { All IsNearPoint points.now }
-    ensures exact { result ≡ option_map pos (least_corner points.now) }
+    ensures exact { result ≡ least_corner points.now }
     ensures small { (n : ℕ) → least_corner points.now ≡ Some n → n ≤ max_cross }
 {
     if is_triangle(points) {
@@ -102,7 +83,7 @@ fn has_small_corner(points: &[Point], loser_area: i128, ratio: u32) -> bool
     ensures { result ≡ has_small_corner ratio loser_area points.now }
 {
     match least_corner_of(points) {
-        Some(area) => is_small_area(area, loser_area, ratio),
+        Some(area) => is_small_area(area as i128, loser_area, ratio),
         None => false,
     }
 }

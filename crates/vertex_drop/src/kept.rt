@@ -48,11 +48,22 @@ impl<'a> Kept<'a> {
     }
 
     /// Lets the next segment begin a chunk.
-    pub fn close(&mut self, alloc: Global) -> Result<(), Memory>
+    fn close(&mut self, alloc: Global) -> Result<(), Memory>
         ensures { OnOk result (self.new ≡ self.old) }
     {
         let segments = mem::replace(&mut self.growing, Segments::new(alloc));
         put(&mut self.full, segments)
+    }
+
+    /// Ends the segments of an edge. Where half a chunk grows, the next edge begins another one, so that a long edge has
+    /// boxes of its own and many short edges share one.
+    pub fn end_edge(&mut self, alloc: Global) -> Result<(), Memory>
+        ensures { OnOk result (self.new ≡ self.old) }
+    {
+        if self.growing.len() < CHUNK_SIZE / 2 {
+            return Ok(());
+        }
+        self.close(alloc)
     }
 
     /// Appends a segment.

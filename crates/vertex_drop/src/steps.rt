@@ -53,7 +53,7 @@ fn sweep_edge<'a, L: LiveTable>(
     }
     let b = edge.at(last);
     kept.push(alloc, Seg { a, b })?;
-    kept.close(alloc)
+    kept.end_edge(alloc)
 }
 
 /// Sweeps the edge with this key.
@@ -121,8 +121,8 @@ fn removals_of(alloc: Global, points: &[Point], step: u32) -> Result<List<Remova
 /// that have a corner which is small enough, or no summary, or follow a vertex that went: any other run is passed over,
 /// and kept as it lies. Of a vertex whose triangle is too large, or has no area, no segment is looked at. For any other
 /// one it asks once for the segments whose boxes meet that of the triangle, finds the edge of each by its key, and goes
-/// over the boxes of what is left of the edges swept so far: one for each run that was passed over, and one for every 32
-/// other segments of an edge or fewer. Segments are looked at where their box meets that of the triangle.
+/// over the boxes of what is left of the edges swept so far: one for each run that was passed over, and one for every 16 to
+/// 32 other segments that come in a row. Segments are looked at where their box meets that of the triangle.
 pub fn sweep_some<L: LiveTable>(
     alloc: Global,
     live: &L,

@@ -35,5 +35,5 @@ returns g c i d there is =
     c.in_ok-push.ensures ∙ ap (λ (p : Point). l.kept ++ record { a = l.a; b = p } ∷ []) (sym end) ∙ done.0
     ∙ ap (λ (ps : List Point). first ++ path (sweep_after rule.ratio rule.area others first ps).kept) same in
     let gone = done.1 ∙ ap (λ (ps : List Point). before ++ (sweep_after rule.ratio rule.area others first ps).gone) same in
-    IfOk-weaker c.close.result (λ _. c.close.new.self ≡ c.push.new.self)
-    (λ _. IsEdgeSwept rule swept live i d first c.close.new.self before l.gone.items) (λ _ h. record { left = h ∙ kept; removed = gone }) c.close.ensures
+    IfOk-weaker c.end_edge.result (λ _. c.end_edge.new.self ≡ c.push.new.self)
+    (λ _. IsEdgeSwept rule swept live i d first c.end_edge.new.self before l.gone.items) (λ _ h. record { left = h ∙ kept; removed = gone }) c.end_edge.ensures
