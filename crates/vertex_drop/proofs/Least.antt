@@ -1,15 +1,11 @@
 -- The least corner of a row of points decides whether it has a small one.
-use Rattle.std.proofs.Common.{◌≡◌, ◌⊎◌, inl, inr, ℕ, ◌+◌, ◌-◌, ◌*◌, ◌≤◌, ◌<◌, ◌==◌, ◌||◌, ◌&&◌, not, if◌then◌else◌, ℤ, pos, ◌≤ℤ◌, int_le, min, Bool, true, false, Option, None, Some, List, [], ◌∷◌, length, drop, length-drop, get_or, refl, sym, ap, ap₂, ◌∙◌, true≢false, arith}
-use Rattle.std.specs.Option.{option_map}
+use Rattle.std.proofs.Common.{◌≡◌, ◌⊎◌, inl, inr, ℕ, ◌*◌, ◌≤◌, ◌<◌, ◌==◌, ◌||◌, ◌&&◌, not, if◌then◌else◌, ℤ, pos, ◌≤ℤ◌, int_le, min, Bool, true, false, Option, None, Some, List, [], ◌∷◌, refl, sym, ap, ◌∙◌, true≢false, arith}
 use Rattle.std.proofs.Math.Bool.{or-false}
 use Rattle.std.proofs.Math.Nat.{mul-le-mul_left}
-use Rattle.std.specs.Int.{int_min}
-use Rattle.std.proofs.lemmas.Int.{ints, int_min_is}
+use Rattle.std.proofs.lemmas.Int.{ints}
 use Rattle.std.proofs.lemmas.Bool.{or_left, or_right, or_cases, eq-eqb, eqb-true, cases_lt}
-use Rattle.std.proofs.lemmas.List.{at_drop_more}
 use Rattle.lemmas.proofs.Signs.{Decides-int_le, le_le_trans}
 use Rattle.tgap_model.specs.declared.geometry.Point.{Point}
-use Rattle.tgap_model.specs.Bounds.{max_cross}
 use Rattle.tgap_model.specs.Point.{area2}
 use Rattle.point_rope.specs.Corners.{less_of, least_area}
 use Rattle.vertex_drop.specs.Corners.{small_area, any_small_corner, has_small_corner, is_triangle, least_corner}

@@ -1,7 +1,7 @@
 use Rattle.std.proofs.Common.{ℤ, pos, refl, sym, ap, ◌∙◌}
 use Rattle.std.specs.Int.{w128}
 use Rattle.std.proofs.lemmas.Int.{to_z-of_z}
-use Rattle.vertex_drop.specs.Corners.{small_area, least_corner}
+use Rattle.vertex_drop.specs.Corners.{small_area}
 use Rattle.vertex_drop.proofs.Least.{is_small_least, least_decides}
 use Rattle.vertex_drop.proofs.Small.{wide_area}
 use Rattle.vertex_drop.proofs.corners.has_small_corner.Goals as goal
