@@ -1,9 +1,10 @@
 //! The least pair of segments that meet. Whether there may be one is told by a sweep; only then is the least one looked
 //! for, by number.
 
-ghost use Rattle.std.specs.Prelude.{◌≡◌, ℕ, ◌<◌, ◌-◌, ◌^◌, IsTrue, IfOk, false, length, option_map};
+ghost use Rattle.std.specs.Prelude.{◌≡◌, ℕ, ◌<◌, ◌-◌, ◌^◌, IsTrue, IfOk, true, false, length, option_map};
 ghost use Rattle.std.specs.List.{list_all};
 ghost use Rattle.tgap_model.specs.Partition.{is_proper, meeting_from};
+ghost use Rattle.planar_stack.specs.Sweep.{FacesAgree};
 ghost use Rattle.planar_apart.specs.Meetings.{meets};
 ghost use Rattle.planar_apart.specs.Doubts.{is_doubtful, Suffice};
 ghost use Rattle.planar_apart.specs.Rows.{IsRow, numbered, IsLeastAbove, IsLeastByNumber};
@@ -14,7 +15,7 @@ use crate::meeting::{Meeting, earlier_above};
 use crate::row::{NumberedSegment, row_boxes, row_of};
 use crate::sight::Sight;
 use grid_index::BoxTree;
-use planar_sweep::all_apart;
+use planar_sweep::swept;
 use std::alloc::Global;
 use tgap_model::{LabelledSegment, Memory};
 
@@ -105,15 +106,32 @@ fn least_pair(alloc: Global, segments: &[LabelledSegment]) -> Result<Option<Meet
     Ok(least_by_number(segments, &doubts, few, &few_tree, row, &tree))
 }
 
-/// The least pair that meets, which is looked for only where a sweep does not show that there is none.
-pub fn first_pair(alloc: Global, segments: &[LabelledSegment]) -> Result<Option<Meeting>, Memory>
+/// What is known of segments: the least pair that meets, and whether it is shown that the faces agree down each vertical
+/// line.
+#[derive(Clone, Copy, Debug, PartialEq, Eq)]
+pub struct Known {
+    pub meeting: Option<Meeting>,
+    pub agree: bool,
+}
+
+/// The least pair that meets, which is looked for only where a sweep does not show that there is none, and what the sweep
+/// shows of the faces.
+pub fn first_pair(alloc: Global, segments: &[LabelledSegment]) -> Result<Known, Memory>
     requires proper { IsTrue (list_all is_proper segments.now) }
     requires few { length segments.now < 2 ^ 32 - 1 }
-    ensures { IfOk result (λ found. option_map meets found ≡ meeting_from 0 segments.now) }
+    ensures exact { IfOk result (λ known. option_map meets known.meeting ≡ meeting_from 0 segments.now) }
+    ensures agree { IfOk result (λ known. known.agree ≡ true → FacesAgree segments.now) }
 {
-    let apart = all_apart(alloc, segments)?;
-    if apart {
-        return Ok(None);
+    let shown = swept(alloc, segments)?;
+    if shown.apart {
+        return Ok(Known {
+            meeting: None,
+            agree: shown.agree,
+        });
     }
-    least_pair(alloc, segments)
+    let meeting = least_pair(alloc, segments)?;
+    Ok(Known {
+        meeting,
+        agree: false,
+    })
 }

@@ -1,9 +1,9 @@
 -- The events of the segments: each is of a segment, each segment has both, and none stands twice. Those up to a time are a front of them.
-use Rattle.std.proofs.Common.{◌≡◌, ◌≢◌, ℕ, suc, ◌+◌, ◌<◌, ◌≤◌, Bool, true, false, List, [], ◌∷◌, ◌++◌, length, map, take, drop, get_or, All, Contains, ℤ, pos, ◌+ℤ◌, ◌*ℤ◌, ◌<ℤ◌, ◌≤ℤ◌, cond, refl, sym, ap, ◌∙◌, subst, true≢false, arith}
+use Rattle.std.proofs.Common.{◌≡◌, ◌≢◌, ℕ, suc, ◌+◌, ◌<◌, ◌≤◌, Bool, true, false, List, [], ◌∷◌, ◌++◌, length, map, filter, take, drop, get_or, All, Contains, ℤ, pos, ◌+ℤ◌, ◌*ℤ◌, ◌<ℤ◌, ◌≤ℤ◌, cond, refl, sym, ap, ◌∙◌, subst, true≢false, arith}
 use Rattle.std.specs.List.{range_with_len}
 use Rattle.std.proofs.lemmas.Int.{ints, by_lt_z}
 use Rattle.std.proofs.lemmas.List.{append_assoc}
-use Rattle.std.proofs.lemmas.List.FromFn.{get_or-map-range_with_len, length-map-range_with_len, map-range_with_len_more}
+use Rattle.std.proofs.lemmas.List.FromFn.{get_or-map-range_with_len, length-map-range_with_len, map-range_with_len_more, filter_of_map_range_with_len_more}
 use Rattle.std.proofs.lemmas.List.Elements.{All-nil, All-cons, All-append, Contains-append_left, Contains-append_right}
 use Rattle.std.proofs.lemmas.List.Sorted.{All-permutation, Contains-permutation}
 use Rattle.lemmas.proofs.Members.{AllPairs-append}
@@ -13,7 +13,7 @@ use Rattle.tgap_model.specs.declared.geometry.Seg.{Seg}
 use Rattle.planar_sweep.specs.declared.events.Event.{Event}
 use Rattle.planar_sweep.specs.Over.{GoesForward, is_slanted}
 use Rattle.planar_sweep.specs.Times.{time_in, time_out}
-use Rattle.planar_sweep.specs.Rows.{coming, leaving, listed_events, AreEvents}
+use Rattle.planar_sweep.specs.Rows.{coming, leaving, listed_events, IsEventOf, AreEvents}
 use Rattle.planar_sweep.proofs.Heights.{upright}
 use Rattle.planar_sweep.proofs.Neighbours.{Once}
 
@@ -43,13 +43,13 @@ module _ {A : Type 0} (number : A → ℕ) (f : ℕ → A) (numbered : (n : ℕ)
 pub listed_more : {A : Type 0} (f : ℕ → A) (old now : List A) (i : ℕ) → now ≡ old ++ map f (range_with_len 0 i) → now ++ f i ∷ [] ≡ old ++ map f (range_with_len 0 (i + 1))
 listed_more f old now i e = ap (λ xs. xs ++ f i ∷ []) e ∙ append_assoc old (map f (range_with_len 0 i)) (f i ∷ []) ∙ ap (λ xs. old ++ xs) (sym (map-range_with_len_more f 0 i i (omega arith)))
 
--- ---- of the segments
+-- one more of them, of which those that pass a test are kept
+pub kept_more : {A : Type 0} (p : A → Bool) (f : ℕ → A) (old now : List A) (i : ℕ) → now ≡ old ++ filter p (map f (range_with_len 0 i))
+    → now ++ filter p (f i ∷ []) ≡ old ++ filter p (map f (range_with_len 0 (i + 1)))
+kept_more p f old now i e = ap (λ xs. xs ++ filter p (f i ∷ [])) e ∙ append_assoc old (filter p (map f (range_with_len 0 i))) (filter p (f i ∷ []))
+    ∙ ap (λ xs. old ++ xs) (sym (filter_of_map_range_with_len_more p f 0 i i (omega arith)))
 
--- An event is one of a segment: it comes, or it leaves.
-pub record IsEventOf (segs : List Seg) (e : Event) : Type 0 where
-  pub known : e.number < length segs
-  pub comes : e.comes ≡ true → e ≡ coming segs e.number
-  pub leaves : e.comes ≡ false → e ≡ leaving segs e.number
+-- ---- of the segments
 
 module _ (segs : List Seg) (events : List Event) (r : AreEvents segs events) where
   -- what holds of the events of each segment holds of each event

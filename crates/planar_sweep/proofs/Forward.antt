@@ -1,19 +1,20 @@
--- A segment from its earlier end to its later one: it goes forward, has the same points and the same ends.
-use Rattle.std.proofs.Common.{if◌then◌else◌, ◌≡◌, ◌<◌, List, length, map, get_or, All, arith, inl, inr, Bool, true, false, ◌&&◌, ◌||◌, [], ◌∷◌, ℤ, pos, ◌-ℤ◌, ◌≤ℤ◌, int_lt, refl, sym, ap, ◌∙◌, subst}
+-- A segment from its earlier end to its later one: it goes forward, has the same points and the same ends, and the same lines cross it.
+use Rattle.std.proofs.Common.{if◌then◌else◌, ◌≡◌, ◌<◌, List, length, map, get_or, All, arith, inl, inr, Bool, true, false, ◌&&◌, ◌||◌, [], ◌∷◌, ℤ, pos, ◌-ℤ◌, ◌<ℤ◌, ◌≤ℤ◌, int_lt, refl, sym, ap, ◌∙◌, subst}
 use Rattle.std.specs.Ordering.{int_eq}
 use Rattle.std.specs.List.{list_all}
 use Rattle.std.proofs.lemmas.Bool.{and_parts, or_cases}
 use Rattle.std.proofs.lemmas.List.{get_or-map, length-map}
 use Rattle.std.proofs.lemmas.List.Sums.{AllPass-from_list_all}
 use Rattle.std.proofs.lemmas.Bool.Decides.{Decides-int_eq}
+use Rattle.std.proofs.Math.Bool.{or_comm}
 use Rattle.std.proofs.Math.IntN.{*ℤ_comm}
 use Rattle.lemmas.proofs.Polynomials.{same_value, var, number, ◌⊖◌, ◌⊗◌}
-use Rattle.lemmas.proofs.Signs.{Decides-int_lt, int_lt-false, by_order, le_from_lt}
+use Rattle.lemmas.proofs.Signs.{Decides-int_lt, int_lt-false, int_lt-from_le, by_order, le_from_lt}
 use Rattle.tgap_model.specs.declared.geometry.Point.{Point}
 use Rattle.tgap_model.specs.declared.geometry.Fraction.{Fraction}
 use Rattle.tgap_model.specs.declared.geometry.Seg.{Seg}
 use Rattle.tgap_model.specs.declared.segment.LabelledSegment.{LabelledSegment}
-use Rattle.tgap_model.specs.Segment.{cross_at, is_on, point_before}
+use Rattle.tgap_model.specs.Segment.{Line, passes, crosses, rightward, cross_at, is_on, point_before}
 use Rattle.tgap_model.specs.Partition.{is_proper}
 use Rattle.tgap_model.proofs.Proper.{proper_parts, near_ends}
 use Rattle.grid_geo.proofs.Places.{x_gap, y_gap, IsOn, on_facts, on_from_facts}
@@ -54,6 +55,22 @@ end_from_forward p s = by (point_before s.b s.a)
     by true (inl e) = inr e
     by true (inr e) = inl e
     by false h = h
+
+-- the same lines cross it
+pub crosses_forward : (l : Line) (s : Seg) → crosses l (forward s) ≡ crosses l s
+crosses_forward l s = by (point_before s.b s.a)
+  where
+    by : (b : Bool) → crosses l (either_way b s) ≡ crosses l s
+    by true = or_comm (passes l s.b.x s.a.x) (passes l s.a.x s.b.x)
+    by false = refl
+
+-- and where it goes to the right, it is the segment from left to right
+pub rightward_forward : (s : Seg) → (forward s).a.x <ℤ (forward s).b.x → rightward s ≡ forward s
+rightward_forward s = by (point_before s.b s.a)
+  where
+    by : (b : Bool) → (either_way b s).a.x <ℤ (either_way b s).b.x → rightward s ≡ either_way b s
+    by true h = ap (λ (goes : Bool). if goes then s else either_way true s) (int_lt-from_le (le_from_lt h))
+    by false h = ap (λ (goes : Bool). if goes then s else either_way true s) ((Decides-int_lt s.a.x s.b.x).1 h)
 
 -- of a segment within the limits that has two ends
 pub forward_is_ready : (s : LabelledSegment) → is_proper s ≡ true → IsReady (forward s.segment)

@@ -9,3 +9,7 @@ pub mod Whole
 pub mod Forward
 pub mod Shared
 pub mod Labels
+pub mod FaceGaps
+pub mod Agreement
+pub mod Nodes
+pub mod GapCounts

@@ -1,18 +1,22 @@
 -- A row after one event more.
-use Rattle.std.proofs.Common.{◌≡◌, ◌≢◌, ◌⊎◌, inl, inr, ⊎_elim, ℕ, ◌+◌, ◌<◌, true, false, List, [], ◌∷◌, ◌++◌, length, take, drop, get_or, All, Contains, IsPermutation, ℤ, pos, ◌<ℤ◌, ◌≤ℤ◌, sym, ap, ◌∙◌, subst, true≢false, arith}
+use Rattle.std.proofs.Common.{◌≡◌, ◌≢◌, ◌⊎◌, inl, inr, ⊎_elim, ℕ, ◌+◌, ◌<◌, ◌≤◌, ◌==◌, true, false, List, [], ◌∷◌, ◌++◌, length, take, drop, get_or, All, Contains, IsPermutation, ℤ, pos, ◌<ℤ◌, ◌≤ℤ◌, sym, ap, ◌∙◌, subst, true≢false, arith}
 use Rattle.std.proofs.lemmas.Int.{ints}
 use Rattle.std.proofs.lemmas.List.{take_more, drop_more, take-append-drop, get_or_default, get_or-take, get_or-drop, length-drop, length-take-le}
 use Rattle.std.proofs.lemmas.List.Elements.{Contains-append_cases, Contains-append_left, Contains-append_right}
 use Rattle.std.proofs.lemmas.List.Sorted.{IsPermutation-insert}
+use Rattle.std.proofs.lemmas.Bool.Decides.{Decides-eqb}
+use Rattle.std.proofs.lemmas.Map.Steps.{length-le_from_distinct_below}
+use Rattle.std.proofs.lemmas.Map.Made.{IsDistinct-from_AllPairs}
+use Rattle.std.proofs.lemmas.Map.Views.{Contains-from_any}
 use Rattle.lemmas.proofs.Members.{All-from_members, in_tail, in_cases, in_none, related_to_next}
 use Rattle.tgap_model.specs.declared.geometry.Seg.{Seg}
 use Rattle.planar_sweep.specs.declared.events.Event.{Event}
 use Rattle.planar_sweep.specs.Over.{GoesForward}
 use Rattle.planar_sweep.specs.Times.{time_in}
 use Rattle.planar_sweep.specs.Ends.{IsReady}
-use Rattle.planar_sweep.specs.Rows.{no_seg, Adjacent, Over, seg_at, coming, leaving, AreEvents, IsRow, HasCome, HasLeft}
+use Rattle.planar_sweep.specs.Rows.{no_seg, Adjacent, Over, seg_at, coming, leaving, IsEventOf, AreEvents, IsRow, HasCome, HasLeft}
 use Rattle.planar_sweep.proofs.Neighbours.{adjacent_insert, adjacent_remove, removed, once_more, once_less, member_more, stays_more, comes_in, member_less, stays_less}
-use Rattle.planar_sweep.proofs.EventFacts.{IsEventOf, events_real, has_leaving, events_once, leaves_later}
+use Rattle.planar_sweep.proofs.EventFacts.{events_real, has_leaving, events_once, leaves_later}
 
 -- the events of one segment are not those of another, and to come is not to leave
 coming_number : (segs : List Seg) (m n : ℕ) → coming segs m ≡ coming segs n → m ≡ n
@@ -125,6 +129,11 @@ module _ (segs : List Seg) (events : List Event) (r : AreEvents segs events) (k 
 -- the members of a row are numbers of segments
 pub row_known : (segs : List Seg) (done ahead : List Event) (row : List ℕ) → IsRow segs done ahead row → All (λ n. n < length segs) row
 row_known segs done ahead row is = All-from_members (λ n. n < length segs) row (λ n c. (is.into n c).0)
+
+-- so there are no more of them
+pub row_few : (segs : List Seg) (done ahead : List Event) (row : List ℕ) → IsRow segs done ahead row → length row ≤ length segs
+row_few segs done ahead row is = length-le_from_distinct_below row (length segs) (IsDistinct-from_AllPairs {eq = ◌==◌} Decides-eqb row is.once)
+    (λ n found. (is.into n (Contains-from_any {eq = ◌==◌} (λ a b. (Decides-eqb a b).0) n row found)).0)
 
 -- the event at a place, where there is one
 abbrev pub no_event : Event

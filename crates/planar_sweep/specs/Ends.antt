@@ -1,12 +1,13 @@
 -- The ends of segments, by a number of their points, so that ends at one point stand together; which two of them may share a point; and
 -- the segments as they are swept.
-use Rattle.std.specs.Prelude.{◌≡◌, ◌≢◌, ℕ, ◌+◌, ◌<◌, ◌≤◌, Bool, true, false, ◌&&◌, ◌||◌, not, ℤ, pos, ◌+ℤ◌, ◌*ℤ◌, ◌<ℤ◌, ◌≤ℤ◌, List, ◌++◌, length, map, get_or, IsPermutation}
+use Rattle.std.specs.Prelude.{◌≡◌, ◌≢◌, ℕ, ◌+◌, ◌<◌, ◌≤◌, Bool, true, false, ◌&&◌, ◌||◌, not, nat_lt, ◌-◌, ℤ, pos, neg_ℤ, ◌+ℤ◌, ◌*ℤ◌, ◌<ℤ◌, ◌≤ℤ◌, List, ◌++◌, length, map, filter, get_or, IsPermutation}
+use Rattle.std.specs.Int.{int_min, int_max}
 use Rattle.std.specs.List.{range_with_len}
 use Rattle.tgap_model.specs.declared.geometry.Point.{Point}
 use Rattle.tgap_model.specs.declared.geometry.Fraction.{Fraction}
 use Rattle.tgap_model.specs.declared.geometry.Seg.{Seg}
 use Rattle.tgap_model.specs.declared.segment.LabelledSegment.{LabelledSegment}
-use Rattle.tgap_model.specs.Base.{in_limits}
+use Rattle.tgap_model.specs.Base.{in_limits, same_point}
 use Rattle.tgap_model.specs.Bounds.{HasNearEnds}
 use Rattle.tgap_model.specs.Partition.{follows}
 use Rattle.tgap_model.specs.Segment.{is_on}
@@ -50,20 +51,43 @@ no_segment = record {
 abbrev pub segment_at : List LabelledSegment → ℕ → LabelledSegment
 segment_at segments n = get_or segments n no_segment
 
--- a number of a point: one for each point within the limits
+-- a coordinate, or the bound that it is beyond
+abbrev pub bounded : ℤ → ℤ
+bounded z = int_min (int_max z (neg_ℤ (pos 2147483647))) (pos 2147483647)
+
+-- a number of a point, which others share with it only beyond the bounds
 abbrev pub point_key : Point → ℤ
-point_key v = pos 8589934592 *ℤ v.x +ℤ v.y
+point_key v = pos 4294967296 *ℤ bounded v.x +ℤ bounded v.y
 
 abbrev pub first_mark : List LabelledSegment → ℕ → Mark
-first_mark segments n = record { key = point_key (segment_at segments n).segment.a; number = n; last = false; free = (segment_at segments n).starts }
+first_mark segments n = record { key = point_key (segment_at segments n).segment.a; number = n; last = false; free = (segment_at segments n).starts; joint = false }
 
 abbrev pub last_mark : List LabelledSegment → ℕ → Mark
-last_mark segments n = record { key = point_key (segment_at segments n).segment.b; number = n; last = true; free = (segment_at segments n).ends }
+last_mark segments n = record { key = point_key (segment_at segments n).segment.b; number = n; last = true; free = (segment_at segments n).ends; joint = false }
+
+-- the segment after it in the list is the next one of the arc, and begins where it ends
+abbrev pub goes_on : List LabelledSegment → ℕ → Bool
+goes_on segments n =
+    nat_lt (n + 1) (length segments)
+    && (follows (segment_at segments n) (segment_at segments (n + 1)) && same_point (segment_at segments n).segment.b (segment_at segments (n + 1)).segment.a)
+
+-- the segment before it in the list goes on with it
+abbrev pub is_joined : List LabelledSegment → ℕ → Bool
+is_joined segments n = nat_lt 0 n && goes_on segments (n - 1)
+
+-- the mark of the first end; where that is joined, it is of the last end of the segment before it too
+abbrev pub front_mark : List LabelledSegment → ℕ → Mark
+front_mark segments n = record { key = point_key (segment_at segments n).segment.a; number = n; last = false; free = (segment_at segments n).starts; joint = is_joined segments n }
+
+-- the last end of this number has no joint mark
+abbrev pub is_loose : List LabelledSegment → Mark → Bool
+is_loose segments m = not (goes_on segments m.number)
 
 abbrev pub listed_marks : List LabelledSegment → List Mark
-listed_marks segments = map (first_mark segments) (range_with_len 0 (length segments)) ++ map (last_mark segments) (range_with_len 0 (length segments))
+listed_marks segments =
+    map (front_mark segments) (range_with_len 0 (length segments)) ++ filter (is_loose segments) (map (last_mark segments) (range_with_len 0 (length segments)))
 
--- The ends of the segments, in the order of their numbers of points.
+-- The marks of the ends of the segments, in the order of their numbers of points.
 pub record AreMarks (segments : List LabelledSegment) (marks : List Mark) : Type 0 where
   pub moved : IsPermutation (listed_marks segments) marks
   pub ascend : (i j : ℕ) (d : Mark) → i ≤ j → j < length marks → (get_or marks i d).key ≤ℤ (get_or marks j d).key
@@ -76,20 +100,20 @@ joins segments e f = e.last && (not f.last && follows (segment_at segments e.num
 abbrev pub may_share : List LabelledSegment → Mark → Mark → Bool
 may_share segments e f = (e.free && f.free) || (joins segments e f || joins segments f e)
 
+-- neither mark is of two ends that are joined, and their ends may share a point
+abbrev pub may_meet : List LabelledSegment → Mark → Mark → Bool
+may_meet segments e f = not (e.joint || f.joint) && may_share segments e f
+
 abbrev pub are_free : Mark → Mark → Bool
 are_free e f = e.free && f.free
 
--- At a place, the end may share its point with the next one where they have one; and where the one after that has it too, both are ends
+-- At a place, the mark may meet the next one where they have one point; and where the one after that has it too, both are ends
 -- of arcs.
 pub record IsFair (segments : List LabelledSegment) (marks : List Mark) (i : ℕ) : Type 0 where
-  pub next : (d : Mark) → i + 1 < length marks → (get_or marks i d).key ≡ (get_or marks (i + 1) d).key → may_share segments (get_or marks i d) (get_or marks (i + 1) d) ≡ true
+  pub next : (d : Mark) → i + 1 < length marks → (get_or marks i d).key ≡ (get_or marks (i + 1) d).key → may_meet segments (get_or marks i d) (get_or marks (i + 1) d) ≡ true
   pub after : (d : Mark) → i + 2 < length marks → (get_or marks i d).key ≡ (get_or marks (i + 2) d).key → are_free (get_or marks i d) (get_or marks (i + 2) d) ≡ true
 
--- any two ends of one point may share it
-abbrev pub MayShare : List LabelledSegment → List Mark → Type 0
-MayShare segments marks = (i j : ℕ) (d : Mark) → i < j → j < length marks → (get_or marks i d).key ≡ (get_or marks j d).key → may_share segments (get_or marks i d) (get_or marks j d) ≡ true
-
--- and so any two ends of different segments at one point
+-- any two ends of different segments at one point may share it
 abbrev pub EndsAgree : List LabelledSegment → Type 0
 EndsAgree segments =
     (m n : ℕ) → m < length segments → n < length segments → m ≢ n

@@ -2,3 +2,6 @@ pub mod Over
 pub mod Times
 pub mod Rows
 pub mod Ends
+pub mod Line
+pub mod Faces
+pub mod Swept

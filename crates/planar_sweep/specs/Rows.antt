@@ -46,6 +46,12 @@ pub record AreEvents (segs : List Seg) (events : List Event) : Type 0 where
   pub moved : IsPermutation (listed_events segs) events
   pub ascend : (i j : ℕ) (d : Event) → i ≤ j → j < length events → (get_or events i d).time ≤ℤ (get_or events j d).time
 
+-- An event is one of a segment: it comes, or it leaves.
+pub record IsEventOf (segs : List Seg) (e : Event) : Type 0 where
+  pub known : e.number < length segs
+  pub comes : e.comes ≡ true → e ≡ coming segs e.number
+  pub leaves : e.comes ≡ false → e ≡ leaving segs e.number
+
 -- ---- the row
 
 -- The row between the events that are done and those ahead: neighbours stand one over the other, and the members are those that have

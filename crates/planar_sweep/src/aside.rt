@@ -1,14 +1,14 @@
 //! Which segments to set aside so that the sweep goes through the others. It is a guess: who gets it asks whether the
 //! others are apart.
 
-ghost use Rattle.std.specs.Prelude.{◌<◌, ◌^◌, length, IfOk, IsTrue};
+ghost use Rattle.std.specs.Prelude.{◌<◌, ◌^◌, length, Contains, IfOk, IfSome};
 ghost use Rattle.std.specs.List.{All};
 ghost use Rattle.planar_sweep.specs.Ends.{IsReady};
+ghost use Rattle.planar_sweep.specs.Line.{IsLineOf};
 
 use crate::events::{Event, events_of};
+use crate::line::Line;
 use crate::marks::{Mark, is_fair_after, is_fair_to_next, marks_of};
-use crate::row::{fits_above, fits_below, is_next, member_place, place_of};
-use chunked_row::Row;
 use std::alloc::Global;
 use tgap_model::{LabelledSegment, Memory, Seg};
 
@@ -24,10 +24,22 @@ fn is_aside(aside: &[bool], number: u32) -> bool {
     aside.get(number as usize).copied().unwrap_or(false)
 }
 
-/// Sets aside the segments of the end at a place and of the next two.
-fn set_three_aside(marks: &[Mark], place: usize, aside: &mut [bool]) {
+/// Sets aside the segment of a mark, and of a joint mark the one before it too.
+fn set_mark_aside(mark: &Mark, aside: &mut [bool]) {
+    set_aside(aside, mark.number);
+    if mark.joint {
+        set_aside(aside, mark.number.saturating_sub(1));
+    }
+}
+
+/// Sets aside the segments of the mark at a place and of those of the next two that have its point.
+fn set_three_aside(marks: &[Mark], place: usize, aside: &mut [bool])
+    requires inside { place < length marks.now }
+{
     for mark in marks.iter().skip(place).take(3) {
-        set_aside(aside, mark.number);
+        if mark.key == marks[place].key {
+            set_mark_aside(mark, aside);
+        }
     }
 }
 
@@ -49,72 +61,84 @@ pub fn ends_aside(
 }
 
 /// A segment comes into the row, or is set aside where it does not fit there.
-fn come_or_aside(segs: &[Seg], row: &mut Row, number: u32, aside: &mut [bool]) -> Result<(), Memory>
+fn come_or_aside(
+    segs: &[Seg],
+    line: &mut Line,
+    number: u32,
+    aside: &mut [bool],
+) -> Result<(), Memory>
     requires ready { All (λ s. IsReady s) segs.now }
-    requires known { All (λ n. n < length segs.now) row.old }
+    requires line { IsLineOf segs.now line.old }
     requires number { number < length segs.now }
-    ensures { IfOk result (λ _. All (λ n. n < length segs.now) row.new) }
+    ensures { IfOk result (λ _. IsLineOf segs.now line.new) }
 {
-    let place = place_of(segs, row, number);
-    if !(fits_below(segs, row, place, number) && fits_above(segs, row, place, number)) {
+    let found = line.come(segs, number)?;
+    if found.is_none() {
         set_aside(aside, number);
-        return Ok(());
     }
-    row.insert(place, number)?;
     Ok(())
 }
 
-/// Whether the segment at a place of the row does not fit below the one above it.
-fn is_misfit(segs: &[Seg], row: &Row, place: usize) -> bool
+/// The number below one of the row, if it does not fit there.
+fn misfit_below(segs: &[Seg], line: &Line, upper: u32) -> Option<u32>
     requires ready { All (λ s. IsReady s) segs.now }
-    requires known { All (λ n. n < length segs.now) row.now }
-    ensures { IsTrue result → place < length row.now }
+    requires line { IsLineOf segs.now line.now }
+    ensures { IfSome result (λ lower. Contains line.now.row.row lower) }
 {
-    0 < place && (place < row.len() && !is_next(segs, row.at(place - 1), row.at(place)))
+    if !line.row.has(upper) {
+        return None;
+    }
+    let lower = line.row.below(upper);
+    if !line.row.has(lower) || line.fits_above(segs, upper, lower) {
+        return None;
+    }
+    Some(lower)
 }
 
-/// Sets aside what does not fit at a place of the row below what is above it.
-fn close(segs: &[Seg], row: &mut Row, place: usize, aside: &mut [bool])
+/// Sets aside what does not fit below a number of the row.
+fn close(segs: &[Seg], line: &mut Line, upper: u32, aside: &mut [bool])
     requires ready { All (λ s. IsReady s) segs.now }
-    requires known { All (λ n. n < length segs.now) row.old }
-    ensures { All (λ n. n < length segs.now) row.new }
+    requires line { IsLineOf segs.now line.old }
+    ensures { IsLineOf segs.now line.new }
 {
-    'gap: while is_misfit(segs, row, place) {
-        let number = row.at(place);
-        row.remove(place);
-        set_aside(aside, number);
+    for _ in 0..segs.len() {
+        let Some(lower) = misfit_below(segs, line, upper) else {
+            return;
+        };
+        line.take_out(segs, lower);
+        set_aside(aside, lower);
     }
 }
 
 /// A segment leaves the row where it is in it, and what does not fit in its place is set aside.
-fn leave_and_close(segs: &[Seg], row: &mut Row, number: u32, aside: &mut [bool])
+fn leave_and_close(segs: &[Seg], line: &mut Line, number: u32, aside: &mut [bool])
     requires ready { All (λ s. IsReady s) segs.now }
-    requires known { All (λ n. n < length segs.now) row.old }
+    requires line { IsLineOf segs.now line.old }
     requires number { number < length segs.now }
-    ensures { All (λ n. n < length segs.now) row.new }
+    ensures { IsLineOf segs.now line.new }
 {
-    let place = member_place(segs, row, number);
-    if place >= row.len() || row.at(place) != number {
+    if !line.row.has(number) {
         return;
     }
-    row.remove(place);
-    close(segs, row, place, aside);
+    let upper = line.row.above(number);
+    line.take_out(segs, number);
+    close(segs, line, upper, aside);
 }
 
 /// The next event: a segment that is not set aside comes into the row or leaves it.
-fn pass(segs: &[Seg], event: &Event, row: &mut Row, aside: &mut [bool]) -> Result<(), Memory>
+fn pass(segs: &[Seg], event: &Event, line: &mut Line, aside: &mut [bool]) -> Result<(), Memory>
     requires ready { All (λ s. IsReady s) segs.now }
-    requires known { All (λ n. n < length segs.now) row.old }
+    requires line { IsLineOf segs.now line.old }
     requires number { event.now.number < length segs.now }
-    ensures { IfOk result (λ _. All (λ n. n < length segs.now) row.new) }
+    ensures { IfOk result (λ _. IsLineOf segs.now line.new) }
 {
     if is_aside(aside, event.number) {
         return Ok(());
     }
     if event.comes {
-        return come_or_aside(segs, row, event.number, aside);
+        return come_or_aside(segs, line, event.number, aside);
     }
-    leave_and_close(segs, row, event.number, aside);
+    leave_and_close(segs, line, event.number, aside);
     Ok(())
 }
 
@@ -124,9 +148,9 @@ pub fn misfits_aside(alloc: Global, segs: &[Seg], aside: &mut [bool]) -> Result<
     requires few { length segs.now < 2 ^ 32 }
 {
     let events = events_of(alloc, segs)?;
-    let mut row = Row::new(alloc);
+    let mut line = Line::of(alloc, segs.len() as u32)?;
     for k in 0..events.len() {
-        pass(segs, &events[k], &mut row, aside)?;
+        pass(segs, &events[k], &mut line, aside)?;
     }
     Ok(())
 }

@@ -73,7 +73,8 @@ fn push_leaving(events: &mut Vec<Event>, segs: &[Seg]) -> Result<(), Memory>
     Ok(())
 }
 
-/// The events of the segments, in the order of their times.
+/// The events of the segments, in the order of their times. Those of one time stay in the order of the segments, of which
+/// neighbours in the list are mostly neighbours in the row.
 pub fn events_of(alloc: Global, segs: &[Seg]) -> Result<Vec<Event>, Memory>
     requires near { All (λ s. HasNearEnds s) segs.now }
     requires few { length segs.now < 2 ^ 32 }
@@ -82,6 +83,6 @@ pub fn events_of(alloc: Global, segs: &[Seg]) -> Result<Vec<Event>, Memory>
     let mut events = Vec::with_capacity(alloc, 2 * segs.len())?;
     push_coming(&mut events, segs)?;
     push_leaving(&mut events, segs)?;
-    events.sort_unstable_by_key(|e| e.time);
+    events.sort_by_key(|e| e.time)?;
     Ok(events)
 }

@@ -1,6 +1,6 @@
 //! Whether one segment may stand next above another in the row.
 
-ghost use Rattle.std.specs.Prelude.{◌≡◌, pos, int_le, true, IsTrue};
+ghost use Rattle.std.specs.Prelude.{◌≡◌, ◌<ℤ◌, pos, int_le, true, IsTrue};
 ghost use Rattle.tgap_model.specs.Base.{in_limits};
 ghost use Rattle.tgap_model.specs.Point.{side};
 ghost use Rattle.planar_sweep.specs.Over.{is_slanted, starts_over, ends_over, is_over, same_ends, MeetAtEnds, StandsOver};
@@ -84,6 +84,22 @@ pub fn is_over(s: Seg, t: Seg) -> bool
     }
 }
 
+/// Whether the first segment is over the second, where they are at one abscissa: what has no point below the highest one
+/// of the other is over it, and what has all points below the lowest one is not. So `is_over` tells there too, by side
+/// tests, which are asked where the ordinates do not tell.
+pub fn is_over_at_line(s: Seg, t: Seg) -> bool
+    requires s { IsReady s }
+    requires t { IsReady t }
+{
+    if t.a.y.max(t.b.y) <= s.a.y.min(s.b.y) {
+        return true;
+    }
+    if s.a.y.max(s.b.y) < t.a.y.min(t.b.y) {
+        return false;
+    }
+    is_over(s, t)
+}
+
 /// Where two segments have ends in common.
 fn same_ends(s: Seg, t: Seg) -> Shared
     ensures { result ≡ same_ends s t }
@@ -96,13 +112,20 @@ fn same_ends(s: Seg, t: Seg) -> Shared
     }
 }
 
-/// Whether two segments have no point in common but ends of both.
+/// Whether both ends of the first segment are higher than both of the second.
+fn is_higher(s: Seg, t: Seg) -> bool
+    ensures { result ≡ true → (t.a.y <ℤ s.a.y) × (t.a.y <ℤ s.b.y) × (t.b.y <ℤ s.a.y) × (t.b.y <ℤ s.b.y) }
+{
+    t.a.y.max(t.b.y) < s.a.y.min(s.b.y)
+}
+
+/// Whether two segments have no point in common but ends of both. Mostly the ordinates tell.
 fn meet_at_ends(s: Seg, t: Seg) -> bool
     requires s { IsReady s }
     requires t { IsReady t }
     ensures { result ≡ true → MeetAtEnds s t }
 {
-    common_point(s, t, same_ends(s, t)).is_none()
+    is_higher(s, t) || common_point(s, t, same_ends(s, t)).is_none()
 }
 
 /// Whether the first segment may stand next above the second.

@@ -1,16 +1,29 @@
 //! The sweep over all events.
 
-ghost use Rattle.std.specs.Prelude.{◌≡◌, ◌<◌, ◌+◌, ◌^◌, true, length, map, take, drop, IfOk};
+ghost use Rattle.std.specs.Prelude.{◌≡◌, ◌⊎◌, ◌<◌, ◌+◌, ◌^◌, pos, ◌+ℤ◌, ◌*ℤ◌, ◌≤ℤ◌, true, length, map, take, drop, get_or, AllPairs, IfOk};
 ghost use Rattle.std.specs.List.{All};
+ghost use Rattle.tgap_model.specs.Partition.{AreApart};
+ghost use Rattle.planar_stack.specs.Sweep.{FacesAgree};
 ghost use Rattle.planar_sweep.specs.Over.{forward};
-ghost use Rattle.planar_sweep.specs.Rows.{AreEvents, IsRow};
-ghost use Rattle.planar_sweep.specs.Ends.{IsReady, swept, HaveCommonEnds};
+ghost use Rattle.planar_sweep.specs.Rows.{IsEventOf, AreEvents, HasCome, HasLeft};
+ghost use Rattle.planar_sweep.specs.Ends.{IsReady, swept, EndsAgree};
+ghost use Rattle.planar_sweep.specs.Faces.{AreOfOneColumn};
+ghost use Rattle.planar_sweep.specs.Line.{IsLineOf};
+ghost use Rattle.planar_sweep.specs.Swept.{HasFaces, gaps_in, IsSwept};
 
 use crate::events::{Event, events_of};
-use crate::row::{come, leave};
-use chunked_row::Row;
+use crate::faces::{differ, faces_of};
+use crate::line::Line;
 use std::alloc::Global;
 use tgap_model::{LabelledSegment, Memory, Seg};
+
+/// What a sweep shows: that no two segments have a point in common but a permitted one, and that the faces agree down
+/// each vertical line. What it does not show is not promised to be wrong.
+#[derive(Clone, Copy, Debug, PartialEq, Eq)]
+pub struct Shown {
+    pub apart: bool,
+    pub agree: bool,
+}
 
 /// A segment from its earlier end to its later one.
 fn forward(s: Seg) -> Seg
@@ -30,35 +43,137 @@ pub fn forward_of(alloc: Global, segments: &[LabelledSegment]) -> Result<Vec<Seg
     Ok(segs)
 }
 
-/// The next event: a segment comes into the row or leaves it.
-fn step(segs: &[Seg], events: &[Event], k: usize, row: &mut Row) -> Result<bool, Memory>
+/// A segment comes, if it may stand where it belongs, and the places at which the faces differ are counted anew there.
+fn come(
+    segs: &[Seg],
+    faces: &[(u32, u32)],
+    line: &mut Line,
+    gaps: &mut usize,
+    number: u32,
+) -> Result<bool, Memory>
     requires ready { All (λ s. IsReady s) segs.now }
+    requires line { IsLineOf segs.now line.old }
+    requires number { number < length segs.now }
+    requires faces { HasFaces segs.now faces.now }
+    requires few { length line.old.row.row < 2 ^ 32 }
+    requires gaps { gaps.old ≡ gaps_in faces.now line.old.row.row }
+    ensures { IfOk result (λ fits. fits ≡ true → IsLineOf segs.now line.new
+        × HasCome segs.now number line.old.row.row line.new.row.row × (gaps.new ≡ gaps_in faces.now line.new.row.row)) }
+{
+    let Some(upper) = line.come(segs, number)? else {
+        return Ok(false);
+    };
+    let lower = line.row.below(number);
+    let added = differ(faces, upper, number) + differ(faces, number, lower);
+    *gaps = *gaps + added - differ(faces, upper, lower);
+    Ok(true)
+}
+
+/// A segment leaves, if its neighbours may be neighbours then, and the places are counted anew there.
+fn leave(segs: &[Seg], faces: &[(u32, u32)], line: &mut Line, gaps: &mut usize, number: u32) -> bool
+    requires ready { All (λ s. IsReady s) segs.now }
+    requires line { IsLineOf segs.now line.old }
+    requires number { number < length segs.now }
+    requires faces { HasFaces segs.now faces.now }
+    requires few { length line.old.row.row < 2 ^ 32 }
+    requires gaps { gaps.old ≡ gaps_in faces.now line.old.row.row }
+    ensures line { IsLineOf segs.now line.new }
+    ensures left { result ≡ true → HasLeft segs.now number line.old.row.row line.new.row.row }
+    ensures gaps { result ≡ true → gaps.new ≡ gaps_in faces.now line.new.row.row }
+{
+    if !line.row.has(number) {
+        return false;
+    }
+    let upper = line.row.above(number);
+    let lower = line.row.below(number);
+    if !line.leave(segs, number) {
+        return false;
+    }
+    let taken = differ(faces, upper, number) + differ(faces, number, lower);
+    *gaps = *gaps + differ(faces, upper, lower) - taken;
+    true
+}
+
+/// The next event: a segment comes into the row or leaves it.
+fn step(
+    segs: &[Seg],
+    faces: &[(u32, u32)],
+    events: &[Event],
+    k: usize,
+    line: &mut Line,
+    gaps: &mut usize,
+) -> Result<bool, Memory>
+    requires ready { All (λ s. IsReady s) segs.now }
+    requires few { length segs.now < 2 ^ 32 }
     requires events { AreEvents segs.now events.now }
     requires inside { k < length events.now }
-    requires row { IsRow segs.now (take k events.now) (drop k events.now) row.old }
-    ensures { IfOk result (λ fits. fits ≡ true → IsRow segs.now (take (k + 1) events.now) (drop (k + 1) events.now) row.new) }
+    requires faces { HasFaces segs.now faces.now }
+    requires swept { IsSwept segs.now faces.now (take k events.now) (drop k events.now) line.old gaps.old }
+    ensures { IfOk result (λ fits. fits ≡ true → IsSwept segs.now faces.now (take (k + 1) events.now) (drop (k + 1) events.now) line.new gaps.new) }
 {
     let event = &events[k];
     if event.comes {
-        come(segs, row, event.number)
+        come(segs, faces, line, gaps, event.number)
     } else {
-        Ok(leave(segs, row, event.number))
+        Ok(leave(segs, faces, line, gaps, event.number))
     }
 }
 
-/// Whether the line passes over all segments and finds no neighbours that meet but at ends of both.
-pub fn sweeps_through(alloc: Global, segs: &[Seg]) -> Result<bool, Memory>
-    requires ready { All (λ s. IsReady s) segs.now }
-    requires few { length segs.now < 2 ^ 32 }
-    ensures { IfOk result (λ through. through ≡ true → HaveCommonEnds segs.now) }
+/// The abscissa of an event.
+fn abscissa(segs: &[Seg], event: &Event) -> i64
+    requires real { IsEventOf segs.now event.now }
+    ensures from { (pos 4 *ℤ result) ≤ℤ event.now.time }
+    ensures to { event.now.time ≤ℤ (pos 4 *ℤ result +ℤ pos 3) }
 {
+    let s = segs[event.number as usize];
+    if event.comes { s.a.x } else { s.b.x }
+}
+
+/// Whether the event after the one at a place has the same abscissa.
+fn goes_on(segs: &[Seg], events: &[Event], k: usize) -> bool
+    requires events { AreEvents segs.now events.now }
+    requires inside { k < length events.now }
+    ensures { (d : Event) → result ≡ true → (k + 1 < length events.now) × AreOfOneColumn (get_or events.now k d).time (get_or events.now (k + 1) d).time }
+{
+    1 < events.len() - k && abscissa(segs, &events[k]) == abscissa(segs, &events[k + 1])
+}
+
+/// Whether after the event at a place no faces differ, or the next event has the same abscissa.
+fn agrees_behind(segs: &[Seg], events: &[Event], k: usize, gaps: usize) -> bool
+    requires events { AreEvents segs.now events.now }
+    requires inside { k < length events.now }
+    ensures { (d : Event) → result ≡ true → (gaps ≡ 0) ⊎ ((k + 1 < length events.now) × AreOfOneColumn (get_or events.now k d).time (get_or events.now (k + 1) d).time) }
+{
+    gaps == 0 || goes_on(segs, events, k)
+}
+
+/// What a line shows that passes over all segments and compares those that become neighbours.
+pub fn sweep_over(
+    alloc: Global,
+    segments: &[LabelledSegment],
+    segs: &[Seg],
+) -> Result<Shown, Memory>
+    requires few { length segments.now < 2 ^ 32 }
+    requires same { segs.now ≡ map swept segments.now }
+    requires ready { All (λ s. IsReady s) segs.now }
+    requires ends { EndsAgree segments.now }
+    ensures apart { IfOk result (λ shown. shown.apart ≡ true → AllPairs AreApart segments.now) }
+    ensures agree { IfOk result (λ shown. shown.agree ≡ true → FacesAgree segments.now) }
+{
+    let faces = faces_of(alloc, segments)?;
     let events = events_of(alloc, segs)?;
-    let mut row = Row::new(alloc);
+    let mut line = Line::of(alloc, segs.len() as u32)?;
+    let mut gaps = 0;
+    let mut agree = true;
     for k in 0..events.len() {
-        let fits = step(segs, &events, k, &mut row)?;
+        let fits = step(segs, &faces, &events, k, &mut line, &mut gaps)?;
         if !fits {
-            return Ok(false);
+            return Ok(Shown {
+                apart: false,
+                agree: false,
+            });
         }
+        agree = agree && agrees_behind(segs, &events, k, gaps);
     }
-    Ok(true)
+    Ok(Shown { apart: true, agree })
 }

@@ -11,7 +11,7 @@ const M: i64 = MAX_COORDINATE;
 #[test]
 fn arcs_that_meet_only_at_their_ends_are_apart(rt: HostRuntime) -> Result<(), Fail> {
     let alloc = rt.alloc();
-    let cases: [(&str, &[(u32, i64, i64)]); 12] = [
+    let cases: [(&str, &[(u32, i64, i64)]); 13] = [
         ("none", &[]),
         ("one", &[(0, 0, 0), (0, 3, 4)]),
         (
@@ -58,6 +58,19 @@ fn arcs_that_meet_only_at_their_ends_are_apart(rt: HostRuntime) -> Result<(), Fa
             &[(0, 0, 0), (0, 10, 0), (0, 10, 10), (0, 0, 10), (0, 0, 0)],
         ),
         (
+            "two rings that begin at one point",
+            &[
+                (0, 0, 0),
+                (0, 10, 0),
+                (0, 10, 10),
+                (0, 0, 0),
+                (1, 0, 0),
+                (1, -10, 0),
+                (1, -10, -10),
+                (1, 0, 0),
+            ],
+        ),
+        (
             "along the plane",
             &[(0, -M, -M), (0, M, M), (1, -M, 1 - M), (1, M - 1, M)],
         ),
@@ -73,7 +86,7 @@ fn arcs_that_meet_only_at_their_ends_are_apart(rt: HostRuntime) -> Result<(), Fa
 #[test]
 fn arcs_that_meet_elsewhere_are_not(rt: HostRuntime) -> Result<(), Fail> {
     let alloc = rt.alloc();
-    let cases: [(&str, &[(u32, i64, i64)]); 12] = [
+    let cases: [(&str, &[(u32, i64, i64)]); 16] = [
         (
             "two that cross",
             &[(0, 0, 0), (0, 10, 10), (1, 0, 10), (1, 10, 0)],
@@ -110,6 +123,44 @@ fn arcs_that_meet_elsewhere_are_not(rt: HostRuntime) -> Result<(), Fail> {
             "a vertex that an end has",
             &[(0, 0, 0), (0, 5, 5), (0, 10, 0), (1, 5, 5), (1, 5, 10)],
         ),
+        (
+            "a vertex that a vertex has",
+            &[
+                (0, 0, 0),
+                (0, 5, 5),
+                (0, 10, 0),
+                (1, 0, 10),
+                (1, 5, 5),
+                (1, 10, 10),
+            ],
+        ),
+        (
+            "a vertex that the ends of a ring have",
+            &[
+                (0, 0, 0),
+                (0, 10, 0),
+                (0, 10, 10),
+                (0, 0, 0),
+                (1, -5, 5),
+                (1, 0, 0),
+                (1, -5, -5),
+            ],
+        ),
+        (
+            "an arc that has a vertex twice",
+            &[
+                (0, 0, 0),
+                (0, 5, 0),
+                (0, 10, 5),
+                (0, 10, -5),
+                (0, 5, 0),
+                (0, 0, -5),
+            ],
+        ),
+        (
+            "an arc that ends at its vertex",
+            &[(0, 0, 0), (0, 5, 0), (0, 10, 5), (0, 10, -5), (0, 5, 0)],
+        ),
         ("a spike", &[(0, 0, 0), (0, 10, 0), (0, 5, 0)]),
         (
             "an arc that crosses itself",
@@ -124,6 +175,57 @@ fn arcs_that_meet_elsewhere_are_not(rt: HostRuntime) -> Result<(), Fail> {
         let segments = segments_of(alloc, rows)?;
         let apart = are_apart(alloc, &segments)?;
         assert_eq!(rt; apart, Some(false), "{name}");
+    }
+    Ok(())
+}
+
+/// The segments of arcs, from the last to the first.
+fn turned_segments_of(
+    alloc: Global,
+    rows: &[(u32, i64, i64)],
+) -> Result<Vec<LabelledSegment>, Memory> {
+    let mut segments = segments_of(alloc, rows)?;
+    segments.as_mut_slice().reverse();
+    Ok(segments)
+}
+
+#[test]
+fn the_order_of_the_list_does_not_tell(rt: HostRuntime) -> Result<(), Fail> {
+    let alloc = rt.alloc();
+    let cases: [(&str, &[(u32, i64, i64)], bool); 5] = [
+        ("two segments", &[(0, 0, 0), (0, 5, 5), (0, 10, 0)], true),
+        (
+            "a ring",
+            &[(0, 0, 0), (0, 10, 0), (0, 10, 10), (0, 0, 10), (0, 0, 0)],
+            true,
+        ),
+        (
+            "an end at an end",
+            &[(0, 0, 0), (0, 5, 5), (0, 10, 0), (1, 10, 0), (1, 20, 0)],
+            true,
+        ),
+        (
+            "an end at a vertex",
+            &[(0, 0, 0), (0, 5, 5), (0, 10, 0), (1, 5, 5), (1, 5, 10)],
+            false,
+        ),
+        (
+            "a vertex at a vertex",
+            &[
+                (0, 0, 0),
+                (0, 5, 5),
+                (0, 10, 0),
+                (1, 0, 10),
+                (1, 5, 5),
+                (1, 10, 10),
+            ],
+            false,
+        ),
+    ];
+    for (name, rows, expected) in cases {
+        let segments = turned_segments_of(alloc, rows)?;
+        let apart = are_apart(alloc, &segments)?;
+        assert_eq!(rt; apart, Some(expected), "{name}");
     }
     Ok(())
 }
@@ -177,5 +279,27 @@ fn what_a_sweep_leaves_is_apart(rt: HostRuntime) -> Result<(), Fail> {
     let left = left_by_sweep(alloc, &crossed)?;
     let apart = are_apart(alloc, &left)?;
     assert_eq!(rt; (apart, 3990 < left.len()), (Some(true), true));
+    Ok(())
+}
+
+#[test]
+fn what_meets_at_a_vertex_is_set_aside(rt: HostRuntime) -> Result<(), Fail> {
+    let alloc = rt.alloc();
+    let rows = [
+        (0, 0, 0),
+        (0, 5, 5),
+        (0, 10, 0),
+        (1, 5, 5),
+        (1, 5, 10),
+        (2, 5, 5),
+        (2, 0, 10),
+        (3, 20, 0),
+        (3, 30, 5),
+        (3, 40, 0),
+    ];
+    let segments = segments_of(alloc, &rows)?;
+    let left = left_by_sweep(alloc, &segments)?;
+    let apart = are_apart(alloc, &left)?;
+    assert_eq!(rt; (apart, left.len()), (Some(true), 2));
     Ok(())
 }

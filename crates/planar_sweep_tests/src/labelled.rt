@@ -6,7 +6,7 @@ ghost use Rattle.tgap_model.specs.Base.{within, in_limits};
 ghost use Rattle.tgap_model.specs.Partition.{is_proper};
 ghost use Rattle.tgap_model.specs.declared.limits.TheConstants.{MAX_COORDINATE};
 
-use planar_sweep::{all_apart, set_aside};
+use planar_sweep::{Shown, all_apart, set_aside, swept};
 use std::alloc::Global;
 use tgap_model::{LabelledSegment, MAX_COORDINATE, Memory, Point, Seg};
 
@@ -106,4 +106,13 @@ pub fn left_by_sweep(
         }
     }
     Ok(left)
+}
+
+/// What a sweep shows of these segments, where it may be asked.
+pub fn shown(alloc: Global, segments: &[LabelledSegment]) -> Result<Option<Shown>, Memory> {
+    if 1_000_000 < segments.len() || !are_proper(segments) {
+        return Ok(None);
+    }
+    let shown = swept(alloc, segments)?;
+    Ok(Some(shown))
 }

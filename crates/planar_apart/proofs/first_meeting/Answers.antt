@@ -7,8 +7,8 @@ use Rattle.planar_apart.proofs.first_meeting.Goals as goal
 
 pub returns-clause-found : goal.returns-clause-found
 returns-clause-found g c = λ m e.
-    subst (λ (ss : List LabelledSegment). IsFirstMeeting ss m.i m.j m.at) (c.as_slice.ensures ∙ c.in_ok-segments.ensures.listed) (c.first_meeting_of.ensures.found m e)
+    subst (λ (ss : List LabelledSegment). IsFirstMeeting ss m.i m.j m.at) (c.as_slice.ensures ∙ c.in_ok-segments.ensures.listed) (c.in_ok-known.ensures.found m (let h = e in cc))
 
 pub returns-clause-apart : goal.returns-clause-apart
 returns-clause-apart g c = λ e.
-    subst (λ (ss : List LabelledSegment). AllPairs AreApart ss) (c.as_slice.ensures ∙ c.in_ok-segments.ensures.listed) (c.first_meeting_of.ensures.apart e)
+    subst (λ (ss : List LabelledSegment). AllPairs AreApart ss) (c.as_slice.ensures ∙ c.in_ok-segments.ensures.listed) (c.in_ok-known.ensures.apart (let h = e in cc))

@@ -1,15 +1,8 @@
-use Rattle.std.proofs.Common.{◌<◌, ℕ, List, length, All, sym, subst, arith}
-use Rattle.std.proofs.lemmas.List.Elements.{All-nil}
+-- The number of an event is that of a segment.
+use Rattle.std.proofs.Common.{◌<◌, length, sym, subst, arith}
 use Rattle.planar_sweep.specs.declared.events.Event.{Event}
 use Rattle.planar_sweep.proofs.EventFacts.{events_real}
-use Rattle.planar_sweep.proofs.Whole.{near_ready}
 use Rattle.planar_sweep.proofs.aside.misfits_aside.Goals as goal
-
-pub events_of-requires-clause-near : goal.events_of-requires-clause-near
-events_of-requires-clause-near c = near_ready c.args.segs.now c.requires.ready
-
-pub loop-k-init : goal.loop-k-init
-loop-k-init c = subst (λ (row : List ℕ). All (λ n. n < length c.args.segs.now) row) (sym c.new-row.ensures) (All-nil (λ n. n < length c.args.segs.now))
 
 pub pass-requires-clause-number : goal.pass-requires-clause-number
 pass-requires-clause-number c =

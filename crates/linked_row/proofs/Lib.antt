@@ -1,0 +1,4 @@
+pub mod Changes
+pub mod Distinct
+pub mod Neighbours
+pub mod Nodes

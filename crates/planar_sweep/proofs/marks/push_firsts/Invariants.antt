@@ -1,7 +1,0 @@
-use Rattle.std.proofs.Common.{◌≡◌, ◌++◌, map}
-use Rattle.std.specs.List.{range_with_len}
-use Rattle.planar_sweep.specs.Ends.{first_mark}
-use Rattle.planar_sweep.proofs.marks.push_firsts.Given as goal
-
-abbrev pub invariant-loop-number : goal.invariant-loop-number
-invariant-loop-number l = l.marks.items ≡ l.initial.marks.items ++ map (first_mark l.segments) (range_with_len 0 l.number)
