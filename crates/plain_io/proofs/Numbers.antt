@@ -1,16 +1,17 @@
 -- Words that are numbers in canonical decimal.
-use Rattle.std.proofs.Common.{◌≡◌, ◌≢◌, ◌<◌, ◌^◌, ◌==◌, ◌⊎◌, inl, inr, ⊎_elim, ℕ, zero, suc, length, Bool, true, false, cond, ◌&&◌, ℤ, pos, negsuc, neg_ℤ, ◌≤ℤ◌, FitsSigned, List, [], ◌∷◌, get_or, Option, Some, None, IfSome, IfNone, Result, Ok, Err, bytes_eq, decimal, IsUtf8, MatchResult, w64, refl, sym, ap, ◌∙◌, subst, arith, ne_eqb}
+use Rattle.std.proofs.Common.{◌≡◌, ◌≢◌, ◌<◌, ◌≤◌, ◌^◌, ◌==◌, ◌⊎◌, inl, inr, ⊎_elim, ℕ, zero, suc, length, take, drop, Bool, true, false, cond, ◌&&◌, ℤ, pos, negsuc, neg_ℤ, ◌≤ℤ◌, FitsSigned, List, [], ◌∷◌, get_or, Option, Some, None, IfSome, IfNone, Result, Ok, Err, bytes_eq, decimal, IsUtf8, MatchResult, w64, refl, sym, ap, ◌∙◌, subst, arith, ne_eqb}
 use Rattle.std.specs.Int.{IsInRange}
 use Rattle.std.specs.Result.{result_ok}
 use Rattle.std.specs.Fmt.{signed_decimal}
-use Rattle.std.specs.Str.Parse.{digits_value, AllDigits, ParsesSigned}
+use Rattle.std.specs.Str.Parse.{digits_value, AllDigits, IsNumeral, ParsesSigned}
 use Rattle.std.proofs.lemmas.Int.{ints}
 use Rattle.std.proofs.lemmas.Bool.{and_parts}
+use Rattle.std.proofs.lemmas.List.{length-take}
 use Rattle.std.proofs.lemmas.Option.{cond_some}
 use Rattle.std.proofs.lemmas.Slice.Eq.{bytes_eq-Decides}
 use Rattle.std.proofs.lemmas.Str.{IsUtf8-from_ascii}
-use Rattle.std.proofs.lemmas.Str.Parse.{IsNumeralModel, numerals_by_value, tells_digits, not_in_digits, parse_signed_minus, parse_signed_plain}
-use Rattle.std.proofs.lemmas.Fmt.{digits_decimal, digits_value-decimal, decimal-digits_value, decimal_digit, decimal_nonempty, first_decimal, IsAscii-signed, parse-signed_decimal}
+use Rattle.std.proofs.lemmas.Str.Parse.{IsNumeralModel, numerals_by_value, tells_digits, not_in_digits, digits_value_short, parse_signed_minus, parse_signed_plain}
+use Rattle.std.proofs.lemmas.Fmt.{digits_decimal, digits_value-decimal, decimal-digits_value, decimal_is_IsNumeral, decimal_digit, decimal_nonempty, first_decimal, IsAscii-signed, parse-signed_decimal}
 use Rattle.tgap_model.specs.Base.{within}
 use Rattle.line_forms.specs.Texts.{word_value, number_of}
 use Rattle.plain_io.specs.Canonical.{IsPlain}
@@ -37,12 +38,15 @@ word_value_digits : (ds : List ℕ) → get_or ds 0 0 ≢ 45 → word_value ds �
 word_value_digits [] h = refl
 word_value_digits (d ∷ ds) h = rw (ne_eqb d 45 h) refl
 
+-- a number without a minus is written without one
+no_minus : (n : ℕ) → n < 2 ^ 64 → get_or (decimal n) 0 0 ≢ 45
+no_minus n small = not_in_digits own (decimal n) 45 (digits_decimal own n small) (λ (h : IsInRange 48 57 45). absurd (omega arith)) 0 (decimal_nonempty n small)
+
 -- the value of a number's word is that number
 pub word_value-signed_decimal : (z : ℤ) → FitsSigned w64 z → word_value (signed_decimal z) ≡ z
 word_value-signed_decimal (pos n) fits =
     let small : n < 2 ^ 64 = omega (arith, fits.sfits) in
-    let no_minus = not_in_digits own (decimal n) 45 (digits_decimal own n small) (λ (h : IsInRange 48 57 45). absurd (omega arith)) 0 (decimal_nonempty n small) in
-    word_value_digits (decimal n) no_minus ∙ ap pos (digits_value-decimal own n small)
+    word_value_digits (decimal n) (no_minus n small) ∙ ap pos (digits_value-decimal own n small)
 word_value-signed_decimal (negsuc n) fits =
     let small : suc n < 2 ^ 64 = omega (arith, fits.sfits) in
     ap (λ (m : ℕ). neg_ℤ (pos m)) (digits_value-decimal own (suc n) small)
@@ -171,3 +175,39 @@ pub unread : (word : List ℕ) (o : Option ℤ) → ((n : ℤ) → FitsSigned w6
     → IfNone o ((n : ℤ) → FitsSigned w64 n → word ≢ signed_decimal n)
 unread word None h = λ n fits e. absurd (let none : None ≡ Some n = h n fits e in cc)
 unread word (Some m) h = tt
+
+-- ---- words of few bytes
+
+-- at most k digits
+pub digits_below : (bs : List ℕ) (i k : ℕ) → AllDigits 10 (take i bs) → i ≤ k → digits_value 10 (take i bs) < 10 ^ k
+digits_below bs i k digits short = digits_value_short own (take i bs) k digits (omega (arith, length-take i bs))
+
+-- digits that begin plainly are what is written for their value
+pub digits_spelled : (ds : List ℕ) (v : ℕ) → IsPlain ds → IsNumeral 10 ds × (v ≡ digits_value 10 ds) → v < 10 ^ 18 → (ds ≡ signed_decimal (pos v)) × FitsSigned w64 (pos v)
+digits_spelled ds v plain h small =
+    (sym (ap decimal h.1 ∙ decimal-digits_value own ds h.0.1 h.0.0 (λ e. (let one = plain.1 e in omega (arith, one))) (omega arith)), record { sfits = omega arith })
+
+-- a minus before few digits leaves the number in 64 bits
+minus_fits : (v : ℕ) → v < 10 ^ 18 → FitsSigned w64 (neg_ℤ (pos v))
+minus_fits zero small = record { sfits = omega arith }
+minus_fits (suc n) small = record { sfits = omega arith }
+
+-- a minus and digits that begin plainly are what is written for that number
+pub minus_digits_spelled : (word : List ℕ) (v : ℕ) → IsPlain word → get_or word 0 0 ≡ 45 → IsNumeral 10 (drop 1 word) × (v ≡ digits_value 10 (drop 1 word)) → v < 10 ^ 18
+    → (word ≡ signed_decimal (neg_ℤ (pos v))) × FitsSigned w64 (neg_ℤ (pos v))
+minus_digits_spelled [] v plain first h small = absurd (omega (arith, first))
+minus_digits_spelled (c ∷ cs) v plain first h small =
+    let value : digits_value 10 cs < 2 ^ 64 = omega (arith, h.1) in
+    let spelled = ap (λ (n : ℕ). signed_decimal (neg_ℤ (pos n))) h.1 ∙ minus_spelled cs h.0.1 h.0.0 (plain.2 first) value in
+    (ap (λ (b : ℕ). b ∷ cs) first ∙ sym spelled, minus_fits v small)
+
+-- a word that is no numeral spells no number without a minus
+pub no_numeral : (word : List ℕ) → get_or word 0 0 ≢ 45 → ¬ (IsNumeral 10 word) → (z : ℤ) → FitsSigned w64 z → word ≢ signed_decimal z
+no_numeral word first h (pos n) fits e = h (subst (IsNumeral 10) (sym e) (decimal_is_IsNumeral n (omega (arith, fits.sfits))).0)
+no_numeral word first h (negsuc n) fits e = first (ap (λ (l : List ℕ). get_or l 0 0) e)
+
+-- a minus before no numeral spells no number
+pub no_numeral_behind : (word : List ℕ) → get_or word 0 0 ≡ 45 → ¬ (IsNumeral 10 (drop 1 word)) → (z : ℤ) → FitsSigned w64 z → word ≢ signed_decimal z
+no_numeral_behind word first h (pos n) fits e = no_minus n (omega (arith, fits.sfits)) (ap (λ (l : List ℕ). get_or l 0 0) (sym e) ∙ first)
+no_numeral_behind word first h (negsuc n) fits e =
+    h (subst (IsNumeral 10) (ap (λ (l : List ℕ). drop 1 l) (sym e)) (decimal_is_IsNumeral (suc n) (omega (arith, fits.sfits))).0)

@@ -1,14 +1,18 @@
 //! Numbers in canonical decimal.
 
-ghost use Rattle.std.specs.Prelude.{◌≡◌, ◌≢◌, ℤ, ◌≤ℤ◌, ◌++◌, ◌∷◌, ◌↔◌, FitsSigned, Some, IfSome, IfNone, IsTrue, decimal, slice_index, is_ok, if◌then◌else◌};
+ghost use Rattle.std.specs.Prelude.{◌≡◌, ◌≢◌, ◌<◌, ◌≤◌, ◌^◌, ℤ, ◌≤ℤ◌, ◌++◌, ◌∷◌, ◌↔◌, length, FitsSigned, Some, IfSome, IfNone, IsTrue, decimal, slice_index, is_ok, if◌then◌else◌};
 ghost use Rattle.std.specs.Int.{w64};
 ghost use Rattle.std.specs.Fmt.{signed_decimal};
+ghost use Rattle.std.specs.Str.Parse.{IsNumeral, digits_value};
 ghost use Rattle.line_forms.specs.Texts.{number_of};
 ghost use Rattle.plain_io.specs.Canonical.{IsPlain};
 
 use itoa::Buffer;
 use std::alloc::Global;
 use tgap_model::{Memory, Text};
+
+/// So many digits always fit 64 bits with a sign.
+const MOST_DIGITS: usize = 18;
 
 /// The number that a word spells in canonical decimal: with no plus sign, no leading zero and no `-0`. None where it
 /// spells none from `least` to `most`.
@@ -37,7 +41,13 @@ fn canonical_number(word: &[u8]) -> Option<i64>
     ensures spelled { IfSome result (λ n. (word.now ≡ signed_decimal n) × FitsSigned w64 n) }
     ensures none { IfNone result ((n : ℤ) → FitsSigned w64 n → word.now ≢ signed_decimal n) }
 {
-    if is_plain(word) { parse(word) } else { None }
+    if !is_plain(word) {
+        None
+    } else if word.len() <= MOST_DIGITS {
+        short_number(word)
+    } else {
+        parse(word)
+    }
 }
 
 /// Whether a word has no plus sign in front, no zero before another byte, and no zero behind a minus.
@@ -57,6 +67,42 @@ fn byte_at(word: &[u8], place: usize) -> u8
     ensures { result ≡ slice_index word.now place }
 {
     word.get(place).copied().unwrap_or(0)
+}
+
+/// The number that a word of few bytes spells, where it begins as canonical decimal does.
+fn short_number(word: &[u8]) -> Option<i64>
+    requires plain { IsPlain word.now }
+    requires short { length word.now ≤ MOST_DIGITS }
+    ensures spelled { IfSome result (λ n. (word.now ≡ signed_decimal n) × FitsSigned w64 n) }
+    ensures none { IfNone result ((n : ℤ) → FitsSigned w64 n → word.now ≢ signed_decimal n) }
+{
+    if byte_at(word, 0) == b'-' {
+        let size = value_of(&word[1..])?;
+        Some(-(size as i64))
+    } else {
+        let size = value_of(word)?;
+        Some(size as i64)
+    }
+}
+
+/// The value of decimal digits. None where there are none, or where another byte is among them.
+fn value_of(digits: &[u8]) -> Option<u64>
+    requires { length digits.now ≤ MOST_DIGITS }
+    ensures value { IfSome result (λ n. IsNumeral 10 digits.now × (n ≡ digits_value 10 digits.now)) }
+    ensures size { IfSome result (λ n. n < 10 ^ MOST_DIGITS) }
+    ensures none { IfNone result (¬ (IsNumeral 10 digits.now)) }
+{
+    if digits.is_empty() {
+        return None;
+    }
+    let mut value = 0;
+    for byte in digits {
+        if !byte.is_ascii_digit() {
+            return None;
+        }
+        value = 10 * value + u64::from(*byte - b'0');
+    }
+    Some(value)
 }
 
 /// The number of 64 bits that a word is parsed as, in canonical decimal or not.

@@ -1,0 +1,7 @@
+use Rattle.std.proofs.Common.{◌≡◌, take}
+use Rattle.std.specs.Str.Parse.{AllDigits, digits_value}
+use Rattle.plain_io.proofs.text.number.value_of.Given as goal
+
+-- the bytes so far are digits, and this is their value
+abbrev pub invariant-loop-byte : goal.invariant-loop-byte
+invariant-loop-byte l = AllDigits 10 (take l.byte-index l.digits) × (l.value ≡ digits_value 10 (take l.byte-index l.digits))
