@@ -6,8 +6,8 @@ use Rattle.std.proofs.lemmas.Bool.{cases_order, or_cases, or_left}
 use Rattle.std.specs.Cmp.Derive.{both_true}
 use Rattle.std.specs.Int.Signed.{clash_ℤ}
 use Rattle.std.proofs.lemmas.Simd.{map-map}
-use Rattle.std.proofs.lemmas.List.{get_or-map, length-map, get_or_default, take-append-drop}
-use Rattle.std.proofs.lemmas.List.Elements.{All-head, All-tail, All-contains, Contains-append_cases}
+use Rattle.std.proofs.lemmas.List.{get_or-map, length-map, get_or_default}
+use Rattle.std.proofs.lemmas.List.Elements.{All-head, All-tail}
 use Rattle.lemmas.specs.Sorting.{is_sorted_by}
 use Rattle.lemmas.proofs.Sorting.{sorted_same, Contains-sort_by, Contains-from_sort_by}
 use Rattle.lemmas.proofs.Fractions.{fraction_le_le, fraction_same_same}
@@ -25,17 +25,16 @@ use Rattle.planar_stack.specs.Sweep.{FacesAgree, EitherApart, crossed_after, hig
 use Rattle.planar_stack.proofs.Crossings.{passes_from}
 use Rattle.planar_stack.proofs.Heights.{one_is_higher, heights_from_higher, stack_is_sorted, stack_is_crossed}
 use Rattle.planar_stack.proofs.Slabs.{order_after, after_is_rational, no_fault_from_agree, agree_from_faults}
-use Rattle.planar_sweep.specs.declared.events.Event.{Event}
 use Rattle.planar_sweep.specs.Over.{GoesForward, is_slanted, is_over}
 use Rattle.planar_sweep.specs.Times.{IsInRow}
-use Rattle.planar_sweep.specs.Rows.{Adjacent, Over, no_seg, seg_at, coming, leaving, AreEvents, IsRow}
+use Rattle.planar_sweep.specs.Rows.{Adjacent, Over, no_seg, seg_at, Moment, changes_of, AreEvents, IsRow}
 use Rattle.planar_sweep.specs.Ends.{IsReady, no_segment, segment_at, swept}
 use Rattle.planar_sweep.specs.Faces.{sides_at, gaps_from, IsColumn, HadAgreement}
 use Rattle.planar_sweep.proofs.Gaps.{Reaches, PointAt, point_at}
 use Rattle.planar_sweep.proofs.Heights.{IsNotHigher, not_lower, upright}
 use Rattle.planar_sweep.proofs.Forward.{rightward_forward, crosses_forward}
 use Rattle.planar_sweep.proofs.Neighbours.{Once}
-use Rattle.planar_sweep.proofs.EventFacts.{has_coming, has_leaving, front_up_to}
+use Rattle.planar_sweep.proofs.EventFacts.{front_up_to, in_row_from, from_in_row}
 use Rattle.planar_sweep.proofs.FaceGaps.{agree_from_no_gaps}
 
 -- ---- one half beyond an abscissa
@@ -56,14 +55,14 @@ covers_in_row v s f (h, k) = by (is_slanted s) refl h k
     from_left : (a : ℤ) → (pos 4 *ℤ a +ℤ pos 2) ≤ℤ (pos 4 *ℤ v +ℤ pos 3) → a ≤ℤ v
     from_left a i = omega (arith, ints)
 
-    to_right : (b : ℤ) → (pos 4 *ℤ v +ℤ pos 3) <ℤ (pos 4 *ℤ b +ℤ pos 1) → v <ℤ b
+    to_right : (b : ℤ) → (pos 4 *ℤ v +ℤ pos 3) <ℤ (pos 4 *ℤ b +ℤ pos 2) → v <ℤ b
     to_right b i = omega (arith, ints)
 
     never : (a b : ℤ) → a ≡ b → (pos 4 *ℤ a) ≤ℤ (pos 4 *ℤ v +ℤ pos 3) → (pos 4 *ℤ v +ℤ pos 3) <ℤ (pos 4 *ℤ b +ℤ pos 3) → ⊥
     never a b e i j = omega (arith, ints)
 
     by : (b : Bool) → is_slanted s ≡ b → (cond b (pos 4 *ℤ s.a.x +ℤ pos 2) (pos 4 *ℤ s.a.x)) ≤ℤ (pos 4 *ℤ v +ℤ pos 3)
-        → (pos 4 *ℤ v +ℤ pos 3) <ℤ (cond b (pos 4 *ℤ s.b.x +ℤ pos 1) (pos 4 *ℤ s.b.x +ℤ pos 3)) → Covers v s
+        → (pos 4 *ℤ v +ℤ pos 3) <ℤ (cond b (pos 4 *ℤ s.b.x +ℤ pos 2) (pos 4 *ℤ s.b.x +ℤ pos 3)) → Covers v s
     by true e i j = record { from = from_left s.a.x i; to = to_right s.b.x j }
     by false e i j = absurd (never s.a.x s.b.x (upright s f e).same i j)
 
@@ -71,7 +70,7 @@ covers_in_row v s f (h, k) = by (is_slanted s) refl h k
 in_row_covers : (v : ℤ) (s : Seg) → Covers v s → IsInRow (pos 4 *ℤ v +ℤ pos 3) s
 in_row_covers v s c = (
   subst (λ (b : Bool). (cond b (pos 4 *ℤ s.a.x +ℤ pos 2) (pos 4 *ℤ s.a.x)) ≤ℤ (pos 4 *ℤ v +ℤ pos 3)) (sym slanted) (begun s.a.x c.from),
-  subst (λ (b : Bool). (pos 4 *ℤ v +ℤ pos 3) <ℤ (cond b (pos 4 *ℤ s.b.x +ℤ pos 1) (pos 4 *ℤ s.b.x +ℤ pos 3))) (sym slanted) (stays s.b.x c.to),
+  subst (λ (b : Bool). (pos 4 *ℤ v +ℤ pos 3) <ℤ (cond b (pos 4 *ℤ s.b.x +ℤ pos 2) (pos 4 *ℤ s.b.x +ℤ pos 3))) (sym slanted) (stays s.b.x c.to),
 )
   where
     slanted : is_slanted s ≡ true
@@ -80,7 +79,7 @@ in_row_covers v s c = (
     begun : (a : ℤ) → a ≤ℤ v → (pos 4 *ℤ a +ℤ pos 2) ≤ℤ (pos 4 *ℤ v +ℤ pos 3)
     begun a h = omega (arith, ints)
 
-    stays : (b : ℤ) → v <ℤ b → (pos 4 *ℤ v +ℤ pos 3) <ℤ (pos 4 *ℤ b +ℤ pos 1)
+    stays : (b : ℤ) → v <ℤ b → (pos 4 *ℤ v +ℤ pos 3) <ℤ (pos 4 *ℤ b +ℤ pos 2)
     stays b h = omega (arith, ints)
 
 -- the line one half beyond crosses it
@@ -212,8 +211,8 @@ numbers_apart segments apart m n short_m short_n differ = by (cases_order m n)
 
 -- ---- the row behind all events up to an abscissa
 
-module _ (segments : List LabelledSegment) (events : List Event) (r : AreEvents (map swept segments) events) (ready : All (λ s. IsReady s) (map swept segments)) (apart : AllPairs AreApart segments)
-    (v : ℤ) (k : ℕ) (column : IsColumn v (take k events) (drop k events)) (row : List ℕ) (is : IsRow (map swept segments) (take k events) (drop k events) row) where
+module _ (segments : List LabelledSegment) (events : List Moment) (r : AreEvents (map swept segments) events) (ready : All (λ s. IsReady s) (map swept segments)) (apart : AllPairs AreApart segments)
+    (v : ℤ) (k : ℕ) (column : IsColumn v (take k events) (drop k events)) (row : List ℕ) (is : IsRow (map swept segments) (changes_of (take k events)) row) where
   abbrev all_swept : List Seg
   all_swept = map swept segments
 
@@ -233,23 +232,14 @@ module _ (segments : List LabelledSegment) (events : List Event) (r : AreEvents 
   -- a member is there
   here : (n : ℕ) → Contains row n → Covers v (swept (segment_at segments n))
   here n c =
-      let i = is.into n c in
-      subst (Covers v) (swept_at n (known n c)) (covers_in_row v (seg_at all_swept n) (goes_forward n i.0) (
-        All-contains (λ e. e.time ≤ℤ time) (take k events) (coming all_swept n) column.done i.1,
-        All-contains (λ e. time <ℤ e.time) (drop k events) (leaving all_swept n) column.ahead i.2,
-      ))
-
-  either : (e : Event) → Contains events e → Contains (take k events) e ⊎ Contains (drop k events) e
-  either e c = Contains-append_cases (take k events) (drop k events) e (subst (λ es. Contains es e) (sym (take-append-drop k events)) c)
+      subst (Covers v) (swept_at n (known n c)) (covers_in_row v (seg_at all_swept n) (goes_forward n (is.into n c).0)
+      (from_in_row all_swept events r k (λ z. z ≤ℤ time) (λ z. time <ℤ z) column.done column.ahead row is n c))
 
   -- and what is there is a member
   there : (n : ℕ) → n < length segments → Covers v (swept (segment_at segments n)) → Contains row n
   there n short covers =
-      let inside : n < length all_swept = omega (arith, short, length-map segments swept) in
       let times = in_row_covers v (seg_at all_swept n) (subst (Covers v) (sym (swept_at n short)) covers) in
-      is.back n inside
-      (⊎_elim (λ c. c) (λ c. absurd (clash_ℤ (All-contains (λ e. time <ℤ e.time) (drop k events) (coming all_swept n) column.ahead c) times.0)) (either (coming all_swept n) (has_coming all_swept events r n inside)))
-      (⊎_elim (λ c. absurd (clash_ℤ times.1 (All-contains (λ e. e.time ≤ℤ time) (take k events) (leaving all_swept n) column.done c))) (λ c. c) (either (leaving all_swept n) (has_leaving all_swept events r n inside)))
+      in_row_from all_swept events r k (λ z. z ≤ℤ time) (λ z. time <ℤ z) (λ z h i. clash_ℤ i h) column.done column.ahead row is n (omega (arith, short, length-map segments swept)) times.0 times.1
 
   -- two neighbours of the row
   next_is_lower : (m n : ℕ) → Contains row m → Contains row n → m ≢ n → Over all_swept m n → higher_after v (segment_at segments m) (segment_at segments n) ≡ true
@@ -287,7 +277,7 @@ module _ (segments : List LabelledSegment) (events : List Event) (r : AreEvents 
 -- ---- all rows
 
 -- down the line one half beyond each abscissa
-agree_after : (segments : List LabelledSegment) (events : List Event) → AllPairs AreApart segments → AreEvents (map swept segments) events → All (λ s. IsReady s) (map swept segments)
+agree_after : (segments : List LabelledSegment) (events : List Moment) → AllPairs AreApart segments → AreEvents (map swept segments) events → All (λ s. IsReady s) (map swept segments)
     → HadAgreement segments (map swept segments) events (length events) → (v : ℤ) → agree_from 0 (map sides (stack (line_after v) segments)) ≡ true
 agree_after segments events apart r ready had v =
     let part = front_up_to (pos 4 *ℤ v +ℤ pos 3) events r.ascend in
@@ -296,7 +286,7 @@ agree_after segments events apart r ready had v =
     agree_from_row segments events r ready apart v part.count column found.0 found.1 found.2
 
 -- and so down all lines
-pub faces_agree : (segments : List LabelledSegment) (segs : List Seg) (events : List Event) → segs ≡ map swept segments → AreEvents segs events
+pub faces_agree : (segments : List LabelledSegment) (segs : List Seg) (events : List Moment) → segs ≡ map swept segments → AreEvents segs events
     → All (λ s. IsReady s) segs → AllPairs AreApart segments → HadAgreement segments segs events (length events) → FacesAgree segments
 faces_agree segments segs events same r ready apart had = agree_from_faults segments apart
     (none_from_faults (stack_fault segments) (all_but_last (abscissas segments)) (λ n d short. no_fault (get_or (all_but_last (abscissas segments)) n d)))

@@ -1,18 +1,17 @@
 -- The places of a stack at which the faces differ, as members come and go, and what their number says of the rows so far.
-use Rattle.std.proofs.Common.{◌≡◌, ◌⊎◌, inl, inr, ℕ, zero, suc, ◌+◌, ◌<◌, ◌≤◌, ◌==◌, Bool, true, false, cond, List, [], ◌∷◌, length, map, take, drop, get_or, Contains, ℤ, pos, ◌+ℤ◌, ◌*ℤ◌, ◌<ℤ◌, ◌≤ℤ◌, refl, sym, ap, subst, arith}
+use Rattle.std.proofs.Common.{◌≡◌, ◌⊎◌, inl, inr, ℕ, zero, suc, ◌+◌, ◌<◌, ◌≤◌, ◌==◌, Bool, true, false, cond, List, [], ◌∷◌, length, map, take, drop, get_or, Contains, ℤ, pos, ◌+ℤ◌, ◌*ℤ◌, ◌<ℤ◌, ◌≤ℤ◌, refl, sym, subst, arith}
 use Rattle.std.specs.List.{insert, remove}
 use Rattle.std.proofs.lemmas.Int.{ints}
 use Rattle.std.proofs.lemmas.Bool.{cases_order}
 use Rattle.std.proofs.lemmas.Bool.Decides.{Decides-eqb}
 use Rattle.std.specs.Cmp.Derive.{both_true}
-use Rattle.std.proofs.lemmas.List.{take_more, drop_more, drop_all}
+use Rattle.std.proofs.lemmas.List.{take_more, drop_more}
 use Rattle.std.proofs.lemmas.List.Elements.{All-contains, Contains-append_right}
-use Rattle.lemmas.proofs.Members.{in_head, in_none}
+use Rattle.lemmas.proofs.Members.{in_head}
 use Rattle.tgap_model.specs.declared.geometry.Seg.{Seg}
 use Rattle.tgap_model.specs.declared.segment.LabelledSegment.{LabelledSegment}
 use Rattle.tgap_model.specs.Partition.{Sides, agree_from}
-use Rattle.planar_sweep.specs.declared.events.Event.{Event}
-use Rattle.planar_sweep.specs.Rows.{leaving, IsRow}
+use Rattle.planar_sweep.specs.Rows.{Moment, changes_of, IsRow}
 use Rattle.planar_sweep.specs.Faces.{sides_at, differ, gaps_from, reached_at, standing_at, IsColumn, HadAgreement, AreOfOneColumn, AgreesBehind}
 use Rattle.planar_sweep.proofs.Whole.{first_row}
 
@@ -95,15 +94,15 @@ agree_from_no_gaps u (s ∷ ss) h =
 
 -- ---- the rows so far
 
-module _ (segments : List LabelledSegment) (segs : List Seg) (events : List Event) where
+module _ (segments : List LabelledSegment) (segs : List Seg) (events : List Moment) where
   -- before all events there is nothing
   pub agreement_first : HadAgreement segments segs events 0
   agreement_first j le v is =
       let none : 0 ≡ j = omega (arith, le) in
-      ([], subst (λ i. IsRow segs (take i events) (drop i events) []) none (first_row segs events), refl)
+      ([], subst (λ i. IsRow segs (changes_of (take i events)) []) none (first_row segs), refl)
 
   -- the next event ends no column where the one after it is of the same abscissa
-  no_column : (k : ℕ) (d : Event) (v : ℤ) → k + 1 < length events → AreOfOneColumn (get_or events k d).time (get_or events (k + 1) d).time
+  no_column : (k : ℕ) (d : Moment) (v : ℤ) → k + 1 < length events → AreOfOneColumn (get_or events k d).time (get_or events (k + 1) d).time
       → IsColumn v (take (k + 1) events) (drop (k + 1) events) → ⊥
   no_column k d v short one is = clash v one.abscissa (get_or events k d).time (get_or events (k + 1) d).time one.from one.to
       (All-contains (λ e. e.time ≤ℤ (pos 4 *ℤ v +ℤ pos 3)) (take (k + 1) events) (get_or events k d) is.done
@@ -115,27 +114,15 @@ module _ (segments : List LabelledSegment) (segs : List Seg) (events : List Even
       clash v u s t h i j k = omega (arith, ints)
 
   -- the rows so far, and the next one
-  pub agreement_more : (k : ℕ) (d : Event) (row : List ℕ) → HadAgreement segments segs events k → IsRow segs (take (k + 1) events) (drop (k + 1) events) row → AgreesBehind segments events k d row
+  pub agreement_more : (k : ℕ) (d : Moment) (row : List ℕ) → HadAgreement segments segs events k → IsRow segs (changes_of (take (k + 1) events)) row → AgreesBehind segments events k d row
       → HadAgreement segments segs events (k + 1)
   agreement_more k d row had next agrees j le v is = by (cases_order j (k + 1)) agrees
     where
       Found : Type 0
-      Found = (ns : List ℕ) × IsRow segs (take j events) (drop j events) ns × (gaps_from 0 (map (sides_at segments) ns) ≡ 0)
+      Found = (ns : List ℕ) × IsRow segs (changes_of (take j events)) ns × (gaps_from 0 (map (sides_at segments) ns) ≡ 0)
 
       by : (j ≡ k + 1) ⊎ ((j < k + 1) ⊎ (k + 1 < j)) → AgreesBehind segments events k d row → Found
-      by (inl e) (inl none) = (row, subst (λ i. IsRow segs (take i events) (drop i events) row) (sym e) next, none)
+      by (inl e) (inl none) = (row, subst (λ i. IsRow segs (changes_of (take i events)) row) (sym e) next, none)
       by (inl e) (inr (short, one)) = absurd (no_column k d v short one (subst (λ i. IsColumn v (take i events) (drop i events)) e is))
       by (inr (inl less)) _ = had j (omega (arith, less)) v is
       by (inr (inr more)) _ = absurd (omega (arith, more, le))
-
--- after all events the row is empty
-pub row_behind_all : (segs : List Seg) (done : List Event) (row : List ℕ) → IsRow segs done [] row → row ≡ []
-row_behind_all segs done [] is = refl
-row_behind_all segs done (n ∷ ns) is = absurd (in_none (leaving segs n) (is.into n (in_head n ns)).2)
-
--- so it has no place at which the faces differ
-pub no_gaps_behind_all : (segments : List LabelledSegment) (segs : List Seg) (events : List Event) (k : ℕ) (row : List ℕ) → k ≡ length events → IsRow segs (take k events) (drop k events) row
-    → gaps_from 0 (map (sides_at segments) row) ≡ 0
-no_gaps_behind_all segments segs events k row all is =
-    ap (λ ns. gaps_from 0 (map (sides_at segments) ns))
-    (row_behind_all segs (take k events) row (subst (λ es. IsRow segs (take k events) es row) (drop_all k events (omega (arith, all))) is))

@@ -2,7 +2,7 @@
 use Rattle.std.proofs.Common.{◌≡◌, ⊎_elim, ℕ, zero, suc, ◌+◌, ◌<◌, ◌≤◌, List, [], ◌∷◌, ◌++◌, length, map, get_or, All, Bool, true, false, ◌==◌, if◌then◌else◌, refl, sym, ap, ◌∙◌, subst, subst₂, arith, ◌^◌}
 use Rattle.std.specs.List.{insert, remove}
 use Rattle.std.proofs.lemmas.Bool.{cases_lt}
-use Rattle.std.proofs.lemmas.List.{get_or-map, length-map, length-append}
+use Rattle.std.proofs.lemmas.List.{get_or-map, length-map}
 use Rattle.std.proofs.lemmas.List.Elements.{All-head, All-tail}
 use Rattle.tgap_model.specs.declared.geometry.Seg.{Seg}
 use Rattle.tgap_model.specs.Partition.{Sides}
@@ -120,15 +120,6 @@ differ_few u v = by (u == v)
 -- what is counted fits a word
 pub counted_few : (faces : List (ℕ × ℕ)) (row : List ℕ) → length row < 2 ^ 32 → gaps_in faces row ≤ 2 ^ 32
 counted_few faces row few = omega (arith, few_gaps 0 (map (sides_in faces) row), length-map row (sides_in faces), few)
-
--- the faces of the segments, and the outside at the end
-pub has_faces : (segments : List LabelledSegment) (segs : List Seg) (faces : List (ℕ × ℕ)) → AreFaces segments faces → length segs ≡ length segments → HasFaces segs faces
-has_faces segments segs faces are same = record {
-  long = omega (arith, ap length are, length-append (map face_pair segments) ((0, 0) ∷ []), length-map segments face_pair, same);
-  outside = ap (λ (fs : List (ℕ × ℕ)). get_or fs (length segs) (0, 0)) are
-      ∙ ap (λ (k : ℕ). get_or (map face_pair segments ++ (0, 0) ∷ []) k (0, 0)) (same ∙ sym (length-map segments face_pair))
-      ∙ get_or-last (map face_pair segments) (0, 0) (0, 0);
-}
 
 -- of numbers of segments they are the faces at their sides
 pub sides_known : (segments : List LabelledSegment) (faces : List (ℕ × ℕ)) → AreFaces segments faces → (row : List ℕ) → All (λ n. n < length segments) row → map (sides_in faces) row ≡ map (sides_at segments) row

@@ -65,13 +65,13 @@ module _ (s : Seg) (p q : Fraction) (i : pos 0 <ℤ p.d) (j : pos 0 <ℤ q.d) (l
 -- ---- two slanted segments: the difference of their heights is an affine function of the abscissa
 
 module _ (s t : Seg) where
-  abbrev slope : ℤ
+  abbrev pub slope : ℤ
   slope = run t *ℤ rise s -ℤ rise t *ℤ run s
 
-  abbrev rest : ℤ
+  abbrev pub rest : ℤ
   rest = run s *ℤ run t *ℤ (s.a.y -ℤ t.a.y) +ℤ run s *ℤ rise t *ℤ t.a.x -ℤ run t *ℤ rise s *ℤ s.a.x
 
-  at_point : (p : Fraction) → cross_at s.a s.b p ≡ pos 0 → run s *ℤ cross_at t.a t.b p ≡ slope *ℤ p.nx +ℤ rest *ℤ p.d
+  pub at_point : (p : Fraction) → cross_at s.a s.b p ≡ pos 0 → run s *ℤ cross_at t.a t.b p ≡ slope *ℤ p.nx +ℤ rest *ℤ p.d
   at_point p e = same_value (s.a.x ∷ s.a.y ∷ s.b.x ∷ s.b.y ∷ t.a.x ∷ t.a.y ∷ t.b.x ∷ t.b.y ∷ p.nx ∷ p.ny ∷ p.d ∷ [])
       ((var 2 ⊖ var 0) ⊗ ((var 6 ⊖ var 4) ⊗ (var 9 ⊖ var 10 ⊗ var 5) ⊖ (var 7 ⊖ var 5) ⊗ (var 8 ⊖ var 10 ⊗ var 4)))
       ((((var 6 ⊖ var 4) ⊗ (var 3 ⊖ var 1) ⊖ (var 7 ⊖ var 5) ⊗ (var 2 ⊖ var 0)) ⊗ var 8
@@ -81,7 +81,7 @@ module _ (s t : Seg) where
       ∙ same_value ((slope *ℤ p.nx +ℤ rest *ℤ p.d) ∷ run t ∷ []) (var 0 ⊕ var 1 ⊗ number (pos 0)) (var 0) refl
 
   -- at a grid point, by its crosses with both
-  at_grid : (v : Point) → slope *ℤ v.x +ℤ rest ≡ run s *ℤ cross t.a t.b v -ℤ run t *ℤ cross s.a s.b v
+  pub at_grid : (v : Point) → slope *ℤ v.x +ℤ rest ≡ run s *ℤ cross t.a t.b v -ℤ run t *ℤ cross s.a s.b v
   at_grid v = same_value (s.a.x ∷ s.a.y ∷ s.b.x ∷ s.b.y ∷ t.a.x ∷ t.a.y ∷ t.b.x ∷ t.b.y ∷ v.x ∷ v.y ∷ [])
       (((var 6 ⊖ var 4) ⊗ (var 3 ⊖ var 1) ⊖ (var 7 ⊖ var 5) ⊗ (var 2 ⊖ var 0)) ⊗ var 8
       ⊕ ((var 2 ⊖ var 0) ⊗ (var 6 ⊖ var 4) ⊗ (var 1 ⊖ var 5) ⊕ (var 2 ⊖ var 0) ⊗ (var 7 ⊖ var 5) ⊗ var 4 ⊖ (var 6 ⊖ var 4) ⊗ (var 3 ⊖ var 1) ⊗ var 0))
@@ -153,7 +153,7 @@ module _ (s t : Seg) where
 -- ---- upright segments
 
 -- the cross of a line and a point, by that of a grid point and the gaps to it
-cross_by_gaps : (s : Seg) (p : Fraction) (v : Point) → cross_at s.a s.b p ≡ p.d *ℤ cross s.a s.b v +ℤ (run s *ℤ y_gap p v -ℤ rise s *ℤ x_gap p v)
+pub cross_by_gaps : (s : Seg) (p : Fraction) (v : Point) → cross_at s.a s.b p ≡ p.d *ℤ cross s.a s.b v +ℤ (run s *ℤ y_gap p v -ℤ rise s *ℤ x_gap p v)
 cross_by_gaps s p v = same_value (s.a.x ∷ s.a.y ∷ s.b.x ∷ s.b.y ∷ v.x ∷ v.y ∷ p.nx ∷ p.ny ∷ p.d ∷ [])
     ((var 2 ⊖ var 0) ⊗ (var 7 ⊖ var 8 ⊗ var 1) ⊖ (var 3 ⊖ var 1) ⊗ (var 6 ⊖ var 8 ⊗ var 0))
     (var 8 ⊗ ((var 2 ⊖ var 0) ⊗ (var 5 ⊖ var 1) ⊖ (var 3 ⊖ var 1) ⊗ (var 4 ⊖ var 0)) ⊕ ((var 2 ⊖ var 0) ⊗ (var 7 ⊖ var 8 ⊗ var 5) ⊖ (var 3 ⊖ var 1) ⊗ (var 6 ⊖ var 8 ⊗ var 4))) refl
@@ -168,13 +168,13 @@ upright s (inl h) e = absurd (omega (arith, ints, h, int_lt-false s.a.x s.b.x e)
 upright s (inr h) e = record { same = h.0; up = h.1 }
 
 -- where a point of it stands
-record StandsUp (p : Fraction) (s : Seg) : Type 0 where
-  first : x_gap p s.a ≡ pos 0
-  last : x_gap p s.b ≡ pos 0
-  above : pos 0 ≤ℤ y_gap p s.a
-  below : y_gap p s.b ≤ℤ pos 0
+pub record StandsUp (p : Fraction) (s : Seg) : Type 0 where
+  pub first : x_gap p s.a ≡ pos 0
+  pub last : x_gap p s.b ≡ pos 0
+  pub above : pos 0 ≤ℤ y_gap p s.a
+  pub below : y_gap p s.b ≤ℤ pos 0
 
-stands_up : (p : Fraction) (s : Seg) → pos 0 <ℤ p.d → IsUpright s → IsOn p s → StandsUp p s
+pub stands_up : (p : Fraction) (s : Seg) → pos 0 <ℤ p.d → IsUpright s → IsOn p s → StandsUp p s
 stands_up p s rational u on =
     let x = from_gaps p.nx p.d s.a.x s.b.x rational (le_from_same u.same) on.x in
     let y = from_gaps p.ny p.d s.a.y s.b.y rational u.up on.y in

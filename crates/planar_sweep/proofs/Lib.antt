@@ -1,10 +1,13 @@
 pub mod Gaps
 pub mod Heights
+pub mod Strict
 pub mod Squeezed
 pub mod Moments
 pub mod Neighbours
 pub mod EventFacts
 pub mod Steps
+pub mod EventSteps
+pub mod EventKeys
 pub mod Whole
 pub mod Forward
 pub mod Shared

@@ -22,11 +22,11 @@ pub data Shows (p : Fraction) (time : ℤ) : Type 0 where
   between_times : (u : ℤ) → time ≡ pos 4 *ℤ u +ℤ pos 3 → (p.d *ℤ u) ≤ℤ p.nx → p.nx ≤ℤ (p.d *ℤ (u +ℤ pos 1)) → Shows p time
 
 -- the abscissas of a segment in the row
-slanted_at : (a b u time : ℤ) → (time ≡ pos 4 *ℤ u) ⊎ (time ≡ pos 4 *ℤ u +ℤ pos 2) → (pos 4 *ℤ a +ℤ pos 2) ≤ℤ time → time <ℤ (pos 4 *ℤ b +ℤ pos 1) → (a ≤ℤ u) × (u ≤ℤ b)
+slanted_at : (a b u time : ℤ) → (time ≡ pos 4 *ℤ u) ⊎ (time ≡ pos 4 *ℤ u +ℤ pos 2) → (pos 4 *ℤ a +ℤ pos 2) ≤ℤ time → time <ℤ (pos 4 *ℤ b +ℤ pos 2) → (a ≤ℤ u) × (u ≤ℤ b)
 slanted_at a b u time (inl e) h k = (omega (arith, ints), omega (arith, ints))
 slanted_at a b u time (inr e) h k = (omega (arith, ints), omega (arith, ints))
 
-slanted_between : (a b u time : ℤ) → time ≡ pos 4 *ℤ u +ℤ pos 3 → (pos 4 *ℤ a +ℤ pos 2) ≤ℤ time → time <ℤ (pos 4 *ℤ b +ℤ pos 1) → (a ≤ℤ u) × ((u +ℤ pos 1) ≤ℤ b)
+slanted_between : (a b u time : ℤ) → time ≡ pos 4 *ℤ u +ℤ pos 3 → (pos 4 *ℤ a +ℤ pos 2) ≤ℤ time → time <ℤ (pos 4 *ℤ b +ℤ pos 2) → (a ≤ℤ u) × ((u +ℤ pos 1) ≤ℤ b)
 slanted_between a b u time e h k = (omega (arith, ints), omega (arith, ints))
 
 upright_at : (a b u time : ℤ) → a ≡ b → (time ≡ pos 4 *ℤ u) ⊎ (time ≡ pos 4 *ℤ u +ℤ pos 2) → (pos 4 *ℤ a) ≤ℤ time → time <ℤ (pos 4 *ℤ b +ℤ pos 3) → (a ≤ℤ u) × (u ≤ℤ b)
@@ -52,7 +52,7 @@ in_row_reaches p time s rational f shows (h, k) = by (is_slanted s) refl shows h
         back : (x y : ℤ) → x ≤ℤ y → (x -ℤ y) ≤ℤ pos 0
         back x y l = omega (arith, ints)
 
-    by : (b : Bool) → is_slanted s ≡ b → Shows p time → (cond b (pos 4 *ℤ s.a.x +ℤ pos 2) (pos 4 *ℤ s.a.x)) ≤ℤ time → time <ℤ (cond b (pos 4 *ℤ s.b.x +ℤ pos 1) (pos 4 *ℤ s.b.x +ℤ pos 3)) → Reaches p s
+    by : (b : Bool) → is_slanted s ≡ b → Shows p time → (cond b (pos 4 *ℤ s.a.x +ℤ pos 2) (pos 4 *ℤ s.a.x)) ≤ℤ time → time <ℤ (cond b (pos 4 *ℤ s.b.x +ℤ pos 2) (pos 4 *ℤ s.b.x +ℤ pos 3)) → Reaches p s
     by true e (on_time u c same) i j = let x = slanted_at s.a.x s.b.x u time c i j in reach u u x.0 x.1 (le_from_same (sym same)) (le_from_same same)
     by true e (between_times u c low high) i j = let x = slanted_between s.a.x s.b.x u time c i j in reach u (u +ℤ pos 1) x.0 x.1 low high
     by false e (on_time u c same) i j = let x = upright_at s.a.x s.b.x u time (upright s f e).same c i j in reach u u x.0 x.1 (le_from_same (sym same)) (le_from_same same)
@@ -123,16 +123,16 @@ whole_in low high n d less h i =
     before w k e h = omega (arith, ints)
 
 -- when a slanted or an upright segment is in the row
-in_slanted : (time : ℤ) (s : Seg) → is_slanted s ≡ true → (pos 4 *ℤ s.a.x +ℤ pos 2) ≤ℤ time → time <ℤ (pos 4 *ℤ s.b.x +ℤ pos 1) → IsInRow time s
+in_slanted : (time : ℤ) (s : Seg) → is_slanted s ≡ true → (pos 4 *ℤ s.a.x +ℤ pos 2) ≤ℤ time → time <ℤ (pos 4 *ℤ s.b.x +ℤ pos 2) → IsInRow time s
 in_slanted time s e h k = (
   subst (λ (b : Bool). (cond b (pos 4 *ℤ s.a.x +ℤ pos 2) (pos 4 *ℤ s.a.x)) ≤ℤ time) (sym e) h,
-  subst (λ (b : Bool). time <ℤ (cond b (pos 4 *ℤ s.b.x +ℤ pos 1) (pos 4 *ℤ s.b.x +ℤ pos 3))) (sym e) k,
+  subst (λ (b : Bool). time <ℤ (cond b (pos 4 *ℤ s.b.x +ℤ pos 2) (pos 4 *ℤ s.b.x +ℤ pos 3))) (sym e) k,
 )
 
 in_upright : (time : ℤ) (s : Seg) → is_slanted s ≡ false → (pos 4 *ℤ s.a.x) ≤ℤ time → time <ℤ (pos 4 *ℤ s.b.x +ℤ pos 3) → IsInRow time s
 in_upright time s e h k = (
   subst (λ (b : Bool). (cond b (pos 4 *ℤ s.a.x +ℤ pos 2) (pos 4 *ℤ s.a.x)) ≤ℤ time) (sym e) h,
-  subst (λ (b : Bool). time <ℤ (cond b (pos 4 *ℤ s.b.x +ℤ pos 1) (pos 4 *ℤ s.b.x +ℤ pos 3))) (sym e) k,
+  subst (λ (b : Bool). time <ℤ (cond b (pos 4 *ℤ s.b.x +ℤ pos 2) (pos 4 *ℤ s.b.x +ℤ pos 3))) (sym e) k,
 )
 
 module _ (p : Fraction) (rational : pos 0 <ℤ p.d) where
@@ -228,13 +228,13 @@ module _ (p : Fraction) (rational : pos 0 <ℤ p.d) where
           begun : (a v : ℤ) → a <ℤ v → (pos 4 *ℤ a +ℤ pos 2) ≤ℤ (pos 4 *ℤ v)
           begun a v h = omega (arith, ints)
 
-          still : (b v : ℤ) → v ≤ℤ b → (pos 4 *ℤ v) <ℤ (pos 4 *ℤ b +ℤ pos 1)
+          still : (b v : ℤ) → v ≤ℤ b → (pos 4 *ℤ v) <ℤ (pos 4 *ℤ b +ℤ pos 2)
           still b v h = omega (arith, ints)
 
           begins : (a v : ℤ) → a ≤ℤ v → (pos 4 *ℤ a +ℤ pos 2) ≤ℤ (pos 4 *ℤ v +ℤ pos 2)
           begins a v h = omega (arith, ints)
 
-          stays : (a b v : ℤ) → a ≤ℤ v → v ≤ℤ a → a <ℤ b → (pos 4 *ℤ v +ℤ pos 2) <ℤ (pos 4 *ℤ b +ℤ pos 1)
+          stays : (a b v : ℤ) → a ≤ℤ v → v ≤ℤ a → a <ℤ b → (pos 4 *ℤ v +ℤ pos 2) <ℤ (pos 4 *ℤ b +ℤ pos 2)
           stays a b v h i k = omega (arith, ints)
 
   together_turned : (s t : Seg) → Together p s t → Together p t s
@@ -274,7 +274,7 @@ module _ (p : Fraction) (rational : pos 0 <ℤ p.d) where
           begun : (a v : ℤ) → a ≤ℤ v → (pos 4 *ℤ a +ℤ pos 2) ≤ℤ (pos 4 *ℤ v +ℤ pos 3)
           begun a v h = omega (arith, ints)
 
-          stays : (b v : ℤ) → v <ℤ b → (pos 4 *ℤ v +ℤ pos 3) <ℤ (pos 4 *ℤ b +ℤ pos 1)
+          stays : (b v : ℤ) → v <ℤ b → (pos 4 *ℤ v +ℤ pos 3) <ℤ (pos 4 *ℤ b +ℤ pos 2)
           stays b v h = omega (arith, ints)
 
   -- two segments with a common point are in the row together at a time that shows it, or it is an end of both

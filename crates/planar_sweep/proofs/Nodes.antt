@@ -1,10 +1,11 @@
 -- What stands above and below a place of the row.
-use Rattle.std.proofs.Common.{◌≡◌, ◌≢◌, inl, inr, ℕ, zero, suc, ◌+◌, ◌<◌, ◌≤◌, List, [], ◌∷◌, ◌++◌, length, take, drop, get_or, Contains, refl, sym, ap, ◌∙◌, subst, subst₂, arith}
+use Rattle.std.proofs.Common.{◌≡◌, ◌≢◌, ℕ, zero, suc, ◌+◌, ◌<◌, ◌≤◌, List, [], ◌∷◌, ◌++◌, length, take, drop, get_or, Contains, refl, sym, ap, ◌∙◌, subst, subst₂, arith}
 use Rattle.std.proofs.lemmas.List.{length-append, length-take-le, length-drop}
-use Rattle.std.proofs.lemmas.List.Elements.{All-cons, All-append, All-take, All-drop}
+use Rattle.std.proofs.lemmas.List.Elements.{All-cons, All-append, All-take, All-drop, Contains-append_right}
 use Rattle.std.specs.List.{All, insert}
+use Rattle.lemmas.proofs.Members.{in_head}
 use Rattle.tgap_model.specs.declared.geometry.Seg.{Seg}
-use Rattle.linked_row.specs.Linked.{Linked, IsNode, uppers, lowers}
+use Rattle.linked_row.specs.Linked.{Linked, uppers, lowers}
 use Rattle.planar_sweep.specs.Rows.{Over, HasCome, HasLeft}
 use Rattle.planar_sweep.specs.Line.{CameBelow, GoneOut, MayClose}
 
@@ -21,11 +22,6 @@ get_or-last (y ∷ ys) x d = get_or-last ys x d
 -- below a member stands the next one, and above the next one the member
 pub lower_of_member : (row : Linked) (k : ℕ) → k < length row.row → get_or (lowers row) k 0 ≡ get_or row.row k 0
 lower_of_member row k short = get_or-append_last row.row row.count 0 k short
-
--- a node that is not the end is a member
-pub member_from_node : (row : Linked) (n : ℕ) → IsNode row n → n ≢ row.count → Contains row.row n
-member_from_node row n (inl e) differ = absurd (differ e)
-member_from_node row n (inr c) differ = c
 
 -- above the place behind a member stands the member
 pub upper_of_next : (row : Linked) (k : ℕ) → get_or (uppers row) (k + 1) 0 ≡ get_or row.row k 0
@@ -73,6 +69,7 @@ module _ (segs : List Seg) (old new : Linked) (n : ℕ) (count : old.count ≡ l
       place = came.place;
       within = came.within;
       placed = came.placed;
+      fresh = came.fresh;
       above = λ k e.
           let at : get_or old.row k 0 ≡ upper = sym (upper_of_next old k) ∙ ap (λ (i : ℕ). get_or (uppers old) i 0) e ∙ came.there in
           subst (λ (m : ℕ). Over segs m n) (sym at) (came.above (λ same. no_end k (omega (arith, e, came.within)) (at ∙ same)));
@@ -80,6 +77,9 @@ module _ (segs : List Seg) (old new : Linked) (n : ℕ) (count : old.count ≡ l
           let at = lower_of_member old came.place short in
           subst (λ (m : ℕ). Over segs n m) at (came.below (λ same. no_end came.place short (sym at ∙ same)));
     }
+
+    pub member_now : Contains new.row n
+    member_now = subst (λ row. Contains row n) (sym came.placed) (Contains-append_right (take came.place old.row) (n ∷ drop came.place old.row) n (in_head n (drop came.place old.row)))
 
     -- what stands below it now stood at its place
     pub lower_now : new.count ≡ length segs → get_or (lowers new) (came.place + 1) 0 ≡ get_or (lowers old) came.place 0

@@ -4,8 +4,7 @@ use Rattle.std.specs.Prelude.{◌≡◌, ◌⊎◌, ℕ, ◌+◌, ◌<◌, ◌�
 use Rattle.tgap_model.specs.declared.geometry.Seg.{Seg}
 use Rattle.tgap_model.specs.declared.segment.LabelledSegment.{LabelledSegment}
 use Rattle.tgap_model.specs.Partition.{Sides, sides}
-use Rattle.planar_sweep.specs.declared.events.Event.{Event}
-use Rattle.planar_sweep.specs.Rows.{IsRow}
+use Rattle.planar_sweep.specs.Rows.{Moment, changes_of, IsRow}
 use Rattle.planar_sweep.specs.Ends.{segment_at}
 
 -- the faces at the sides of the segment of a number
@@ -34,15 +33,15 @@ standing_at faces xs k = get_or (map (λ x. (faces x).upper) xs ++ 0 ∷ []) k 0
 -- ---- the rows at the abscissas
 
 -- All events up to an abscissa are done, and no others.
-pub record IsColumn (v : ℤ) (front rest : List Event) : Type 0 where
+pub record IsColumn (v : ℤ) (front rest : List Moment) : Type 0 where
   pub done : All (λ e. e.time ≤ℤ (pos 4 *ℤ v +ℤ pos 3)) front
   pub ahead : All (λ e. (pos 4 *ℤ v +ℤ pos 3) <ℤ e.time) rest
 
 -- Between two abscissas the row had no place at which the faces differ, after each number of events up to this one.
-abbrev pub HadAgreement : List LabelledSegment → List Seg → List Event → ℕ → Type 0
+abbrev pub HadAgreement : List LabelledSegment → List Seg → List Moment → ℕ → Type 0
 HadAgreement segments segs events k =
     (j : ℕ) → j ≤ k → (v : ℤ) → IsColumn v (take j events) (drop j events)
-    → (row : List ℕ) × IsRow segs (take j events) (drop j events) row × (gaps_from 0 (map (sides_at segments) row) ≡ 0)
+    → (row : List ℕ) × IsRow segs (changes_of (take j events)) row × (gaps_from 0 (map (sides_at segments) row) ≡ 0)
 
 -- A time and a later one are of one abscissa.
 pub record AreOfOneColumn (s t : ℤ) : Type 0 where
@@ -51,6 +50,6 @@ pub record AreOfOneColumn (s t : ℤ) : Type 0 where
   pub to : t ≤ℤ (pos 4 *ℤ abscissa +ℤ pos 3)
 
 -- After event k the row has no place at which the faces differ, or the next event is at the same abscissa.
-abbrev pub AgreesBehind : List LabelledSegment → List Event → ℕ → Event → List ℕ → Type 0
+abbrev pub AgreesBehind : List LabelledSegment → List Moment → ℕ → Moment → List ℕ → Type 0
 AgreesBehind segments events k d row =
     (gaps_from 0 (map (sides_at segments) row) ≡ 0) ⊎ ((k + 1 < length events) × AreOfOneColumn (get_or events k d).time (get_or events (k + 1) d).time)

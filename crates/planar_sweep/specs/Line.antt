@@ -1,5 +1,5 @@
 -- The line of the sweep: its row and what it keeps beside it, where a segment may stand in the row, and what changes there.
-use Rattle.std.specs.Prelude.{◌≡◌, ◌≢◌, ℕ, ◌+◌, ◌<◌, ◌≤◌, List, length, get_or}
+use Rattle.std.specs.Prelude.{◌≡◌, ◌≢◌, ℕ, ◌+◌, ◌<◌, ◌≤◌, List, Contains, length, get_or}
 use Rattle.std.specs.List.{All, insert, remove}
 use Rattle.tgap_model.specs.declared.geometry.Seg.{Seg}
 use Rattle.linked_row.specs.Linked.{Linked, IsNode, uppers, lowers}
@@ -32,6 +32,7 @@ pub record CameBelow (segs : List Seg) (n upper : ℕ) (old new : Linked) : Type
   pub within : place ≤ length old.row
   pub there : get_or (uppers old) place 0 ≡ upper
   pub placed : new.row ≡ insert old.row place n
+  pub fresh : Contains old.row n → ⊥
   pub above : MayBeAbove segs upper n
   pub below : MayBeBelow segs n (get_or (lowers old) place 0)
 

@@ -1,6 +1,7 @@
 -- Which of two segments lies over the other, and when two have nothing in common but ends of both. A segment goes forward here: to the
 -- right, or straight up.
 use Rattle.std.specs.Prelude.{◌≡◌, ◌⊎◌, Bool, true, ◌&&◌, ◌||◌, pos, ◌<ℤ◌, ◌≤ℤ◌, int_lt, int_le, if◌then◌else◌}
+use Rattle.tgap_model.specs.declared.geometry.Point.{Point}
 use Rattle.tgap_model.specs.declared.geometry.Fraction.{Fraction}
 use Rattle.tgap_model.specs.declared.geometry.Seg.{Seg}
 use Rattle.tgap_model.specs.declared.geometry.Shared.{Shared}
@@ -34,6 +35,24 @@ is_over s t =
     if is_slanted s
     then if is_slanted t then starts_over s t && ends_over s t else int_le (side s.a s.b t.b) (pos 0)
     else if is_slanted t then int_le (pos 0) (side t.a t.b s.a) else int_le t.b.y s.a.y
+
+-- the same, and strictly
+abbrev pub starts_apart : Seg → Seg → Bool
+starts_apart s t = int_lt (pos 0) (side t.a t.b s.a) || int_lt (side s.a s.b t.a) (pos 0)
+
+abbrev pub ends_apart : Seg → Seg → Bool
+ends_apart s t = int_lt (pos 0) (side t.a t.b s.b) || int_lt (side s.a s.b t.b) (pos 0)
+
+-- the point is an end of the segment, or strictly at that side of it
+abbrev pub is_end_or_left : Seg → Point → Bool
+is_end_or_left s v = same_point v s.a || same_point v s.b || int_lt (pos 0) (side s.a s.b v)
+
+abbrev pub is_end_or_right : Seg → Point → Bool
+is_end_or_right s v = same_point v s.a || same_point v s.b || int_lt (side s.a s.b v) (pos 0)
+
+-- a vertical line meets both
+abbrev pub shares_line : Seg → Seg → Bool
+shares_line s t = int_le t.a.x s.b.x && int_le s.a.x t.b.x
 
 -- where two segments have ends in common
 abbrev pub same_ends : Seg → Seg → Shared

@@ -3,10 +3,9 @@ use Rattle.std.specs.Prelude.{◌≡◌, ℕ, ◌+◌, List, [], ◌∷◌, ◌+
 use Rattle.tgap_model.specs.declared.geometry.Seg.{Seg}
 use Rattle.tgap_model.specs.declared.segment.LabelledSegment.{LabelledSegment}
 use Rattle.tgap_model.specs.Partition.{Sides, sides}
-use Rattle.planar_sweep.specs.declared.events.Event.{Event}
 use Rattle.planar_sweep.specs.declared.line.Line.{Line}
 use Rattle.planar_sweep.specs.Faces.{gaps_from}
-use Rattle.planar_sweep.specs.Rows.{IsRow}
+use Rattle.planar_sweep.specs.Rows.{Change, IsRow}
 use Rattle.planar_sweep.specs.Line.{IsLineOf}
 
 -- the faces above and below each segment, and then those of the end, which is outside
@@ -28,8 +27,8 @@ pub record HasFaces (segs : List Seg) (faces : List (ℕ × ℕ)) : Type 0 where
 abbrev pub gaps_in : List (ℕ × ℕ) → List ℕ → ℕ
 gaps_in faces row = gaps_from 0 (map (sides_in faces) row)
 
--- The line between the events that are done and those ahead.
-pub record IsSwept (segs : List Seg) (faces : List (ℕ × ℕ)) (done ahead : List Event) (l : Line) (g : ℕ) : Type 0 where
+-- The line after some changes.
+pub record IsSwept (segs : List Seg) (faces : List (ℕ × ℕ)) (done : List Change) (l : Line) (g : ℕ) : Type 0 where
   pub line : IsLineOf segs l
-  pub row : IsRow segs done ahead l.row.row
+  pub row : IsRow segs done l.row.row
   pub gaps : g ≡ gaps_in faces l.row.row

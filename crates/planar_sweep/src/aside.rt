@@ -5,8 +5,9 @@ ghost use Rattle.std.specs.Prelude.{◌<◌, ◌^◌, length, Contains, IfOk, If
 ghost use Rattle.std.specs.List.{All};
 ghost use Rattle.planar_sweep.specs.Ends.{IsReady};
 ghost use Rattle.planar_sweep.specs.Line.{IsLineOf};
+ghost use Rattle.planar_sweep.specs.Rows.{changes};
 
-use crate::events::{Event, events_of};
+use crate::events::{Event, event_of, events_of};
 use crate::line::Line;
 use crate::marks::{Mark, is_fair_after, is_fair_to_next, marks_of};
 use std::alloc::Global;
@@ -60,7 +61,7 @@ pub fn ends_aside(
     Ok(())
 }
 
-/// A segment comes into the row, or is set aside where it does not fit there.
+/// A segment that is not set aside comes into the row, or is set aside where it does not fit there.
 fn come_or_aside(
     segs: &[Seg],
     line: &mut Line,
@@ -72,7 +73,10 @@ fn come_or_aside(
     requires number { number < length segs.now }
     ensures { IfOk result (λ _. IsLineOf segs.now line.new) }
 {
-    let found = line.come(segs, number)?;
+    if is_aside(aside, number) {
+        return Ok(());
+    }
+    let found = line.come(segs, number, None)?;
     if found.is_none() {
         set_aside(aside, number);
     }
@@ -125,20 +129,21 @@ fn leave_and_close(segs: &[Seg], line: &mut Line, number: u32, aside: &mut [bool
     close(segs, line, upper, aside);
 }
 
-/// The next event: a segment that is not set aside comes into the row or leaves it.
-fn pass(segs: &[Seg], event: &Event, line: &mut Line, aside: &mut [bool]) -> Result<(), Memory>
+/// The next event: segments that are not set aside come into the row or leave it.
+fn pass(segs: &[Seg], event: Event, line: &mut Line, aside: &mut [bool]) -> Result<(), Memory>
     requires ready { All (λ s. IsReady s) segs.now }
     requires line { IsLineOf segs.now line.old }
-    requires number { event.now.number < length segs.now }
+    requires known { All (λ c. c.number < length segs.now) (changes event) }
     ensures { IfOk result (λ _. IsLineOf segs.now line.new) }
 {
-    if is_aside(aside, event.number) {
-        return Ok(());
+    match event {
+        Event::Leaves { number } => leave_and_close(segs, line, number, aside),
+        Event::Comes { number } => come_or_aside(segs, line, number, aside)?,
+        Event::Passes { from, to } => {
+            leave_and_close(segs, line, from, aside);
+            come_or_aside(segs, line, to, aside)?;
+        }
     }
-    if event.comes {
-        return come_or_aside(segs, line, event.number, aside);
-    }
-    leave_and_close(segs, line, event.number, aside);
     Ok(())
 }
 
@@ -147,10 +152,10 @@ pub fn misfits_aside(alloc: Global, segs: &[Seg], aside: &mut [bool]) -> Result<
     requires ready { All (λ s. IsReady s) segs.now }
     requires few { length segs.now < 2 ^ 32 }
 {
-    let events = events_of(alloc, segs)?;
+    let keys = events_of(alloc, segs)?;
     let mut line = Line::of(alloc, segs.len() as u32)?;
-    for k in 0..events.len() {
-        pass(segs, &events[k], &mut line, aside)?;
+    for k in 0..keys.len() {
+        pass(segs, event_of(keys[k]), &mut line, aside)?;
     }
     Ok(())
 }

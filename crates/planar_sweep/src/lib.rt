@@ -1,7 +1,7 @@
 //! Whether segments meet nowhere but where they may, and whether the faces agree down each vertical line, by a line that
-//! sweeps the plane from left to right. It stands on `grid_geo`, which tells the side of a point and the common point of
-//! two segments, on `linked_row` and `chunked_row`, which keep what the line meets, on `planar_stack`, which says what
-//! it is that the faces agree, and on `tgap_model`, whose `Partition` defines which ends may share a point.
+//! sweeps the plane from left to right. It stands on `grid_geo`, which tells the side of a point, on `linked_row` and
+//! `chunked_row`, which keep what the line meets, on `planar_stack`, which says what it is that the faces agree, and on
+//! `tgap_model`, whose `Partition` defines which ends may share a point.
 #![tactic(auto)]
 
 ghost use Rattle.std.specs.Prelude.{◌≡◌, ◌<◌, ◌^◌, true, length, AllPairs, IfOk, IsTrue};
@@ -35,10 +35,11 @@ use tgap_model::{LabelledSegment, Memory};
 /// places are counted at which the face below a segment is not the face above the next one: there must be none where the
 /// line leaves an abscissa.
 ///
-/// A segment knows its neighbours in the row. The place of one that comes is guessed: beside the segments before and
-/// behind it in the list, or what came last, and else it is searched in a sample of the row. So the time is that of
-/// sorting, and for each segment at most a logarithm of the height of the row; the memory is a small multiple of the
-/// segments, and where it is wanting that is the answer. The sweep is that of Shamos and Hoey, 1976.
+/// A segment knows its neighbours in the row. One that begins where its neighbour in the list ends comes in its place, in
+/// one event. The place of any other one that comes is guessed: beside the segments before and behind it in the list, or
+/// what came last, and else it is searched in a sample of the row. So the time is that of sorting, and for each segment
+/// at most a logarithm of the height of the row; the memory is a small multiple of the segments, and where it is wanting,
+/// or the segments are 2^27 or more, that is the answer. The sweep is that of Shamos and Hoey, 1976.
 pub fn swept(alloc: Global, segments: &[LabelledSegment]) -> Result<Shown, Memory>
     requires proper { IsTrue (list_all is_proper segments.now) }
     requires few { length segments.now < 2 ^ 32 }

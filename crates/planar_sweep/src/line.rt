@@ -234,21 +234,46 @@ impl Line {
         }
     }
 
-    /// The node below which a segment may stand, and whether it belongs to the sample then.
-    fn node_for(&self, segs: &[Seg], number: u32) -> Option<(u32, bool)>
+    /// A number of the row, if a segment may stand below it.
+    fn node_at(&self, segs: &[Seg], number: u32, upper: u32) -> Option<u32>
+        requires ready { All (λ s. IsReady s) segs.now }
+        requires line { IsLineOf segs.now self.now }
+        requires number { number < length segs.now }
+        ensures { IfSome result (λ node. Fits segs.now self.now.row node number) }
+    {
+        if self.row.has(upper) && self.fits(segs, upper, number) {
+            Some(upper)
+        } else {
+            None
+        }
+    }
+
+    /// The node below which a segment may stand, and whether it belongs to the sample then. A number that stands over it is
+    /// a hint.
+    fn node_for(&self, segs: &[Seg], number: u32, hint: Option<u32>) -> Option<(u32, bool)>
         requires ready { All (λ s. IsReady s) segs.now }
         requires line { IsLineOf segs.now self.now }
         requires number { number < length segs.now }
         ensures { IfSome result (λ found. Fits segs.now self.now.row found.0 number) }
     {
-        match self.node_near(segs, number) {
+        let near = match hint {
+            Some(upper) => self.node_at(segs, number, upper),
+            None => self.node_near(segs, number),
+        };
+        match near {
             Some(node) => Some((node, false)),
             None => self.node_searched(segs, number),
         }
     }
 
-    /// A segment comes into the row, if it may stand where it belongs: below the node that is given.
-    pub fn come(&mut self, segs: &[Seg], number: u32) -> Result<Option<u32>, Memory>
+    /// A segment comes into the row, if it may stand where it belongs: below the node that is given. A number that
+    /// stands over it is a hint.
+    pub fn come(
+        &mut self,
+        segs: &[Seg],
+        number: u32,
+        hint: Option<u32>,
+    ) -> Result<Option<u32>, Memory>
         requires ready { All (λ s. IsReady s) segs.now }
         requires line { IsLineOf segs.now self.old }
         requires number { number < length segs.now }
@@ -258,7 +283,7 @@ impl Line {
         if self.row.has(number) {
             return Ok(None);
         }
-        let Some((upper, is_far)) = self.node_for(segs, number) else {
+        let Some((upper, is_far)) = self.node_for(segs, number, hint) else {
             return Ok(None);
         };
         self.sample.come(segs, number, is_far)?;

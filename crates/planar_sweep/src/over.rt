@@ -1,12 +1,12 @@
 //! Whether one segment may stand next above another in the row.
 
-ghost use Rattle.std.specs.Prelude.{◌≡◌, ◌<ℤ◌, pos, int_le, true, IsTrue};
-ghost use Rattle.tgap_model.specs.Base.{in_limits};
+ghost use Rattle.std.specs.Prelude.{◌≡◌, ◌<ℤ◌, ◌||◌, pos, int_le, true, IsTrue};
+ghost use Rattle.tgap_model.specs.Base.{in_limits, same_point};
 ghost use Rattle.tgap_model.specs.Point.{side};
-ghost use Rattle.planar_sweep.specs.Over.{is_slanted, starts_over, ends_over, is_over, same_ends, MeetAtEnds, StandsOver};
+ghost use Rattle.planar_sweep.specs.Over.{is_slanted, starts_over, ends_over, is_over, starts_apart, ends_apart, is_end_or_left, is_end_or_right, shares_line, StandsOver};
 ghost use Rattle.planar_sweep.specs.Ends.{IsReady};
 
-use grid_geo::{Shared, common_point, side};
+use grid_geo::side;
 use tgap_model::{Point, Seg};
 
 /// Whether a forward segment goes to the right.
@@ -100,16 +100,11 @@ pub fn is_over_at_line(s: Seg, t: Seg) -> bool
     is_over(s, t)
 }
 
-/// Where two segments have ends in common.
-fn same_ends(s: Seg, t: Seg) -> Shared
-    ensures { result ≡ same_ends s t }
+/// Whether a vertical line meets both segments.
+fn shares_line(s: Seg, t: Seg) -> bool
+    ensures { result ≡ shares_line s t }
 {
-    Shared {
-        aa: s.a == t.a,
-        ab: s.a == t.b,
-        ba: s.b == t.a,
-        bb: s.b == t.b,
-    }
+    t.a.x <= s.b.x && s.a.x <= t.b.x
 }
 
 /// Whether both ends of the first segment are higher than both of the second.
@@ -119,13 +114,91 @@ fn is_higher(s: Seg, t: Seg) -> bool
     t.a.y.max(t.b.y) < s.a.y.min(s.b.y)
 }
 
-/// Whether two segments have no point in common but ends of both. Mostly the ordinates tell.
-fn meet_at_ends(s: Seg, t: Seg) -> bool
+/// Whether a point is an end of a segment, or at its left.
+fn is_end_or_left(s: Seg, v: Point) -> bool
+    requires s { IsReady s }
+    requires v { IsTrue (in_limits v) }
+    ensures { result ≡ is_end_or_left s v }
+{
+    v == s.a || v == s.b || 0 < side(s.a, s.b, v)
+}
+
+/// Whether a point is an end of a segment, or at its right.
+fn is_end_or_right(s: Seg, v: Point) -> bool
+    requires s { IsReady s }
+    requires v { IsTrue (in_limits v) }
+    ensures { result ≡ is_end_or_right s v }
+{
+    v == s.a || v == s.b || side(s.a, s.b, v) < 0
+}
+
+/// Whether the later start of two slanted segments shows the first one strictly over the second.
+fn starts_apart(s: Seg, t: Seg) -> bool
     requires s { IsReady s }
     requires t { IsReady t }
-    ensures { result ≡ true → MeetAtEnds s t }
+    ensures { result ≡ true → starts_apart s t ≡ true }
 {
-    is_higher(s, t) || common_point(s, t, same_ends(s, t)).is_none()
+    if t.a.x <= s.a.x {
+        0 < side(t.a, t.b, s.a)
+    } else {
+        side(s.a, s.b, t.a) < 0
+    }
+}
+
+/// Whether the earlier end of two slanted segments shows the first one strictly over the second.
+fn ends_apart(s: Seg, t: Seg) -> bool
+    requires s { IsReady s }
+    requires t { IsReady t }
+    ensures { result ≡ true → ends_apart s t ≡ true }
+{
+    if s.b.x <= t.b.x {
+        0 < side(t.a, t.b, s.b)
+    } else {
+        side(s.a, s.b, t.b) < 0
+    }
+}
+
+/// Whether one of two segments ends where the other begins.
+fn are_end_to_start(s: Seg, t: Seg) -> bool
+    ensures { result ≡ (same_point s.b t.a || same_point t.b s.a) }
+{
+    s.b == t.a || t.b == s.a
+}
+
+/// Whether a slanted segment may stand next above another one, where a vertical line meets both: they have no more in
+/// common than the end of one that is the start of the other, or the first is strictly over the second from the later
+/// start to the earlier end, but for a common start or a common end.
+fn slanted_stands_over(s: Seg, t: Seg) -> bool
+    requires s { IsReady s }
+    requires t { IsReady t }
+    requires slanted_s { IsTrue (is_slanted s) }
+    requires slanted_t { IsTrue (is_slanted t) }
+    ensures { result ≡ true → StandsOver s t }
+{
+    if are_end_to_start(s, t) {
+        return true;
+    }
+    if s.a == t.a {
+        ends_apart(s, t)
+    } else if s.b == t.b {
+        starts_apart(s, t)
+    } else {
+        starts_apart(s, t) && ends_apart(s, t)
+    }
+}
+
+/// Whether the first segment may stand next above the second, where a vertical line meets both.
+fn stands_over_at_line(s: Seg, t: Seg) -> bool
+    requires s { IsReady s }
+    requires t { IsReady t }
+    ensures { result ≡ true → StandsOver s t }
+{
+    match (is_slanted(s), is_slanted(t)) {
+        (true, true) => slanted_stands_over(s, t),
+        (true, false) => is_end_or_right(s, t.b),
+        (false, true) => is_end_or_left(t, s.a),
+        (false, false) => t.b.y <= s.a.y,
+    }
 }
 
 /// Whether the first segment may stand next above the second.
@@ -134,5 +207,8 @@ pub fn stands_over(s: Seg, t: Seg) -> bool
     requires t { IsReady t }
     ensures { result ≡ true → StandsOver s t }
 {
-    is_over(s, t) && meet_at_ends(s, t)
+    if !shares_line(s, t) {
+        return is_over(s, t);
+    }
+    is_higher(s, t) || stands_over_at_line(s, t)
 }

@@ -5,13 +5,13 @@ ghost use Rattle.std.specs.List.{All};
 ghost use Rattle.tgap_model.specs.Partition.{AreApart};
 ghost use Rattle.planar_stack.specs.Sweep.{FacesAgree};
 ghost use Rattle.planar_sweep.specs.Over.{forward};
-ghost use Rattle.planar_sweep.specs.Rows.{IsEventOf, AreEvents, HasCome, HasLeft};
+ghost use Rattle.planar_sweep.specs.Rows.{Moment, moment_of, changes_of, AreEvents, HasCome, HasLeft, HasPassed};
 ghost use Rattle.planar_sweep.specs.Ends.{IsReady, swept, EndsAgree};
 ghost use Rattle.planar_sweep.specs.Faces.{AreOfOneColumn};
 ghost use Rattle.planar_sweep.specs.Line.{IsLineOf};
 ghost use Rattle.planar_sweep.specs.Swept.{HasFaces, gaps_in, IsSwept};
 
-use crate::events::{Event, events_of};
+use crate::events::{Event, column_of, event_of, events_of};
 use crate::faces::{differ, faces_of};
 use crate::line::Line;
 use std::alloc::Global;
@@ -43,13 +43,14 @@ pub fn forward_of(alloc: Global, segments: &[LabelledSegment]) -> Result<Vec<Seg
     Ok(segs)
 }
 
-/// A segment comes, if it may stand where it belongs, and the places at which the faces differ are counted anew there.
+/// A segment comes, if it may stand where it belongs, for which there may be a hint, and the places at which the faces differ are counted anew there.
 fn come(
     segs: &[Seg],
     faces: &[(u32, u32)],
     line: &mut Line,
     gaps: &mut usize,
     number: u32,
+    hint: Option<u32>,
 ) -> Result<bool, Memory>
     requires ready { All (λ s. IsReady s) segs.now }
     requires line { IsLineOf segs.now line.old }
@@ -60,7 +61,7 @@ fn come(
     ensures { IfOk result (λ fits. fits ≡ true → IsLineOf segs.now line.new
         × HasCome segs.now number line.old.row.row line.new.row.row × (gaps.new ≡ gaps_in faces.now line.new.row.row)) }
 {
-    let Some(upper) = line.come(segs, number)? else {
+    let Some(upper) = line.come(segs, number, hint)? else {
         return Ok(false);
     };
     let lower = line.row.below(number);
@@ -94,57 +95,69 @@ fn leave(segs: &[Seg], faces: &[(u32, u32)], line: &mut Line, gaps: &mut usize, 
     true
 }
 
-/// The next event: a segment comes into the row or leaves it.
+/// A segment comes in the place of another one, and the places are counted anew there.
+fn pass(
+    segs: &[Seg],
+    faces: &[(u32, u32)],
+    line: &mut Line,
+    gaps: &mut usize,
+    from: u32,
+    to: u32,
+) -> Result<bool, Memory>
+    requires ready { All (λ s. IsReady s) segs.now }
+    requires line { IsLineOf segs.now line.old }
+    requires from { from < length segs.now }
+    requires to { to < length segs.now }
+    requires faces { HasFaces segs.now faces.now }
+    requires few { length line.old.row.row + 1 < 2 ^ 32 }
+    requires gaps { gaps.old ≡ gaps_in faces.now line.old.row.row }
+    ensures { IfOk result (λ fits. fits ≡ true → IsLineOf segs.now line.new
+        × HasPassed segs.now from to line.old.row.row line.new.row.row × (gaps.new ≡ gaps_in faces.now line.new.row.row)) }
+{
+    let came = come(segs, faces, line, gaps, to, Some(from))?;
+    Ok(came && leave(segs, faces, line, gaps, from))
+}
+
+/// The next event: a segment comes into the row or leaves it, or one comes in the place of another.
 fn step(
     segs: &[Seg],
     faces: &[(u32, u32)],
-    events: &[Event],
+    keys: &[u64],
     k: usize,
     line: &mut Line,
     gaps: &mut usize,
 ) -> Result<bool, Memory>
     requires ready { All (λ s. IsReady s) segs.now }
-    requires few { length segs.now < 2 ^ 32 }
-    requires events { AreEvents segs.now events.now }
-    requires inside { k < length events.now }
+    requires few { length segs.now + 1 < 2 ^ 32 }
+    requires events { AreEvents segs.now (map moment_of keys.now) }
+    requires inside { k < length keys.now }
     requires faces { HasFaces segs.now faces.now }
-    requires swept { IsSwept segs.now faces.now (take k events.now) (drop k events.now) line.old gaps.old }
-    ensures { IfOk result (λ fits. fits ≡ true → IsSwept segs.now faces.now (take (k + 1) events.now) (drop (k + 1) events.now) line.new gaps.new) }
+    requires swept { IsSwept segs.now faces.now (changes_of (take k (map moment_of keys.now))) line.old gaps.old }
+    ensures { IfOk result (λ fits. fits ≡ true → IsSwept segs.now faces.now (changes_of (take (k + 1) (map moment_of keys.now))) line.new gaps.new) }
 {
-    let event = &events[k];
-    if event.comes {
-        come(segs, faces, line, gaps, event.number)
-    } else {
-        Ok(leave(segs, faces, line, gaps, event.number))
+    match event_of(keys[k]) {
+        Event::Leaves { number } => Ok(leave(segs, faces, line, gaps, number)),
+        Event::Comes { number } => come(segs, faces, line, gaps, number, None),
+        Event::Passes { from, to } => pass(segs, faces, line, gaps, from, to),
     }
 }
 
-/// The abscissa of an event.
-fn abscissa(segs: &[Seg], event: &Event) -> i64
-    requires real { IsEventOf segs.now event.now }
-    ensures from { (pos 4 *ℤ result) ≤ℤ event.now.time }
-    ensures to { event.now.time ≤ℤ (pos 4 *ℤ result +ℤ pos 3) }
-{
-    let s = segs[event.number as usize];
-    if event.comes { s.a.x } else { s.b.x }
-}
-
 /// Whether the event after the one at a place has the same abscissa.
-fn goes_on(segs: &[Seg], events: &[Event], k: usize) -> bool
-    requires events { AreEvents segs.now events.now }
-    requires inside { k < length events.now }
-    ensures { (d : Event) → result ≡ true → (k + 1 < length events.now) × AreOfOneColumn (get_or events.now k d).time (get_or events.now (k + 1) d).time }
+fn goes_on(keys: &[u64], k: usize) -> bool
+    requires inside { k < length keys.now }
+    ensures { (d : Moment) → result ≡ true → (k + 1 < length (map moment_of keys.now))
+        × AreOfOneColumn (get_or (map moment_of keys.now) k d).time (get_or (map moment_of keys.now) (k + 1) d).time }
 {
-    1 < events.len() - k && abscissa(segs, &events[k]) == abscissa(segs, &events[k + 1])
+    1 < keys.len() - k && column_of(keys[k]) == column_of(keys[k + 1])
 }
 
 /// Whether after the event at a place no faces differ, or the next event has the same abscissa.
-fn agrees_behind(segs: &[Seg], events: &[Event], k: usize, gaps: usize) -> bool
-    requires events { AreEvents segs.now events.now }
-    requires inside { k < length events.now }
-    ensures { (d : Event) → result ≡ true → (gaps ≡ 0) ⊎ ((k + 1 < length events.now) × AreOfOneColumn (get_or events.now k d).time (get_or events.now (k + 1) d).time) }
+fn agrees_behind(keys: &[u64], k: usize, gaps: usize) -> bool
+    requires inside { k < length keys.now }
+    ensures { (d : Moment) → result ≡ true → (gaps ≡ 0) ⊎ ((k + 1 < length (map moment_of keys.now))
+        × AreOfOneColumn (get_or (map moment_of keys.now) k d).time (get_or (map moment_of keys.now) (k + 1) d).time) }
 {
-    gaps == 0 || goes_on(segs, events, k)
+    gaps == 0 || goes_on(keys, k)
 }
 
 /// What a line shows that passes over all segments and compares those that become neighbours.
@@ -161,19 +174,19 @@ pub fn sweep_over(
     ensures agree { IfOk result (λ shown. shown.agree ≡ true → FacesAgree segments.now) }
 {
     let faces = faces_of(alloc, segments)?;
-    let events = events_of(alloc, segs)?;
+    let keys = events_of(alloc, segs)?;
     let mut line = Line::of(alloc, segs.len() as u32)?;
     let mut gaps = 0;
     let mut agree = true;
-    for k in 0..events.len() {
-        let fits = step(segs, &faces, &events, k, &mut line, &mut gaps)?;
+    for k in 0..keys.len() {
+        let fits = step(segs, &faces, &keys, k, &mut line, &mut gaps)?;
         if !fits {
             return Ok(Shown {
                 apart: false,
                 agree: false,
             });
         }
-        agree = agree && agrees_behind(segs, &events, k, gaps);
+        agree = agree && agrees_behind(&keys, k, gaps);
     }
     Ok(Shown { apart: true, agree })
 }

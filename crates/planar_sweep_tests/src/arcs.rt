@@ -11,7 +11,7 @@ const M: i64 = MAX_COORDINATE;
 #[test]
 fn arcs_that_meet_only_at_their_ends_are_apart(rt: HostRuntime) -> Result<(), Fail> {
     let alloc = rt.alloc();
-    let cases: [(&str, &[(u32, i64, i64)]); 13] = [
+    let cases: [(&str, &[(u32, i64, i64)]); 18] = [
         ("none", &[]),
         ("one", &[(0, 0, 0), (0, 3, 4)]),
         (
@@ -74,6 +74,56 @@ fn arcs_that_meet_only_at_their_ends_are_apart(rt: HostRuntime) -> Result<(), Fa
             "along the plane",
             &[(0, -M, -M), (0, M, M), (1, -M, 1 - M), (1, M - 1, M)],
         ),
+        (
+            "to the right and to the left, over each other",
+            &[
+                (0, 0, 9),
+                (0, 5, 8),
+                (0, 10, 9),
+                (0, 15, 8),
+                (1, 15, 0),
+                (1, 10, 2),
+                (1, 5, 1),
+                (1, 0, 2),
+            ],
+        ),
+        (
+            "one that begins where those beside it in the list end",
+            &[
+                (0, 0, 9),
+                (0, 5, 5),
+                (1, 5, 5),
+                (1, 10, 5),
+                (2, 0, 1),
+                (2, 5, 5),
+            ],
+        ),
+        (
+            "one that ends where those beside it in the list begin",
+            &[
+                (0, 5, 5),
+                (0, 10, 9),
+                (1, 0, 5),
+                (1, 5, 5),
+                (2, 5, 5),
+                (2, 10, 1),
+            ],
+        ),
+        (
+            "one that goes on below one that begins there",
+            &[
+                (0, 0, 5),
+                (0, 5, 5),
+                (1, 5, 5),
+                (1, 10, 1),
+                (2, 5, 5),
+                (2, 10, 9),
+            ],
+        ),
+        (
+            "a turn at the right and one at the left",
+            &[(0, 0, 0), (0, 10, 1), (0, 1, 2), (0, 11, 3)],
+        ),
     ];
     for (name, rows) in cases {
         let segments = segments_of(alloc, rows)?;
@@ -86,7 +136,7 @@ fn arcs_that_meet_only_at_their_ends_are_apart(rt: HostRuntime) -> Result<(), Fa
 #[test]
 fn arcs_that_meet_elsewhere_are_not(rt: HostRuntime) -> Result<(), Fail> {
     let alloc = rt.alloc();
-    let cases: [(&str, &[(u32, i64, i64)]); 16] = [
+    let cases: [(&str, &[(u32, i64, i64)]); 18] = [
         (
             "two that cross",
             &[(0, 0, 0), (0, 10, 10), (1, 0, 10), (1, 10, 0)],
@@ -94,6 +144,14 @@ fn arcs_that_meet_elsewhere_are_not(rt: HostRuntime) -> Result<(), Fail> {
         (
             "an end within another",
             &[(0, 0, 0), (0, 10, 10), (1, 5, 5), (1, 9, 0)],
+        ),
+        (
+            "what goes on to the right crosses what is below",
+            &[(0, 0, 5), (0, 5, 5), (0, 10, 0), (1, 0, 1), (1, 10, 2)],
+        ),
+        (
+            "what goes on to the left crosses what is above",
+            &[(0, 10, 5), (0, 5, 0), (0, 0, 0), (1, 0, 3), (1, 10, 3)],
         ),
         (
             "one and the same",

@@ -1,12 +1,14 @@
--- The number of an event is that of a segment.
-use Rattle.std.proofs.Common.{◌<◌, length, sym, subst, arith}
-use Rattle.planar_sweep.specs.declared.events.Event.{Event}
-use Rattle.planar_sweep.proofs.EventFacts.{events_real}
+-- The segments of an event are some of the segments.
+use Rattle.std.proofs.Common.{◌<◌, length, sym, ap, ◌∙◌, arith}
+use Rattle.std.proofs.lemmas.List.{get_or_default}
+use Rattle.planar_sweep.specs.Rows.{event_of}
+use Rattle.planar_sweep.proofs.EventSteps.{changes_known}
 use Rattle.planar_sweep.proofs.aside.misfits_aside.Goals as goal
 
-pub pass-requires-clause-number : goal.pass-requires-clause-number
-pass-requires-clause-number c =
-    let segs = c.args.segs.now in
-    let events = c.in_ok-events.events.items in
-    let short : c.loop-k.k < length events = omega (arith, c.loop-k-test.true, c.len-k-end.ensures, c.in_ok-events.events.ok.0) in
-    subst (λ (e : Event). e.number < length segs) (sym c.index.ensures) (events_real segs events c.in_ok-events.ensures c.loop-k.k c.index.result.now short).known
+pub pass-requires-clause-known : goal.pass-requires-clause-known
+pass-requires-clause-known c =
+    let keys = c.in_ok-keys.keys.items in
+    let key = c.index.result.now in
+    let short : c.loop-k.k < length keys = omega (arith, c.loop-k-test.true, c.len-k-end.ensures, c.in_ok-keys.keys.ok.0) in
+    changes_known c.args.segs.now keys c.in_ok-keys.ensures.events c.loop-k.k short c.event_of.result
+    (ap event_of (get_or_default keys c.loop-k.k 0 key short ∙ sym c.index.ensures) ∙ sym c.event_of.ensures)

@@ -1,21 +1,12 @@
--- All segments have come and left, and sorting orders the times.
-use Rattle.std.proofs.Common.{rules, ◌++◌, List, length, map, ap, ◌∙◌, subst, IsPermutation}
-use Rattle.std.specs.List.{range_with_len}
-use Rattle.std.proofs.lemmas.Fn.{always_returns_same}
-use Rattle.lemmas.proofs.Ascending.{ascending_by_key}
-use Rattle.planar_sweep.specs.declared.events.Event.{Event}
-use Rattle.planar_sweep.specs.Rows.{coming, leaving}
+-- The keys are those that are listed, in their order.
+use Rattle.std.proofs.Common.{ℕ, List, IsPermutation, subst, arith}
+use Rattle.std.proofs.lemmas.List.Sorted.{IsNonDecreasingBy-from_sort}
+use Rattle.planar_sweep.proofs.EventKeys.{are_events}
 use Rattle.planar_sweep.proofs.events.events_of.Goals as goal
 
-pub returns : goal.returns
-returns c =
-    let segs = c.args.segs.now in
-    let events = c.sort_by_key.new.self.items in
-    let all_come = map (coming segs) (range_with_len 0 (length segs)) in
-    let all_leave = map (leaving segs) (range_with_len 0 (length segs)) in
-    record {
-      moved = subst (λ (es : List Event). IsPermutation es events)
-          (c.in_ok-push_leaving.ensures ∙ ap (λ (es : List Event). es ++ all_leave) (c.in_ok-push_coming.ensures ∙ ap (λ (es : List Event). es ++ all_come) c.in_ok-events.ensures.items))
-          c.in_ok-sort_by_key.ensures.permutation;
-      ascend = ascending_by_key (λ e. e.time) _ (c.in_ok-sort_by_key.ensures.sorted (λ e. e.time) (always_returns_same _ _ _ (λ a r f' k. search rules)));
-    }
+pub returns-clause-events : goal.returns-clause-events
+returns-clause-events c =
+    let keys = c.sort_unstable.new.self.items in
+    are_events c.args.segs.now c.requires.near (omega (arith, c.if-segs-ge-NUMBERS.false)) keys
+    (subst (λ (ns : List ℕ). IsPermutation ns keys) c.in_ok-keys.ensures c.sort_unstable.ensures.permutation)
+    (IsNonDecreasingBy-from_sort (λ n. n) keys c.sort_unstable.ensures.sorted)

@@ -1,8 +1,8 @@
 -- What came has its place, and the places at which the faces differ are counted there.
-use Rattle.std.proofs.Common.{◌≡◌, ◌+◌, ℕ, length, get_or, IfSome, Option, ap, ◌∙◌, subst, arith}
+use Rattle.std.proofs.Common.{◌≡◌, ◌+◌, ℕ, length, get_or, IfSome, Option, inr, ap, ◌∙◌, subst, arith}
 use Rattle.planar_sweep.specs.Line.{CameBelow}
 use Rattle.planar_sweep.specs.Swept.{gaps_in}
-use Rattle.planar_sweep.proofs.Nodes.{upper_bound, has_come, lower_now, upper_now, within_now}
+use Rattle.planar_sweep.proofs.Nodes.{upper_bound, has_come, member_now, lower_now, upper_now, within_now}
 use Rattle.planar_sweep.proofs.GapCounts.{counted_come, counted_few, differ_few}
 use Rattle.planar_sweep.proofs.sweep.come.Goals as goal
 
@@ -24,6 +24,11 @@ sum c =
     ∙ lower_now segs old new c.args.number count known c.in-Some.upper in_place c.in_ok-upper.ensures.line.count in
     let counted = counted_come segs faces c.requires.faces old count in_place.place c.args.number c.in-Some.upper c.below-lower.result in_place.within in_place.there lower in
     omega (arith, counted, ap (gaps_in faces) in_place.placed, c.differ.ensures, c.differ-2.ensures, c.differ-3.ensures, c.requires.gaps)
+
+pub below-lower-requires : goal.below-lower-requires
+below-lower-requires c =
+    let in_place = subst (λ (o : Option ℕ). IfSome o (λ upper. CameBelow c.args.segs.now c.args.number upper c.args.line.now.row c.come.new.self.row)) c.in-Some.is c.in_ok-upper.ensures.came in
+    inr (member_now c.args.segs.now c.args.line.now.row c.come.new.self.row c.args.number c.requires.line.count c.requires.line.known c.in-Some.upper in_place)
 
 pub overflow_add-gaps : goal.overflow_add-gaps
 overflow_add-gaps c =
