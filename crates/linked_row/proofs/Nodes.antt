@@ -1,11 +1,12 @@
 -- The nodes of a row and their neighbours.
-use Rattle.std.proofs.Common.{◌≡◌, ⊎_elim, inl, inr, ℕ, zero, suc, ◌+◌, ◌-◌, ◌<◌, ◌≤◌, ◌^◌, not, IsTrue, eqb, replicate, List, [], ◌∷◌, length, get_or, All, Contains, refl, sym, ap, ◌∙◌, subst, arith}
-use Rattle.std.specs.List.{IsDistinct}
+use Rattle.std.proofs.Common.{◌≡◌, ⊎_elim, inl, inr, ℕ, zero, suc, ◌+◌, ◌-◌, ◌<◌, ◌≤◌, ◌^◌, not, IsTrue, eqb, List, [], ◌∷◌, map, length, get_or, Contains, refl, sym, ap, ◌∙◌, subst, arith}
+use Rattle.std.specs.List.{IsDistinct, range_with_len}
 use Rattle.std.proofs.lemmas.Bool.{cases_lt, eq-eqb, ne_eqb, true≢false}
-use Rattle.std.proofs.lemmas.List.{get_or_default, get_or_append_left, get_or_push, length_push, get_or-replicate, length-replicate}
+use Rattle.std.proofs.lemmas.List.{get_or_default, get_or_append_left, get_or_push, length_push, get_or-map, length-map}
 use Rattle.std.proofs.lemmas.List.Edits.{insert_end}
-use Rattle.std.proofs.lemmas.List.Elements.{All-replicate}
-use Rattle.linked_row.specs.Linked.{Linked, AreLinks, IsNode, uppers, lowers, next_below, linked_by}
+use Rattle.std.proofs.lemmas.List.FromFn.{length-map-range_with_len, get_or-map-range_with_len}
+use Rattle.linked_row.specs.declared.links.Node.{Node}
+use Rattle.linked_row.specs.Linked.{Linked, AreLinks, IsNode, uppers, lowers, next_below, linked_by, lone, aboves, belows}
 use Rattle.linked_row.proofs.Neighbours.{AreApart, IsNew}
 use Rattle.linked_row.proofs.Distinct.{are_apart, distinct_cons, distinct_insert}
 
@@ -143,25 +144,32 @@ module _ (above below : List ℕ) (l : Linked) (is : AreLinks above below l) whe
 
 -- ---- no number
 
-pub empty_links : (above below : List ℕ) (count : ℕ) → count < 2 ^ 32 → above ≡ replicate (count + 1) count → length below ≡ count + 1 → ((k : ℕ) → k < count + 1 → get_or below k 0 ≡ k)
-    → AreLinks above below (record { count = count; row = [] })
+pub empty_links : (nodes : List Node) (count : ℕ) → count < 2 ^ 32 → nodes ≡ map (lone count) (range_with_len 0 (count + 1)) → AreLinks (aboves nodes) (belows nodes) (record { count = count; row = [] })
 unfolding IsDistinct
-empty_links above below count few are size numbers = record {
-  above_length = ap length are ∙ length-replicate (count + 1) count;
-  below_length = size;
+empty_links nodes count few are = record {
+  above_length = size (λ (n : Node). n.above);
+  below_length = size (λ (n : Node). n.below);
   few = few;
   differ = tt;
   known = λ k d less. absurd (omega arith);
   down = down;
   up = up;
-  free = λ n less. inr (numbers n (omega (arith, less)));
-  bound = subst (λ zs. All (λ n. n ≤ count) zs) (sym are) (All-replicate (λ n. n ≤ count) (count + 1) count (omega arith));
+  free = λ n less. inr (entry (λ (m : Node). m.below) n 0 (omega (arith, less)));
+  bound = λ k d less. omega (arith, entry (λ (n : Node). n.above) k d (omega (arith, less, size (λ (n : Node). n.above))));
 }
   where
-    down : (k : ℕ) → k ≤ 0 → get_or below (get_or (count ∷ []) k 0) 0 ≡ get_or (count ∷ []) k 0
-    down zero le = numbers count (omega arith)
+    size : (f : Node → ℕ) → length (map f nodes) ≡ count + 1
+    size f = length-map nodes f ∙ ap length are ∙ length-map-range_with_len (lone count) 0 (count + 1)
+
+    entry : (f : Node → ℕ) (k d : ℕ) → k < count + 1 → get_or (map f nodes) k d ≡ f (lone count k)
+    entry f k d less = get_or-map f nodes k (lone count 0) d (omega (arith, less, length-map nodes f, size f))
+        ∙ ap (λ (ns : List Node). f (get_or ns k (lone count 0))) are
+        ∙ ap f (get_or-map-range_with_len (lone count) 0 (count + 1) k k (lone count 0) less (omega arith))
+
+    down : (k : ℕ) → k ≤ 0 → get_or (belows nodes) (get_or (count ∷ []) k 0) 0 ≡ get_or (count ∷ []) k 0
+    down zero le = entry (λ (n : Node). n.below) count 0 (omega arith)
     down (suc k) le = absurd (omega arith)
 
-    up : (k : ℕ) → k ≤ 0 → get_or above (get_or (count ∷ []) k 0) 0 ≡ get_or (count ∷ []) k 0
-    up zero le = ap (λ (zs : List ℕ). get_or zs count 0) are ∙ get_or-replicate (count + 1) count count 0 (omega arith)
+    up : (k : ℕ) → k ≤ 0 → get_or (aboves nodes) (get_or (count ∷ []) k 0) 0 ≡ get_or (count ∷ []) k 0
+    up zero le = entry (λ (n : Node). n.above) count 0 (omega arith)
     up (suc k) le = absurd (omega arith)

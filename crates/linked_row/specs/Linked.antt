@@ -1,6 +1,7 @@
 -- Rows of different numbers below a count, and the links between neighbours.
-use Rattle.std.specs.Prelude.{◌⊎◌, ◌≡◌, ◌<◌, ◌≤◌, ◌+◌, ◌-◌, ◌^◌, ◌==◌, ℕ, zero, suc, List, [], ◌∷◌, ◌++◌, length, get_or, All}
+use Rattle.std.specs.Prelude.{◌⊎◌, ◌≡◌, ◌<◌, ◌≤◌, ◌+◌, ◌-◌, ◌^◌, ◌==◌, ℕ, zero, suc, List, [], ◌∷◌, ◌++◌, map, length, get_or, All}
 use Rattle.std.specs.List.{Contains, IsDistinct}
+use Rattle.linked_row.specs.declared.links.Node.{Node}
 
 -- Different numbers below a count, in a row.
 pub record Linked : Type 0 where
@@ -17,6 +18,17 @@ lowers l = l.row ++ l.count ∷ []
 -- a number of the row, or the end
 abbrev pub IsNode : Linked → ℕ → Type 0
 IsNode l n = (n ≡ l.count) ⊎ Contains l.row n
+
+-- an entry that nothing was linked to: the end stands above it, and itself below
+abbrev pub lone : ℕ → ℕ → Node
+lone end number = record { above = end; below = number }
+
+-- what stands above each node, and what below
+abbrev pub aboves : List Node → List ℕ
+aboves nodes = map (λ (n : Node). n.above) nodes
+
+abbrev pub belows : List Node → List ℕ
+belows nodes = map (λ (n : Node). n.below) nodes
 
 -- the next so many numbers below one, where each has its neighbour below in a list
 unfoldable pub next_below : List ℕ → ℕ → ℕ → List ℕ
