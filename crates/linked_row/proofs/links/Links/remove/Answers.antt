@@ -3,9 +3,20 @@ use Rattle.std.proofs.lemmas.List.{length-map}
 use Rattle.linked_row.specs.declared.links.Node.{Node}
 use Rattle.linked_row.specs.Linked.{Linked, aboves, belows}
 use Rattle.linked_row.proofs.Entries.{above_read, below_read, below_written}
-use Rattle.linked_row.proofs.Nodes.{opened, node_within, read_below}
+use Rattle.linked_row.proofs.Nodes.{opened, node_within, read_above, read_below}
 use Rattle.linked_row.proofs.Changes.{removed, countable_row}
 use Rattle.linked_row.proofs.links.Links.remove.Goals as goal
+
+pub join-requires-clause-upper : goal.join-requires-clause-upper
+join-requires-clause-upper c =
+    let nodes = c.self.inside.nodes.items in
+    let above = aboves nodes in
+    let below = belows nodes in
+    let l = c.args.self.now in
+    let is = opened above below c.self.inside.len l c.self.invariant c.self.view_is in
+    let upper = c.index.result.now.above in
+    let node = read_above above below l is.0 c.args.number upper (inr c.requires) (above_read nodes c.args.number c.index.result.now c.index.ensures) in
+    omega (arith, node_within above below l is.0 upper node, is.0.above_length, length-map nodes (λ (n : Node). n.above))
 
 pub join-requires-clause-lower : goal.join-requires-clause-lower
 join-requires-clause-lower c =
