@@ -1,5 +1,5 @@
 -- The listed keys give each segment both its changes, each at its time, and in the order of the keys these times ascend.
-use Rattle.std.proofs.Common.{◌≡◌, ⊎_elim, ℕ, zero, suc, ◌+◌, ◌*◌, ◌-◌, ◌/◌, ◌%◌, ◌<◌, ◌≤◌, Bool, true, false, cond, nat_lt, ◌&&◌, ◌||◌, not, List, [], ◌∷◌, ◌++◌, length, map, flat_map, get_or, All, Contains, IsPermutation, ℤ, pos, neg_ℤ, ◌+ℤ◌, ◌-ℤ◌, ◌*ℤ◌, ◌≤ℤ◌, unsigned_abs, refl, sym, ap, ◌∙◌, subst, subst₂, arith}
+use Rattle.std.proofs.Common.{◌≡◌, ⊎_elim, ℕ, zero, suc, ◌+◌, ◌*◌, ◌-◌, ◌/◌, ◌%◌, ◌<◌, ◌≤◌, Bool, true, false, cond, nat_lt, ◌&&◌, List, [], ◌∷◌, ◌++◌, length, map, flat_map, get_or, All, Contains, IsPermutation, ℤ, pos, neg_ℤ, ◌+ℤ◌, ◌-ℤ◌, ◌*ℤ◌, ◌≤ℤ◌, unsigned_abs, refl, sym, ap, ◌∙◌, subst, subst₂, arith}
 use Rattle.std.specs.List.{range_with_len}
 use Rattle.std.specs.List.Sorted.{IsNonDecreasingBy}
 use Rattle.std.proofs.lemmas.Int.{ints}
@@ -11,15 +11,18 @@ use Rattle.std.proofs.lemmas.List.Sorted.{All-permutation, Contains-permutation}
 use Rattle.lemmas.proofs.Members.{All-from_members, Contains-flat_map, Contains-from_flat_map, Contains-map, in_head, in_tail, in_cases, in_none}
 use Rattle.tgap_model.specs.declared.geometry.Point.{Point}
 use Rattle.tgap_model.specs.declared.geometry.Seg.{Seg}
+use Rattle.tgap_model.specs.declared.segment.LabelledSegment.{LabelledSegment}
 use Rattle.tgap_model.specs.Base.{same_point}
 use Rattle.tgap_model.specs.Bounds.{HasNearEnds}
+use Rattle.tgap_model.specs.Partition.{follows}
 use Rattle.tgap_model.proofs.Points.{same_point-true}
 use Rattle.planar_sweep.specs.declared.events.Event.{Event}
 use Rattle.planar_sweep.specs.declared.events.Link.{Link}
 use Rattle.planar_sweep.specs.Over.{is_slanted}
 use Rattle.planar_sweep.specs.Times.{time_in, time_out}
 use Rattle.planar_sweep.specs.Rows.{no_seg, seg_at, Change, coming, leaving, changes, event_at, event_of, key_time, Moment, moment_of, changes_of, IsChangeAt, AreEvents}
-use Rattle.planar_sweep.specs.EventKeys.{key_of, leads, is_onward, is_back, link_at, link_before, coming_keys, leaving_keys, onward_keys, back_keys, own_keys, listed_keys}
+use Rattle.planar_sweep.specs.Ends.{segment_at}
+use Rattle.planar_sweep.specs.EventKeys.{is_followed, key_of, leads, is_onward, is_back, link_at, link_before, coming_keys, leaving_keys, onward_keys, back_keys, own_keys, listed_keys}
 
 -- ---- lists
 
@@ -119,7 +122,7 @@ leads_on segs m n h =
 
 -- ---- all keys
 
-module _ (segs : List Seg) (near : All (λ s. HasNearEnds s) segs) (few : length segs < 134217728) where
+module _ (segments : List LabelledSegment) (segs : List Seg) (same : length segs ≡ length segments) (near : All (λ s. HasNearEnds s) segs) (few : length segs < 134217728) where
   -- what the event of a key changes is of segments, and made at its time
   abbrev IsReal : ℕ → Type 0
   IsReal key = All (IsChangeAt segs (key_time key)) (changes (event_of key))
@@ -141,14 +144,12 @@ module _ (segs : List Seg) (near : All (λ s. HasNearEnds s) segs) (few : length
   one : (time : ℤ) (c : Change) → IsChangeAt segs time c → All (IsChangeAt segs time) (c ∷ [])
   one time c h = All-cons (IsChangeAt segs time) c [] h (All-nil (IsChangeAt segs time))
 
-  -- the link of a segment to the next one
-  next_of : (n : ℕ) (x : Bool) → nat_lt (n + 1) (length segs) && x ≡ true → (n + 1 < length segs) × (x ≡ true)
-  next_of n x h = let parts = and_parts (nat_lt (n + 1) (length segs)) x h in (ltb-true (n + 1) (length segs) parts.0, parts.1)
-
-  back_leads : (n : ℕ) → is_back segs n ≡ true → (n + 1 < length segs) × (leads segs (n + 1) n ≡ true)
-  back_leads n h =
-      let blocked = not (is_onward segs (n + 1) || (nat_lt 0 n && is_onward segs (n - 1))) in
-      let parts = next_of n (leads segs (n + 1) n && blocked) h in (parts.0, (and_parts (leads segs (n + 1) n) blocked parts.1).0)
+  -- a segment that another one follows is not the last one
+  followed : (n : ℕ) (x : Bool) → is_followed segments n && x ≡ true → (n + 1 < length segs) × (x ≡ true)
+  followed n x h =
+      let parts = and_parts (is_followed segments n) x h in
+      let inside = ltb-true (n + 1) (length segments) (and_parts (nat_lt (n + 1) (length segments)) (follows (segment_at segments n) (segment_at segments (n + 1))) parts.0).0 in
+      (omega (arith, inside, same), parts.1)
 
   -- each key of a segment is real
   module _ (n : ℕ) (short : n < length segs) (key : ℕ) where
@@ -156,10 +157,10 @@ module _ (segs : List Seg) (near : All (λ s. HasNearEnds s) segs) (few : length
     s = seg_at segs n
 
     abbrev before : Link
-    before = link_before segs n
+    before = link_before segments segs n
 
     abbrev link : Link
-    link = link_at segs n
+    link = link_at segments segs n
 
     is_near : HasNearEnds s
     is_near = near n no_seg short
@@ -175,41 +176,41 @@ module _ (segs : List Seg) (near : All (λ s. HasNearEnds s) segs) (few : length
     onward : Contains (onward_keys s n link) key → IsReal key
     onward c =
         let is = from_if link.onward (key_of (time_out s) 2 n) key c in
-        let on = next_of n (leads segs n (n + 1)) is.0 in
+        let on = followed n (leads segs n (n + 1)) is.0 in
         subst IsReal is.1 (real_from (time_out s) 2 n (time_out_room s is_near) (omega arith) short
         (both (time_out s) (coming (n + 1)) (leaving n) (record { known = on.0; timed = leads_on segs n (n + 1) on.1 }) (at_time_out n short)))
 
     back : Contains (back_keys s n link) key → IsReal key
     back c =
         let is = from_if link.back (key_of (time_in s) 3 n) key c in
-        let on = back_leads n is.0 in
+        let on = followed n (leads segs (n + 1) n) is.0 in
         subst IsReal is.1 (real_from (time_in s) 3 n (time_in_room s is_near) (omega arith) short
         (both (time_in s) (coming n) (leaving (n + 1)) (at_time_in n short) (record { known = on.0; timed = sym (leads_on segs (n + 1) n on.1) })))
 
-    own_real : Contains (own_keys segs n) key → IsReal key
+    own_real : Contains (own_keys segments segs n) key → IsReal key
     own_real found =
         ⊎_elim (λ c. ⊎_elim (λ d. ⊎_elim comes leaves (Contains-append_cases (coming_keys s n before link) (leaving_keys s n before link) key d))
         onward (Contains-append_cases (coming_keys s n before link ++ leaving_keys s n before link) (onward_keys s n link) key c))
         back (Contains-append_cases ((coming_keys s n before link ++ leaving_keys s n before link) ++ onward_keys s n link) (back_keys s n link) key found)
 
-  listed_real : All IsReal (listed_keys segs)
-  listed_real = All-from_members IsReal (listed_keys segs) (λ key found.
-      let w = Contains-from_flat_map (own_keys segs) (range_with_len 0 (length segs)) key found in
+  listed_real : All IsReal (listed_keys segments segs)
+  listed_real = All-from_members IsReal (listed_keys segments segs) (λ key found.
+      let w = Contains-from_flat_map (own_keys segments segs) (range_with_len 0 (length segs)) key found in
       own_real w.0 (below w.0 w.1) key w.2)
     where
       below : (n : ℕ) → Contains (range_with_len 0 (length segs)) n → n < length segs
       below n (k, inside, e) = let short : k < length segs = omega (arith, inside, length-range_with_len 0 (length segs)) in
           let same = sym (get_or-range_with_len 0 (length segs) k n short) ∙ e in omega (arith, same, short)
 
-  module _ (keys : List ℕ) (moved : IsPermutation (listed_keys segs) keys) where
+  module _ (keys : List ℕ) (moved : IsPermutation (listed_keys segments segs) keys) where
     -- a change of a key of a segment is made
-    made_by : (n : ℕ) → n < length segs → (time : ℤ) (kind : ℕ) (c : Change) → neg_ℤ (pos 17179869184) ≤ℤ time → kind < 4 → Contains (changes (event_at kind n)) c → Contains (own_keys segs n) (key_of time kind n)
+    made_by : (n : ℕ) → n < length segs → (time : ℤ) (kind : ℕ) (c : Change) → neg_ℤ (pos 17179869184) ≤ℤ time → kind < 4 → Contains (changes (event_at kind n)) c → Contains (own_keys segments segs n) (key_of time kind n)
         → Contains (changes_of (map moment_of keys)) c
     made_by n short time kind c low small has own =
         let key = key_of time kind n in
         let m = made time kind n low small (omega (arith, short, few)) in
         Contains-flat_map (λ (e : Moment). e.changes) (map moment_of keys) (moment_of key) c
-        (Contains-map moment_of keys key (Contains-permutation (listed_keys segs) keys key moved (Contains-flat_map (own_keys segs) (range_with_len 0 (length segs)) n key (in_range (length segs) n short) own)))
+        (Contains-map moment_of keys key (Contains-permutation (listed_keys segments segs) keys key moved (Contains-flat_map (own_keys segments segs) (range_with_len 0 (length segs)) n key (in_range (length segs) n short) own)))
         (subst (λ (e : Event). Contains (changes e) c) (sym m.0) has)
 
     abbrev at : ℕ → Seg
@@ -221,35 +222,35 @@ module _ (segs : List Seg) (near : All (λ s. HasNearEnds s) segs) (few : length
     -- the keys of a segment that are listed
     module _ (n : ℕ) (short : n < length segs) where
       abbrev cs : List ℕ
-      cs = coming_keys (at n) n (link_before segs n) (link_at segs n)
+      cs = coming_keys (at n) n (link_before segments segs n) (link_at segments segs n)
 
       abbrev ls : List ℕ
-      ls = leaving_keys (at n) n (link_before segs n) (link_at segs n)
+      ls = leaving_keys (at n) n (link_before segments segs n) (link_at segments segs n)
 
       abbrev os : List ℕ
-      os = onward_keys (at n) n (link_at segs n)
+      os = onward_keys (at n) n (link_at segments segs n)
 
       abbrev bs : List ℕ
-      bs = back_keys (at n) n (link_at segs n)
+      bs = back_keys (at n) n (link_at segments segs n)
 
-      in_coming : (key : ℕ) → Contains cs key → Contains (own_keys segs n) key
+      in_coming : (key : ℕ) → Contains cs key → Contains (own_keys segments segs n) key
       in_coming key c = Contains-append_left ((cs ++ ls) ++ os) bs key (Contains-append_left (cs ++ ls) os key (Contains-append_left cs ls key c))
 
-      in_leaving : (key : ℕ) → Contains ls key → Contains (own_keys segs n) key
+      in_leaving : (key : ℕ) → Contains ls key → Contains (own_keys segments segs n) key
       in_leaving key c = Contains-append_left ((cs ++ ls) ++ os) bs key (Contains-append_left (cs ++ ls) os key (Contains-append_right cs ls key c))
 
-      in_onward : (key : ℕ) → Contains os key → Contains (own_keys segs n) key
+      in_onward : (key : ℕ) → Contains os key → Contains (own_keys segments segs n) key
       in_onward key c = Contains-append_left ((cs ++ ls) ++ os) bs key (Contains-append_right (cs ++ ls) os key c)
 
-      in_back : (key : ℕ) → Contains bs key → Contains (own_keys segs n) key
+      in_back : (key : ℕ) → Contains bs key → Contains (own_keys segments segs n) key
       in_back key c = Contains-append_right ((cs ++ ls) ++ os) bs key c
 
       -- where the line passes onward or back
-      passed_onward : (c : Change) → is_onward segs n ≡ true → Contains (coming (n + 1) ∷ leaving n ∷ []) c → Contains (changes_of (map moment_of keys)) c
+      passed_onward : (c : Change) → is_onward segments segs n ≡ true → Contains (coming (n + 1) ∷ leaving n ∷ []) c → Contains (changes_of (map moment_of keys)) c
       passed_onward c on has = made_by n short (time_out (at n)) 2 c (time_out_room (at n) (is_near_at n short)) (omega arith) has
           (in_onward (key_of (time_out (at n)) 2 n) (subst (λ b. Contains (cond b (key_of (time_out (at n)) 2 n ∷ []) []) (key_of (time_out (at n)) 2 n)) (sym on) (in_head (key_of (time_out (at n)) 2 n) [])))
 
-      passed_back : (c : Change) → is_back segs n ≡ true → Contains (coming n ∷ leaving (n + 1) ∷ []) c → Contains (changes_of (map moment_of keys)) c
+      passed_back : (c : Change) → is_back segments segs n ≡ true → Contains (coming n ∷ leaving (n + 1) ∷ []) c → Contains (changes_of (map moment_of keys)) c
       passed_back c on has = made_by n short (time_in (at n)) 3 c (time_in_room (at n) (is_near_at n short)) (omega arith) has
           (in_back (key_of (time_in (at n)) 3 n) (subst (λ b. Contains (cond b (key_of (time_in (at n)) 3 n ∷ []) []) (key_of (time_in (at n)) 3 n)) (sym on) (in_head (key_of (time_in (at n)) 3 n) [])))
 
@@ -258,29 +259,29 @@ module _ (segs : List Seg) (near : All (λ s. HasNearEnds s) segs) (few : length
     before_of n f h = let parts = and_parts (nat_lt 0 n) (f (n - 1)) h in let more = ltb-true 0 n parts.0 in (parts.1, omega (arith, more))
 
     comes_somewhere : (n : ℕ) → n < length segs → Contains (changes_of (map moment_of keys)) (coming n)
-    comes_somewhere n short = by (link_before segs n).onward refl (link_at segs n).back refl
+    comes_somewhere n short = by (link_before segments segs n).onward refl (link_at segments segs n).back refl
       where
         key : ℕ
         key = key_of (time_in (at n)) 1 n
 
-        by : (a : Bool) → (link_before segs n).onward ≡ a → (b : Bool) → (link_at segs n).back ≡ b → Contains (changes_of (map moment_of keys)) (coming n)
+        by : (a : Bool) → (link_before segments segs n).onward ≡ a → (b : Bool) → (link_at segments segs n).back ≡ b → Contains (changes_of (map moment_of keys)) (coming n)
         by true e b f =
-            let p = before_of n (is_onward segs) e in
+            let p = before_of n (is_onward segments segs) e in
             passed_onward (n - 1) (omega (arith, short)) (coming n) p.0 (subst (λ m. Contains (coming m ∷ leaving (n - 1) ∷ []) (coming n)) (sym p.1) (in_head (coming n) (leaving (n - 1) ∷ [])))
         by false e true f = passed_back n short (coming n) f (in_head (coming n) (leaving (n + 1) ∷ []))
         by false e false f = made_by n short (time_in (at n)) 1 (coming n) (time_in_room (at n) (is_near_at n short)) (omega arith) (in_head (coming n) [])
             (in_coming n short key (subst₂ (λ a b. Contains (cond a [] (cond b [] (key ∷ []))) key) (sym e) (sym f) (in_head key [])))
 
     leaves_somewhere : (n : ℕ) → n < length segs → Contains (changes_of (map moment_of keys)) (leaving n)
-    leaves_somewhere n short = by (link_at segs n).onward refl (link_before segs n).back refl
+    leaves_somewhere n short = by (link_at segments segs n).onward refl (link_before segments segs n).back refl
       where
         key : ℕ
         key = key_of (time_out (at n)) 0 n
 
-        by : (a : Bool) → (link_at segs n).onward ≡ a → (b : Bool) → (link_before segs n).back ≡ b → Contains (changes_of (map moment_of keys)) (leaving n)
+        by : (a : Bool) → (link_at segments segs n).onward ≡ a → (b : Bool) → (link_before segments segs n).back ≡ b → Contains (changes_of (map moment_of keys)) (leaving n)
         by true e b f = passed_onward n short (leaving n) e (in_tail (coming (n + 1)) (leaving n ∷ []) (leaving n) (in_head (leaving n) []))
         by false e true f =
-            let p = before_of n (is_back segs) f in
+            let p = before_of n (is_back segments segs) f in
             passed_back (n - 1) (omega (arith, short)) (leaving n) p.0
             (subst (λ m. Contains (coming (n - 1) ∷ leaving m ∷ []) (leaving n)) (sym p.1) (in_tail (coming (n - 1)) (leaving n ∷ []) (leaving n) (in_head (leaving n) [])))
         by false e false f = made_by n short (time_out (at n)) 0 (leaving n) (time_out_room (at n) (is_near_at n short)) (omega arith) (in_head (leaving n) [])
@@ -290,7 +291,7 @@ module _ (segs : List Seg) (near : All (λ s. HasNearEnds s) segs) (few : length
     are_events up = record {
       real = λ k d short.
           let inside : k < length keys = omega (arith, short, length-map keys moment_of) in
-          subst (λ (e : Moment). All (IsChangeAt segs e.time) e.changes) (sym (get_or-map moment_of keys k 0 d inside)) (All-permutation IsReal (listed_keys segs) keys moved listed_real k 0 inside);
+          subst (λ (e : Moment). All (IsChangeAt segs e.time) e.changes) (sym (get_or-map moment_of keys k 0 d inside)) (All-permutation IsReal (listed_keys segments segs) keys moved listed_real k 0 inside);
       come = comes_somewhere;
       leave = leaves_somewhere;
       ascend = λ i j d le short.

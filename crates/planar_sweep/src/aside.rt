@@ -1,7 +1,7 @@
 //! Which segments to set aside so that the sweep goes through the others. It is a guess: who gets it asks whether the
 //! others are apart.
 
-ghost use Rattle.std.specs.Prelude.{◌<◌, ◌^◌, length, Contains, IfOk, IfSome};
+ghost use Rattle.std.specs.Prelude.{◌≡◌, ◌<◌, ◌^◌, length, Contains, IfOk, IfSome};
 ghost use Rattle.std.specs.List.{All};
 ghost use Rattle.planar_sweep.specs.Ends.{IsReady};
 ghost use Rattle.planar_sweep.specs.Line.{IsLineOf};
@@ -148,11 +148,17 @@ fn pass(segs: &[Seg], event: Event, line: &mut Line, aside: &mut [bool]) -> Resu
 }
 
 /// Sets aside the segments that do not fit into the row where the sweep comes to them.
-pub fn misfits_aside(alloc: Global, segs: &[Seg], aside: &mut [bool]) -> Result<(), Memory>
+pub fn misfits_aside(
+    alloc: Global,
+    segments: &[LabelledSegment],
+    segs: &[Seg],
+    aside: &mut [bool],
+) -> Result<(), Memory>
+    requires same { length segs.now ≡ length segments.now }
     requires ready { All (λ s. IsReady s) segs.now }
     requires few { length segs.now < 2 ^ 32 }
 {
-    let keys = events_of(alloc, segs)?;
+    let keys = events_of(alloc, segments, segs)?;
     let mut line = Line::of(alloc, segs.len() as u32)?;
     for k in 0..keys.len() {
         pass(segs, event_of(keys[k]), &mut line, aside)?;

@@ -5,10 +5,11 @@ ghost use Rattle.std.specs.List.{All, range_with_len};
 ghost use Rattle.tgap_model.specs.Bounds.{HasNearEnds};
 ghost use Rattle.planar_sweep.specs.Times.{time_in, time_out};
 ghost use Rattle.planar_sweep.specs.Rows.{event_of, moment_of, AreEvents};
-ghost use Rattle.planar_sweep.specs.EventKeys.{key_of, leads, is_onward, is_back, link_at, link_before, coming_keys, leaving_keys, onward_keys, back_keys, keys_at, listed_keys};
+ghost use Rattle.planar_sweep.specs.EventKeys.{key_of, leads, is_followed, is_onward, is_back, link_at, link_before, coming_keys, leaving_keys, onward_keys, back_keys, keys_at, listed_keys};
 
+use crate::marks::follows;
 use std::alloc::Global;
-use tgap_model::{Memory, Seg};
+use tgap_model::{LabelledSegment, Memory, Seg};
 
 /// The numbers of segments have room below this one.
 const NUMBERS: u64 = 134_217_728;
@@ -22,10 +23,10 @@ const LEAVES: u64 = 0;
 /// It comes.
 const COMES: u64 = 1;
 
-/// The line passes from it to the next one of the list.
+/// The line passes from it to the one behind it in the list.
 const ONWARD: u64 = 2;
 
-/// The line passes to it from the next one of the list.
+/// The line passes to it from the one behind it in the list.
 const BACK: u64 = 3;
 
 /// What an event does to the row: a segment leaves it, one comes, or one comes in the place of another one that ends
@@ -108,40 +109,48 @@ fn leads(segs: &[Seg], from: usize, to: usize) -> bool
     s.a.x < s.b.x && (t.a.x < t.b.x && s.b == t.a)
 }
 
-/// Whether the line passes from a segment to the next one of the list.
-fn is_onward(segs: &[Seg], number: usize) -> bool
-    requires inside { number < length segs.now }
-    ensures { result ≡ is_onward segs.now number }
+/// Whether the segment behind one in the list is the next one of its arc.
+fn is_followed(segments: &[LabelledSegment], number: usize) -> bool
+    requires { number < length segments.now }
+    ensures { result ≡ is_followed segments.now number }
 {
-    number + 1 < segs.len() && leads(segs, number, number + 1)
+    number + 1 < segments.len() && follows(&segments[number], &segments[number + 1])
 }
 
-/// Whether the line passes to a segment from the next one of the list, and neither has an event with its other neighbour
-/// there.
-fn is_back(segs: &[Seg], number: usize) -> bool
+/// Whether the line passes from a segment to the next one of its arc, which is behind it in the list.
+fn is_onward(segments: &[LabelledSegment], segs: &[Seg], number: usize) -> bool
+    requires same { length segs.now ≡ length segments.now }
     requires inside { number < length segs.now }
-    ensures { result ≡ is_back segs.now number }
+    ensures { result ≡ is_onward segments.now segs.now number }
 {
-    number + 1 < segs.len()
-        && (leads(segs, number + 1, number)
-            && !(is_onward(segs, number + 1) || 0 < number && is_onward(segs, number - 1)))
+    is_followed(segments, number) && leads(segs, number, number + 1)
 }
 
-/// Whether the line passes from a segment to the next one of the list, or from that one back.
+/// Whether the line passes to a segment from the next one of its arc, which is behind it in the list.
+fn is_back(segments: &[LabelledSegment], segs: &[Seg], number: usize) -> bool
+    requires same { length segs.now ≡ length segments.now }
+    requires inside { number < length segs.now }
+    ensures { result ≡ is_back segments.now segs.now number }
+{
+    is_followed(segments, number) && leads(segs, number + 1, number)
+}
+
+/// Whether the line passes from a segment to the next one of its arc, or from that one back.
 #[derive(Clone, Copy, Debug)]
 struct Link {
     onward: bool,
     back: bool,
 }
 
-/// The link of a segment to the next one of the list.
-fn link_at(segs: &[Seg], number: usize) -> Link
+/// The link of a segment to the next one of its arc.
+fn link_at(segments: &[LabelledSegment], segs: &[Seg], number: usize) -> Link
+    requires same { length segs.now ≡ length segments.now }
     requires inside { number < length segs.now }
-    ensures { result ≡ link_at segs.now number }
+    ensures { result ≡ link_at segments.now segs.now number }
 {
     Link {
-        onward: is_onward(segs, number),
-        back: is_back(segs, number),
+        onward: is_onward(segments, segs, number),
+        back: is_back(segments, segs, number),
     }
 }
 
@@ -181,7 +190,7 @@ fn push_leaving(
     Ok(())
 }
 
-/// Puts the event at which the line passes from it to the next one of the list after the others.
+/// Puts the event at which the line passes from it to the next one of its arc after the others.
 fn push_onward(keys: &mut Vec<u64>, s: Seg, number: usize, link: Link) -> Result<(), Memory>
     requires near { HasNearEnds s }
     requires number { number < NUMBERS }
@@ -193,7 +202,7 @@ fn push_onward(keys: &mut Vec<u64>, s: Seg, number: usize, link: Link) -> Result
     Ok(())
 }
 
-/// Puts the event at which the line passes to it from the next one of the list after the others.
+/// Puts the event at which the line passes to it from the next one of its arc after the others.
 fn push_back(keys: &mut Vec<u64>, s: Seg, number: usize, link: Link) -> Result<(), Memory>
     requires near { HasNearEnds s }
     requires number { number < NUMBERS }
@@ -224,10 +233,15 @@ fn push_events(
 }
 
 /// The keys of the events of the segments, as they are listed.
-fn listed_keys(alloc: Global, segs: &[Seg]) -> Result<Vec<u64>, Memory>
+fn listed_keys(
+    alloc: Global,
+    segments: &[LabelledSegment],
+    segs: &[Seg],
+) -> Result<Vec<u64>, Memory>
+    requires same { length segs.now ≡ length segments.now }
     requires near { All (λ s. HasNearEnds s) segs.now }
     requires few { length segs.now < NUMBERS }
-    ensures { IfOk result (λ keys. keys.items ≡ listed_keys segs.now) }
+    ensures { IfOk result (λ keys. keys.items ≡ listed_keys segments.now segs.now) }
 {
     let mut keys = Vec::with_capacity(alloc, segs.len())?;
     let mut before = Link {
@@ -235,7 +249,7 @@ fn listed_keys(alloc: Global, segs: &[Seg]) -> Result<Vec<u64>, Memory>
         back: false,
     };
     for number in 0..segs.len() {
-        let link = link_at(segs, number);
+        let link = link_at(segments, segs, number);
         push_events(&mut keys, segs[number], number, before, link)?;
         before = link;
     }
@@ -245,7 +259,12 @@ fn listed_keys(alloc: Global, segs: &[Seg]) -> Result<Vec<u64>, Memory>
 /// The keys of the events of the segments, in the order of their times; where the segments are too many for them, want of
 /// memory. At one time, what leaves is before what comes, and else those before that are before in the list, of which
 /// neighbours are mostly neighbours in the row.
-pub fn events_of(alloc: Global, segs: &[Seg]) -> Result<Vec<u64>, Memory>
+pub fn events_of(
+    alloc: Global,
+    segments: &[LabelledSegment],
+    segs: &[Seg],
+) -> Result<Vec<u64>, Memory>
+    requires same { length segs.now ≡ length segments.now }
     requires near { All (λ s. HasNearEnds s) segs.now }
     ensures few { IfOk result (λ _. length segs.now < NUMBERS) }
     ensures events { IfOk result (λ keys. AreEvents segs.now (map moment_of keys.items)) }
@@ -253,7 +272,7 @@ pub fn events_of(alloc: Global, segs: &[Seg]) -> Result<Vec<u64>, Memory>
     if NUMBERS <= segs.len() as u64 {
         return Err(Memory);
     }
-    let mut keys = listed_keys(alloc, segs)?;
+    let mut keys = listed_keys(alloc, segments, segs)?;
     keys.sort_unstable();
     Ok(keys)
 }

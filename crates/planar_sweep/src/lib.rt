@@ -35,11 +35,12 @@ use tgap_model::{LabelledSegment, Memory};
 /// places are counted at which the face below a segment is not the face above the next one: there must be none where the
 /// line leaves an abscissa.
 ///
-/// A segment knows its neighbours in the row. One that begins where its neighbour in the list ends comes in its place, in
-/// one event. The place of any other one that comes is guessed: beside the segments before and behind it in the list, or
-/// what came last, and else it is searched in a sample of the row. So the time is that of sorting, and for each segment
-/// at most a logarithm of the height of the row; the memory is a small multiple of the segments, and where it is wanting,
-/// or the segments are 2^27 or more, that is the answer. The sweep is that of Shamos and Hoey, 1976.
+/// A segment knows its neighbours in the row. One that goes on to the right where the segment beside it in its arc ends
+/// comes in the place of that one, in one event. The place of any other one that comes is guessed: beside the segments
+/// before and behind it in the list, or what came last, and else it is searched in a sample of the row. So the time is
+/// that of sorting, and for each segment at most a logarithm of the height of the row; the memory is a small multiple
+/// of the segments, and where it is wanting, or the segments are 2^27 or more, that is the answer. The sweep is that of
+/// Shamos and Hoey, 1976.
 pub fn swept(alloc: Global, segments: &[LabelledSegment]) -> Result<Shown, Memory>
     requires proper { IsTrue (list_all is_proper segments.now) }
     requires few { length segments.now < 2 ^ 32 }
@@ -80,6 +81,6 @@ pub fn set_aside(alloc: Global, segments: &[LabelledSegment]) -> Result<Vec<bool
     let mut aside = vec![in alloc; false; segments.len()]?;
     ends_aside(alloc, segments, aside.as_mut_slice())?;
     let segs = forward_of(alloc, segments)?;
-    misfits_aside(alloc, &segs, aside.as_mut_slice())?;
+    misfits_aside(alloc, segments, &segs, aside.as_mut_slice())?;
     Ok(aside)
 }

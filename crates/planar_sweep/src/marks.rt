@@ -43,7 +43,7 @@ fn point_key(v: Point) -> i64
 }
 
 /// Whether the second segment is the next one of the same arc.
-fn follows(s: &LabelledSegment, t: &LabelledSegment) -> bool
+pub fn follows(s: &LabelledSegment, t: &LabelledSegment) -> bool
     ensures { result ≡ follows s.now t.now }
 {
     s.arc == t.arc && u64::from(s.place) + 1 == u64::from(t.place)

@@ -43,7 +43,8 @@ pub fn forward_of(alloc: Global, segments: &[LabelledSegment]) -> Result<Vec<Seg
     Ok(segs)
 }
 
-/// A segment comes, if it may stand where it belongs, for which there may be a hint, and the places at which the faces differ are counted anew there.
+/// A segment comes, if it may stand where it belongs, for which there may be a hint, and the places at which the faces
+/// differ are counted anew there.
 fn come(
     segs: &[Seg],
     faces: &[(u32, u32)],
@@ -174,7 +175,7 @@ pub fn sweep_over(
     ensures agree { IfOk result (λ shown. shown.agree ≡ true → FacesAgree segments.now) }
 {
     let faces = faces_of(alloc, segments)?;
-    let keys = events_of(alloc, segs)?;
+    let keys = events_of(alloc, segments, segs)?;
     let mut line = Line::of(alloc, segs.len() as u32)?;
     let mut gaps = 0;
     let mut agree = true;

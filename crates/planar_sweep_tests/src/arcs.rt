@@ -11,7 +11,7 @@ const M: i64 = MAX_COORDINATE;
 #[test]
 fn arcs_that_meet_only_at_their_ends_are_apart(rt: HostRuntime) -> Result<(), Fail> {
     let alloc = rt.alloc();
-    let cases: [(&str, &[(u32, i64, i64)]); 18] = [
+    let cases: [(&str, &[(u32, i64, i64)]); 19] = [
         ("none", &[]),
         ("one", &[(0, 0, 0), (0, 3, 4)]),
         (
@@ -123,6 +123,47 @@ fn arcs_that_meet_only_at_their_ends_are_apart(rt: HostRuntime) -> Result<(), Fa
         (
             "a turn at the right and one at the left",
             &[(0, 0, 0), (0, 10, 1), (0, 1, 2), (0, 11, 3)],
+        ),
+        (
+            "four cells whose sides have a bend",
+            &[
+                (0, 0, 0),
+                (0, 1, 2),
+                (0, 0, 4),
+                (1, 0, 0),
+                (1, 2, 1),
+                (1, 4, 0),
+                (2, 0, 4),
+                (2, 1, 6),
+                (2, 0, 8),
+                (3, 4, 0),
+                (3, 6, 1),
+                (3, 8, 0),
+                (4, 4, 0),
+                (4, 5, 2),
+                (4, 4, 4),
+                (5, 0, 4),
+                (5, 2, 5),
+                (5, 4, 4),
+                (6, 4, 4),
+                (6, 5, 6),
+                (6, 4, 8),
+                (7, 4, 4),
+                (7, 6, 5),
+                (7, 8, 4),
+                (8, 8, 0),
+                (8, 9, 2),
+                (8, 8, 4),
+                (9, 0, 8),
+                (9, 2, 9),
+                (9, 4, 8),
+                (10, 8, 4),
+                (10, 9, 6),
+                (10, 8, 8),
+                (11, 4, 8),
+                (11, 6, 9),
+                (11, 8, 8),
+            ],
         ),
     ];
     for (name, rows) in cases {

@@ -7,6 +7,6 @@ use Rattle.planar_sweep.proofs.events.events_of.Goals as goal
 pub returns-clause-events : goal.returns-clause-events
 returns-clause-events c =
     let keys = c.sort_unstable.new.self.items in
-    are_events c.args.segs.now c.requires.near (omega (arith, c.if-segs-ge-NUMBERS.false)) keys
+    are_events c.args.segments.now c.args.segs.now c.requires.same c.requires.near (omega (arith, c.if-segs-ge-NUMBERS.false)) keys
     (subst (λ (ns : List ℕ). IsPermutation ns keys) c.in_ok-keys.ensures c.sort_unstable.ensures.permutation)
     (IsNonDecreasingBy-from_sort (λ n. n) keys c.sort_unstable.ensures.sorted)

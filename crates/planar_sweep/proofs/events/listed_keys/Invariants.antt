@@ -6,6 +6,6 @@ use Rattle.planar_sweep.proofs.events.listed_keys.Given as goal
 
 abbrev pub invariant-loop-number : goal.invariant-loop-number
 invariant-loop-number l = record {
-  listed : l.keys.items ≡ flat_map (own_keys l.segs) (range_with_len 0 l.number);
-  before : l.before ≡ link_before l.segs l.number;
+  listed : l.keys.items ≡ flat_map (own_keys l.segments l.segs) (range_with_len 0 l.number);
+  before : l.before ≡ link_before l.segments l.segs l.number;
 }
