@@ -1,7 +1,7 @@
 """What release/make makes, and refuses; and how the gate's own script ends. A stand-in takes the place of the toolchain."""
 import subprocess
 
-from checkout import script, sum_of
+from checkout import TOOLCHAIN, script, sum_of
 from lib import SECONDS, Skipped
 
 SOURCE = "crates/lemmas/src/lib.rt"
@@ -122,9 +122,24 @@ def gate_ends_as_it_must(tests):
         tests.same("the gate over a released executable that is cut", (ended, lines[-1]), (1, "12 passed, 1 failed"))
 
 
+def gate_compares_by_one_toolchain(tests):
+    """Another toolchain may give other bytes, so there the released executable is held to its sum alone."""
+    checkout = tests.checkout
+    other, maker = script(checkout.room / "another program", "exit 0"), "another-toolchain logic 0123456789abcdef"
+    proofs, passed = f"{checkout.leaves(other)}; {PASSED}", "5 passed, 0 failed"
+    with checkout.altered(checkout.sums, checkout.sums.read_bytes().replace(TOOLCHAIN.encode(), maker.encode())):
+        ended, lines, _ = gate(checkout, proofs, 0, passed)
+        tests.same("the gate over a released executable of another toolchain", (ended, lines[-1]), (0, "12 passed, 0 failed"))
+        tests.same("what it says of that", [line for line in lines if maker in line],
+                   [f"gate: release/tgap-x86_64-linux is of another toolchain, {maker}, and not compared with what {TOOLCHAIN} built"])
+        with checkout.altered(checkout.released, checkout.executable.read_bytes()[:1000]):
+            ended, lines, _ = gate(checkout, proofs, 0, passed)
+            tests.same("the gate over one of another toolchain that is cut", (ended, lines[-1]), (1, "12 passed, 1 failed"))
+
+
 def gate_has_its_plain_line(tests):
     lines = (tests.checkout.top / ".ci/run").read_text(encoding="ascii").splitlines()
     tests.same("lines of the gate that are rt ci alone", [line.strip() for line in lines if "rt ci" in line and not line.lstrip().startswith(("#", "echo"))], ["rt ci"])
 
 
-TESTS = [gate_ends_as_it_must, gate_has_its_plain_line, release_is_made]
+TESTS = [gate_ends_as_it_must, gate_compares_by_one_toolchain, gate_has_its_plain_line, release_is_made]
