@@ -1,21 +1,22 @@
 """The pieces of nginx's configuration in docs/deployment.md, each put where it says, with requests that only it answers."""
 import re
 
-from front import COLUMBUS, NAME, PASSWORD, TOP, Front, Program, exchanged
+from front import COLUMBUS, HISTORY, NAME, PASSWORD, TOP, Front, Program, exchanged, until
 
 SQUARES = [TOP / "examples/two_squares.tgap"]
 OTHER = "holland.example"
 PAGE = "https://page.example"
 EVIL = {"Origin": "http://evil.example"}
 OWN_BATCH = b"class 1 0\n"
+# The history of the map that is on the machine itself.
+HERE = "fedcba9876543210"
 CHOICE = """    map $host $map {
         map.example columbus;
     }
-    upstream columbus {
-        server unix:/run/tgap/columbus.sock;
-    }
 """
-CACHE = "            add_header Cache-Control no-store always;\n"
+# The first lines of the locations of readers, which take what the document puts there.
+READING = ["        location /map/ {\n", '        location ~ "^/map/pin(/[0-9]+)?\\z" {\n']
+EXPOSED = "Tgap-Version, Tgap-History"
 
 
 def fragments(tests):
@@ -41,20 +42,17 @@ def piece(pieces, begin):
     return found
 
 
-def location(text, line):
-    """The whole block that begins with this line."""
-    begin = text.index(f"        {line} {{\n")
-    return text[begin : text.index("\n        }\n", begin) + len("\n        }\n")]
-
-
 def readers_elsewhere(tests, pieces, program):
     added = piece(pieces, "reading: in location /map/")
-    with Front(program.port, lambda text: exchanged(text, [(CACHE, CACHE + added)])) as front:
-        reply = front.ask("GET", "/map/info", None, EVIL)
-        tests.same("a page of another origin reads", (reply.status, reply.headers["Access-Control-Allow-Origin"], reply.headers["Access-Control-Expose-Headers"]), (200, "*", "Tgap-Version"))
-        tests.same("and edits nothing", front.edit(OWN_BATCH, EVIL).status, 403)
+    with Front(program.port, lambda text: exchanged(text, [(line, line + added) for line in READING])) as front:
+        for method, path in [("GET", "/map/info"), ("GET", "/map/slice/99"), ("POST", "/map/pin")]:
+            reply = front.ask(method, path, None, EVIL)
+            tests.same(f"a page of another origin reads {path}", (reply.headers["Access-Control-Allow-Origin"], reply.headers["Access-Control-Expose-Headers"]), ("*", EXPOSED))
+        reply = front.edit(OWN_BATCH, EVIL)
+        tests.same("and edits nothing", (reply.status, reply.headers["Access-Control-Allow-Origin"]), (403, None))
     with Front(program.port) as front:
-        tests.same("without these lines no page reads", front.ask("GET", "/map/info", None, EVIL).headers["Access-Control-Allow-Origin"], None)
+        reply = front.ask("GET", "/map/info", None, EVIL)
+        tests.same("without these lines no page reads", [name for name in reply.headers if name.startswith("Access-Control")], [])
 
 
 def editors_elsewhere(tests, pieces, program):
@@ -64,18 +62,13 @@ def editors_elsewhere(tests, pieces, program):
     with Front(program.port, lambda text: exchanged(text, [(own, own + origin), (first, first + headers), (last, last + headers)])) as front:
         asked = front.ask("OPTIONS", "/map/edit", None, {"Origin": PAGE, "Access-Control-Request-Method": "POST", "Access-Control-Request-Headers": "authorization"})
         told = [asked.headers[f"Access-Control-Allow-{name}"] for name in ["Origin", "Credentials", "Headers"]]
-        tests.same("the browser asks for a page that may edit", (asked.status, told), (204, [PAGE, "true", "Authorization"]))
+        tests.same("the browser asks for a page that may edit", (asked.status, told), (204, [PAGE, "true", "Authorization, Tgap-History"]))
         reply = front.edit(OWN_BATCH, {"Origin": PAGE})
-        tests.same("its edit", (reply.status, reply.headers["Access-Control-Allow-Origin"], reply.headers["Access-Control-Expose-Headers"]), (200, PAGE, "Tgap-Version"))
+        tests.same("its edit", (reply.status, reply.headers["Access-Control-Allow-Origin"], reply.headers["Access-Control-Expose-Headers"]), (200, PAGE, EXPOSED))
         tests.same("its edit without a password", front.ask("POST", "/map/edit", OWN_BATCH, {"Origin": PAGE}).status, 401)
         for method in ["OPTIONS", "POST"]:
             refused = front.ask(method, "/map/edit", None, {**PASSWORD, **EVIL})
             tests.same(f"{method} of any other page", (refused.status, refused.headers["Access-Control-Allow-Origin"]), (403, None))
-
-
-def second_place(squares):
-    """The second socket of the document, as the port of a program; the first is exchanged by every front server of the tests."""
-    return "unix:/run/tgap/holland.sock", f"127.0.0.1:{squares.port}"
 
 
 def faces_of(reply):
@@ -84,8 +77,8 @@ def faces_of(reply):
 
 def by_host(tests, pieces, columbus, squares):
     names = [(f"server_name {NAME};", f"server_name {NAME} {OTHER};"), (f"        https://{NAME} 0;\n", f"        https://{NAME} 0;\n        https://{OTHER} 0;\n")]
-    change = [(CHOICE, piece(pieces, "by host")), *names, second_place(squares)]
-    with Front(columbus.port, lambda text: exchanged(text, change)) as front:
+    change = [(CHOICE, piece(pieces, "by host")), *names]
+    with Front({"columbus": columbus.port, "holland": squares.port}, lambda text: exchanged(text, change)) as front:
         tests.same("the map of the first host", faces_of(front.ask("GET", "/map/info")), (200, 49))
         tests.same("the map of the second", faces_of(front.ask("GET", "/map/info", None, {"Host": OTHER})), (200, 2))
         tests.same("no map of a third", front.ask("GET", "/map/info", None, {"Host": "other.example"}).status, 403)
@@ -94,14 +87,18 @@ def by_host(tests, pieces, columbus, squares):
         tests.holds("is one of that map", squares.ask("GET", "/info").text != before)
 
 
-def by_path(tests, pieces, columbus, squares):
-    def change(text):
-        edits = location(text, "location = /map/edit")
-        reading = location(text, "location /map/")
-        pairs = [(CHOICE, piece(pieces, "by path: in place of map")), (edits, ""), (reading, piece(pieces, "by path: in place of location")), second_place(squares)]
-        return exchanged(text, pairs)
+def chosen_by_path(pieces):
+    """What makes deploy/nginx.conf choose the map by the path: the document's lines in place of those that begin alike."""
+    lines = piece(pieces, "by path: in place of the lines").splitlines()
+    edit, pin, reading, cut = lines
+    return [
+        (CHOICE, piece(pieces, "by path: in place of map")), ("location = /map/edit {", edit), ('location ~ "^/map/pin(/[0-9]+)?\\z" {', pin), ("location /map/ {", reading),
+        ('rewrite "(?s)^/map/(.*)\\z" /$1 break;', cut),
+    ]
 
-    with Front(columbus.port, change) as front:
+
+def by_path(tests, pieces, columbus, squares):
+    with Front({"columbus": columbus.port, "holland": squares.port}, lambda text: exchanged(text, chosen_by_path(pieces))) as front:
         tests.same("the map of the first path", faces_of(front.ask("GET", "/columbus/map/info")), (200, 49))
         tests.same("the map of the second path", faces_of(front.ask("GET", "/holland/map/info?a=b")), (200, 2))
         tests.same("a window by path", front.ask("GET", "/holland/map/window/0/0/0/1/1").status, 200)
@@ -120,10 +117,15 @@ def another_machine(tests, pieces, columbus, squares):
     """One front server before another, which has the second map."""
     with Front(squares.port) as far:
         passed_on = exchanged(piece(pieces, "on another machine"), [
-            (f"https://{OTHER}/map/", f"https://127.0.0.1:{far.port}/map/"), (OTHER, NAME), ("/etc/ssl/certs/ca-certificates.crt", far.room / "etc/certificate.pem"),
+            (f"https://{OTHER}", f"https://127.0.0.1:{far.port}"), (OTHER, NAME), ("/etc/ssl/certs/ca-certificates.crt", far.room / "etc/certificate.pem"),
         ])
         place = "        location = /map/edit {\n"
         with Front(columbus.port, lambda text: exchanged(text, [(place, passed_on + place)])) as front:
+            front.begin("columbus", columbus.port, HERE)
+            tests.holds("the history of this machine is another one", until(lambda: front.ask("GET", "/map/info").headers["Tgap-History"] == HERE))
             tests.same("the map of this machine", faces_of(front.ask("GET", "/map/info")), (200, 49))
-            tests.same("the map of another machine", faces_of(front.ask("GET", "/holland/map/info")), (200, 2))
-            tests.same("no edit goes there", front.edit(OWN_BATCH, path="/holland/map/edit").status, 401)
+            for method, path in [("GET", "/holland/map/info"), ("POST", "/holland/map/pin")]:
+                reply = front.ask(method, path)
+                tests.same(f"the map of another machine by {path}", (reply.status, reply.headers.get_all("Tgap-History"), reply.headers.get_all("Cache-Control")), (200, [HISTORY], ["no-store"]))
+            tests.same("it is that map", faces_of(front.ask("GET", "/holland/map/info")), (200, 2))
+            tests.same("no edit goes there", front.edit(OWN_BATCH, path="/holland/map/edit").status, 405)

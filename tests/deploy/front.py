@@ -24,6 +24,7 @@ NAME = "map.example"
 PASSWORD = {"Authorization": "Basic " + base64.b64encode(b"anna:secret").decode()}
 PATH = os.environ.get("PATH", "") + ":/usr/local/sbin:/usr/sbin:/sbin"
 PROXY = "/lib/systemd/systemd-socket-proxyd"
+HISTORY = "0123456789abcdef"
 COLUMBUS = [TOP / "examples/columbus.json", "areas", TOP / "examples/columbus.rules.json"]
 
 
@@ -43,6 +44,16 @@ def until(holds, seconds=SECONDS):
 def listens(port):
     with socket.socket() as one:
         return one.connect_ex(("127.0.0.1", port)) == 0
+
+
+def has_ipv6():
+    with contextlib.suppress(OSError), socket.socket(socket.AF_INET6) as one:
+        one.bind(("::1", 0))
+        return True
+    return False
+
+
+HAS_IPV6 = has_ipv6()
 
 
 class Running:
@@ -121,32 +132,52 @@ def temporary_folders(room):
 
 
 class Front(Running):
-    """nginx with deploy/nginx.conf before the program that listens at `upstream`, a port or the path of a socket."""
+    """nginx with deploy/nginx.conf. `upstream` is the port of the program of the one map, the ports of the programs by
+    the names of the maps, or the folder that stands for /run/tgap."""
 
     def __init__(self, upstream, change=lambda text: text):
         self.room = pathlib.Path(tempfile.mkdtemp(prefix="tgap-front-"))
         # Where root starts nginx, its workers are another user.
         self.room.chmod(0o755)
         self.plain, self.port = free_port(), free_port()
-        for folder in ["etc", "log", "page", "acme"]:
+        for folder in ["etc", "log", "page", "acme", "run"]:
             (self.room / folder).mkdir()
         (self.room / "page/index.html").write_text("the page\n")
         make_certificate(self.room / "etc")
         make_password(self.room / "etc/editors")
-        text = change((TOP / "deploy/nginx.conf").read_text())
-        place = f"unix:{upstream}" if isinstance(upstream, pathlib.Path) else f"127.0.0.1:{upstream}"
-        text = exchanged(text, [
-            ("pid /run/nginx.pid", f"daemon off;\npid {self.room}/pid"), ("http {", "http {\n" + temporary_folders(self.room)),
+        self.places = {}
+        if isinstance(upstream, pathlib.Path):
+            own, of_programs = "", [("/run/tgap/", f"{upstream}/")]
+        else:
+            for name, port in (upstream if isinstance(upstream, dict) else {"columbus": upstream}).items():
+                self.note(name, port, HISTORY)
+            own = f'map "$map/$history" $place {{\ndefault 127.0.0.1:{free_port()};\ninclude {self.room}/run/places;\n}}\n'
+            of_programs = [("unix:/run/tgap/$map/$history.sock", "$place"), ("/run/tgap/", f"{self.room}/run/")]
+        text = exchanged(change((TOP / "deploy/nginx.conf").read_text()), [
+            ("pid /run/nginx.pid", f"daemon off;\npid {self.room}/pid"), ("http {", "http {\n" + own + temporary_folders(self.room)),
             ("/var/log/nginx/", f"{self.room}/log/"), ("/var/log/tgap/", f"{self.room}/log/"), ("/etc/tgap/", f"{self.room}/etc/"),
-            ("/srv/tgap/page", f"{self.room}/page"), ("/var/www/acme", f"{self.room}/acme"),
-            ("listen 80", f"listen 127.0.0.1:{self.plain}"), ("listen 443", f"listen 127.0.0.1:{self.port}"), ("unix:/run/tgap/columbus.sock", place),
+            ("/srv/tgap/page", f"{self.room}/page"), ("/var/www/acme", f"{self.room}/acme"), *of_programs,
+            *([("listen [::]:80", f"listen [::1]:{self.plain}"), ("listen [::]:443", f"listen [::1]:{self.port}")] if HAS_IPV6 else []),
+            ("listen 80", f"listen 127.0.0.1:{self.plain}"), ("listen 443", f"listen 127.0.0.1:{self.port}"),
         ])
         self.conf = self.room / "nginx.conf"
-        self.conf.write_text(text)
+        self.conf.write_text(text if HAS_IPV6 else re.sub(r"\n *listen \[::\].*", "", text))
         self.words = [tool("nginx"), "-e", self.room / "log/error.log", "-p", self.room, "-c", self.conf]
         super().__init__(self.words, stderr=subprocess.DEVNULL)
         if not until(lambda: listens(self.port) or self.process.poll() is not None) or self.process.poll() is not None:
             raise OSError("nginx does not start: " + (self.room / "log/error.log").read_text())
+
+    def note(self, name, port, history):
+        """Writes down which history a map has begun, and where the program of it listens."""
+        self.places[f"{name}/{history}"] = port
+        (self.room / f"run/{name}.history").write_text(f"{name} {history};\n")
+        (self.room / "run/places").write_text("".join(f"{place} 127.0.0.1:{port};\n" for place, port in self.places.items()))
+
+    def begin(self, name, port, history):
+        """Has nginx know of a new history of a map, and of its program alone."""
+        self.places = {place: port for place, port in self.places.items() if not place.startswith(f"{name}/")}
+        self.note(name, port, history)
+        subprocess.run([str(word) for word in [*self.words, "-s", "reload"]], check=True, stderr=subprocess.DEVNULL)
 
     def stop(self, by=signal.SIGTERM):
         super().stop(by)
