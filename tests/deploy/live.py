@@ -1,7 +1,6 @@
 """deploy/nginx.conf before the program: readers and editors at once, slow and foreign clients, clients that go, and what is kept of the edits."""
 import contextlib
 import gzip
-import json
 import os
 import pathlib
 import re
@@ -12,18 +11,16 @@ import threading
 import time
 
 from front import COLUMBUS, NAME, PASSWORD, PROXY, TOP, Front, Program, Running, answer_of, exchanged, listens, tool, until, version_of
-from lib import Skipped, arc_text, bent_grid, listing_lines
+from kept import kept
+from lib import Skipped
+from maps import LARGE, written
 
 OWN_BATCH = b"class 1 0\n"
-# The longest body that the program takes.
-LONGEST = 1_048_576
 # What has nothing to wait for is answered long before this, and what waits for a connection that somebody holds much later.
 AT_ONCE = 4
 # How long the front server waits for a whole head, and a while for a loaded machine.
 HEAD_SECONDS = 5 + 10
 READERS_LIMIT = 8
-# Cells a side of a map whose edit takes a second or more, with 73,260 points.
-LARGE = 110
 # Otherwise each thread has a part of the address space for itself before it wants it.
 ONE_HEAP = ["env", "MALLOC_ARENA_MAX=1"]
 
@@ -41,12 +38,6 @@ def before_a_town(tests):
         slow_heads(tests, front)
 
 
-def edits_of_a_town(tests):
-    with Program(tests.executable, COLUMBUS) as program, Front(program.port) as front:
-        kept_batches(tests, program, front)
-        bodies(tests, front)
-
-
 def before_a_large_map(tests):
     with tempfile.TemporaryDirectory() as room:
         with Program(tests.executable, [written(room, LARGE)]) as program, Front(program.port, little_kept_by_the_system) as front:
@@ -59,14 +50,6 @@ def before_a_large_map(tests):
 def little_kept_by_the_system(text):
     """So that a reply of some megabytes waits in the front server and not in its connection."""
     return exchanged(text, [("listen 443 ssl http2 default_server;", "listen 443 ssl http2 default_server sndbuf=16k;")])
-
-
-def written(room, side):
-    """The file of a map of bent cells, this many in a row."""
-    faces, count, arcs = bent_grid(side)
-    path = pathlib.Path(room) / f"{side}.tgap"
-    path.write_text("".join(listing_lines(faces, count, (arc_text(*arc) for arc in arcs))), encoding="ascii")
-    return path
 
 
 def timed(call):
@@ -201,42 +184,6 @@ def slow_heads(tests, front):
         with contextlib.suppress(ConnectionResetError):
             slow[0].recv(1000)
         tests.holds("a slow head is given up", until(lambda: connections_to(front.plain) == 0, HEAD_SECONDS), connections_to(front.plain))
-
-
-def bodies(tests, front):
-    tests.same("an edit of 20 KB", front.edit(OWN_BATCH * 2000).told, (200, b"published 3\n"))
-    tests.same("it is kept whole", until(lambda: kept(front)[-1]["batch"] == (OWN_BATCH * 2000).decode(), AT_ONCE), True)
-    lines = LONGEST // len(OWN_BATCH) - 6
-    longest = OWN_BATCH * lines + b"class 10 0\n" * 6
-    tests.same("the length of the longest body", len(longest), LONGEST)
-    tests.same("the longest body", front.edit(longest).told, (200, b"published 4\n"))
-    tests.same("a body with one byte more", front.edit(longest + b"\n").told, (413, b"too long\n"))
-
-
-def kept_batches(tests, program, front):
-    """What was published can be had again after a restart: all batches, sent as one."""
-    x, y = next(line for line in front.ask("GET", "/map/slice/0").text.decode().splitlines() if line.startswith("edge ")).split()[5:7]
-    for batch in [f"move {x} {y} {int(x) + 1} {y}\n".encode(), b"no line\n", b"class 2 2\n"]:
-        front.edit(batch)
-    # A line of the log is written when its reply was sent.
-    until(lambda: len(kept(front)) >= 2, AT_ONCE)
-    lines = kept(front)
-    tests.same("which edits are kept", [(line["version"], line["editor"]) for line in lines], [("1", "anna"), ("2", "anna")])
-    batch = "".join(line["batch"] for line in lines)
-    with Program(tests.executable, COLUMBUS) as again:
-        tests.same("all batches as one", again.ask("POST", "/edit", batch.encode()).told, (200, b"published 1\n"))
-        tests.same("the map after a restart", again.ask("GET", "/slice/0").text, program.ask("GET", "/slice/0").text)
-        tests.holds("it is another map than the file's", again.ask("GET", "/slice/0").text != before_edits(tests))
-
-
-def kept(front):
-    """The batches that the front server has kept."""
-    return [json.loads(line) for line in (front.room / "log/batches.log").read_text().splitlines()]
-
-
-def before_edits(tests):
-    map_file, layer, rules = COLUMBUS
-    return tests.text("slice", map_file, 0, layer, rules)
 
 
 def slow_readers(tests, front):
