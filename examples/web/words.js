@@ -59,7 +59,7 @@ export function wordsOf(error, by = "reading") {
 
 function ofAnotherHistory({ published }) {
   if (published === null) return "Your edit is not published: the server was started anew. Its map is shown now; make the edit again.";
-  return `Your edit is published as version ${published}, but the server was started anew, and its map is one that you had not seen. See whether it is still what you meant.`;
+  return `Your edit is published as version ${published}, but of a map that you had not seen: the server was started anew. See whether it is what you meant.`;
 }
 
 /** What became of an edit for which no success was told. */

@@ -18,6 +18,7 @@ export async function tellsOfFailures(on) {
   await tellsOfAServerThatIsGone(on);
   await wakesUpInAnotherHistory(on);
   await editsInAnotherHistory(on);
+  await dragsIntoAnotherHistory(on);
   await comparesNumbersWithoutAToken(on);
 }
 
@@ -164,6 +165,27 @@ async function editsInAnotherHistory({ tab, tally, served }) {
   tally.holds("and nothing was published", (await served.info()).startsWith("version 0 "));
   await dragsNear(tab, otherVertex(await served.slice(0)), [6, 2]);
   tally.holds("made again, it is published", await tab.until(`${text("version")} === 'Version 1' && ${IDLE}`));
+}
+
+/** The server is started anew, and its map shown, while a vertex is dragged. */
+async function dragsIntoAnotherHistory({ tab, tally, served }) {
+  const vertex = otherVertex(await served.slice(0));
+  await goesNear(tab, vertex);
+  const from = await placeOf(tab, vertex);
+  const to = from.map((z) => z + 6);
+  await dismiss(tab, "edit");
+  await tab.mouse("mouseMoved", from);
+  await tab.mouse("mousePressed", from, { button: "left", buttons: 1, clickCount: 1 });
+  for (const place of [from.map((z) => z + 4), to]) await tab.mouse("mouseMoved", place, { button: "left", buttons: 1 });
+  served.endProgram();
+  await served.startProgramAnew();
+  await tab.value(FOCUS);
+  await isShownAnew({ tab, tally, served }, 0, "while a vertex is dragged");
+  await tab.mouse("mouseReleased", to, { button: "left", clickCount: 1 });
+  tally.holds("an edit that was begun before is told", await tab.until(`(${NOTICES}).includes('edit: Your edit is not published: the server was started anew.')`));
+  tally.holds("and not published", (await served.info()).startsWith("version 0 "));
+  await dragsNear(tab, otherVertex(await served.slice(0)), [6, 2]);
+  tally.holds("it is when it is made on the map that is there", await tab.until(`${text("version")} === 'Version 1' && ${IDLE}`));
   await tab.value("document.getElementById('moving').click()");
 }
 

@@ -224,6 +224,12 @@ async function frontServerAlone(executable, tally) {
     front.turnTo(both[0], TOKENS[0]);
     front.status = null;
     tally.holds("a refusal before the first success decides nothing", (await thrown(first.info())) === null && first.history === TOKENS[0]);
+    const pinned = new Client(front.root);
+    await pinned.newest();
+    tally.holds("to ask for the newest version decides nothing", pinned.version === null && pinned.history === undefined);
+    await pinned.pin();
+    turn();
+    tally.holds("a pin decides as the first success", tellsOf(await thrown(pinned.info()), LAST, TOKENS[1]));
   });
 }
 

@@ -1,6 +1,6 @@
 // What is told of an answer that is no success: each status, by a front server or by the program, with each kind of headers.
 import { createServer } from "node:http";
-import { Client, OtherVersion, Refused, Unreachable } from "../../clients/js/client.js";
+import { Client, OtherHistory, OtherVersion, Refused, Unreachable } from "../../clients/js/client.js";
 import { wordsOf, wordsOfEdit } from "../../examples/web/words.js";
 import { thrown } from "./lib.mjs";
 
@@ -95,6 +95,13 @@ function pageTells(tally) {
     tally.holds(`${name} is told to an editor: ${edited}`, edited.startsWith(isOpen ? `No answer came (${error.message})` : `Your edit is not published. ${words}`) && areWords(edited));
     tally.holds(`${name}: an editor is not told that his edit is tried again`, !edited.includes("It is tried again"));
   }
+  const others = [
+    [new OtherVersion(3), "Your edit is not published: somebody else has published another version. It is shown now; make the edit again."],
+    [new OtherHistory(3, "x"), "Your edit is not published: the server was started anew. Its map is shown now; make the edit again."],
+    [new OtherHistory(3, "x", 3), "Your edit is published as version 3, but of a map that you had not seen: the server was started anew. See whether it is what you meant."],
+    [new Unreachable("fetch failed"), "No answer came (fetch failed). The edit may be published or not: the map tells, once it is there again."],
+  ];
+  for (const [error, words] of others) tally.equal(`an editor is told of ${error}`, wordsOfEdit(error), words);
   tally.equal("no answer at all is told", wordsOf(new Unreachable("fetch failed")), "The server cannot be reached. It is tried again. See whether you are connected.");
 }
 
