@@ -38,18 +38,18 @@ export function partsIn(points, box) {
     .filter((part) => part.some(([x, y]) => x !== part[0][0] || y !== part[0][1]));
 }
 
-/** The picture of a whole slice: anything with `step`, `faces` and `edges`. */
-export function pictureOfSlice(slice, version) {
+/** The picture of a whole slice: anything with `step`, `faces` and `edges`. It bears the version and the history that `seen` has. */
+export function pictureOfSlice(slice, seen) {
   const lines = [...slice.edges.values()];
   const box = boxOf(lines) ?? { x0: 0, y0: 0, x1: 0, y1: 0 };
-  return new Picture({ version, step: slice.step, area: null, faces: new Map(slice.faces), edges: lines, lines, box, corner: 0 });
+  return new Picture({ seen, step: slice.step, area: null, faces: new Map(slice.faces), edges: lines, lines, box, corner: 0 });
 }
 
 /**
- * The picture of a window. `ask` gives the face and class of a grid point: where no border runs through the window, all of it lies in one face, and the window
+ * The picture of a window, which bears the version and the history that `seen` has. `ask` gives the face and class of a grid point: where no border runs through the window, all of it lies in one face, and the window
  * does not tell which. The window must be two units wide and high at least.
  */
-export async function pictureOfWindow(window, version, ask) {
+export async function pictureOfWindow(window, seen, ask) {
   const { x0, y0, x1, y1 } = window.area;
   // Half a unit within the window no vertex lies on the frame, and no border runs along it.
   const box = { x0: x0 + 0.5, y0: y0 + 0.5, x1: x1 - 0.5, y1: y1 - 0.5 };
@@ -62,7 +62,7 @@ export async function pictureOfWindow(window, version, ask) {
     corner = found.face;
     if (corner !== 0) faces.set(corner, found.ofClass);
   }
-  return new Picture({ version, step: window.step, area: window.area, faces, edges, lines, box, corner });
+  return new Picture({ seen, step: window.step, area: window.area, faces, edges, lines, box, corner });
 }
 
 /** Where lines come through the top of a box: `x`, and the faces `west` and `east`. */
@@ -91,8 +91,9 @@ function faceOfCorner(lines, box) {
 }
 
 class Picture {
-  constructor({ version, step, area, faces, edges, lines, box, corner }) {
-    this.version = version;
+  constructor({ seen, step, area, faces, edges, lines, box, corner }) {
+    this.version = seen.version;
+    this.history = seen.history;
     this.step = step;
     /** What the window shows; null for a slice, which shows everything. */
     this.area = area;

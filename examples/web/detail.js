@@ -1,7 +1,7 @@
 // How much of the map is asked for: the coarsest slice first, and then as much detail as the view can show, by packets, or by a window where little is seen of a
 // large map. What is shown is one picture at any time, and it covers the view.
 
-import { BadText, FARTHEST, OtherVersion, Unfit } from "./clients/js/client.js";
+import { BadText, FARTHEST, OtherHistory, OtherVersion, Unfit } from "./clients/js/client.js";
 import { pictureOfSlice, pictureOfWindow } from "./clients/js/pictures.js";
 import { boxOf, holdsBox, joinBoxes } from "./clients/js/places.js";
 
@@ -24,12 +24,15 @@ function gridBox({ x0, y0, x1, y1 }, beyond = 0) {
   return { x0: whole(Math.floor(x0 - w)), y0: whole(Math.floor(y0 - h)), x1: whole(Math.ceil(x1 + w)), y1: whole(Math.ceil(y1 + h)) };
 }
 
+/** Whether an error tells that everything must be asked for again, of another version or history. */
+const tellsOfAnother = (error) => error instanceof OtherVersion || error instanceof OtherHistory;
+
 const area = (box) => Math.max(box.x1 - box.x0, 1) * Math.max(box.y1 - box.y0, 1);
 
 export class Detail {
   /**
-   * `told` is told what happens: a version `begins`, a picture `shows`, the way to it `works` on or is done, a request `fails` or the failure `heals`, a newer
-   * version is `heard` of, and the map `moves` to another version.
+   * `told` is told what happens: a version `begins`, a picture `shows`, the way to it `works` on or is done, a request `fails` or an answer `heals` that, it `hears`
+   * of a newer version, and what is shown is what somebody else `published`, or what a server has that `restarted`.
    */
   constructor(client, told) {
     this.client = client;
@@ -40,6 +43,8 @@ export class Detail {
     this.outdated = true;
     this.working = false;
     this.waiting = null;
+    /** What the reader is to be told when the other version is there: "published" or "restarted". */
+    this.news = null;
   }
 
   /** The view has changed: its box in grid units, and how many square pixels a square unit has. */
@@ -77,12 +82,27 @@ export class Detail {
     return this.work();
   }
 
-  /** Everything is of another version from now on. An own edit has moved the client already. */
-  moveTo(version) {
-    const before = this.info?.version ?? -1;
-    if (this.client.version !== version || before === version) this.told.moves(version, before);
-    this.client.show(version);
+  /** Whether an error tells of another version or history. It is shown then; an own edit, or another call, may have moved the client there already. */
+  follows(error) {
+    if (!tellsOfAnother(error)) return false;
+    const { client } = this;
+    const { version, history = client.history } = error;
+    const isOtherHistory = history !== client.history;
+    const isThere = !isOtherHistory && (Number.isNaN(version) || version === client.version);
+    if (!isThere) this.#goTo(version, history, isOtherHistory || version < client.version);
+    else if (!this.#isOf(client)) this.renew();
+    return true;
+  }
+
+  #goTo(version, history, hasRestarted) {
+    if (this.news !== "restarted") this.news = hasRestarted ? "restarted" : "published";
+    this.client.show(version, history);
     this.renew();
+  }
+
+  /** Whether what is at hand is of this version and history. */
+  #isOf({ version, history }) {
+    return this.info?.version === version && this.info.history === history;
   }
 
   /** Shows the newest version. */
@@ -101,28 +121,29 @@ export class Detail {
       this.told.heals();
       const differs = Object.keys(known).some((name) => known[name] !== newest[name]);
       if (newest.version > known.version) this.told.hears(newest.version);
-      else if (differs) this.moveTo(newest.version);
+      else if (differs) this.#goTo(newest.version, newest.history, true);
     } catch (error) {
-      this.#fail(error);
+      if (!this.follows(error)) this.#fail(error);
     }
   }
 
   /** All edges of a face of the picture. */
   async edgesOf(face) {
-    const { area: part, edges, step, version } = this.picture;
-    return part ? this.#of(version, this.client.edgesOf(face, step, edges)) : edges;
+    const { picture } = this;
+    return picture.area ? this.#of(picture, this.client.edgesOf(face, picture.step, picture.edges)) : picture.edges;
   }
 
-  /** An answer, if the client still shows the version that it was asked for: an edit may have come between. */
-  async #of(version, asked) {
+  /** An answer, if the client still shows the version and the history that it was asked for: an edit may have come between. */
+  async #of(seen, asked) {
     const answer = await asked;
-    if (this.client.version !== version) throw new OtherVersion(this.client.version);
+    this.client.keepTo(seen);
     return answer;
   }
 
   /** Works until the picture is the one that the view wants, however that changes meanwhile. */
   async work() {
-    if (this.working) return;
+    // Where nothing is to be asked, a failure that was told of stays, and so does the time of the next attempt.
+    if (this.working || this.settled) return;
     this.working = true;
     clearTimeout(this.waiting);
     try {
@@ -131,7 +152,6 @@ export class Detail {
         await this.#askNext();
         this.#choose();
       }
-      this.told.heals();
     } catch (error) {
       this.#fail(error);
     } finally {
@@ -153,33 +173,36 @@ export class Detail {
       if (this.outdated) await this.#load();
       else if (this.#windowIsLess()) await this.#askWindow();
       else await this.#askPacket();
+      this.told.heals();
     } catch (error) {
-      if (!(error instanceof OtherVersion)) throw error;
-      this.moveTo(error.version);
+      if (!this.follows(error)) throw error;
     }
   }
 
   /** Asks for the coarsest slice; what is shown changes only when it is there. */
   async #load() {
     const info = await this.client.info();
-    const coarsest = await this.#of(info.version, this.client.refined(info.steps));
+    const coarsest = await this.#of(info, this.client.refined(info.steps));
     const bounds = boxOf(coarsest.edges.values()) ?? { x0: 0, y0: 0, x1: 1, y1: 1 };
     Object.assign(this, { info, coarsest, bounds, slice: coarsest.copy(), records: new Map(), finest: info.steps, window: null, whole: null, outdated: false });
     this.told.begins(bounds);
+    const { news } = this;
+    this.news = null;
+    if (news) this.told[news](info.version);
   }
 
   /** Asks for the next records towards the wanted step. */
   async #askPacket() {
     const to = Math.max(this.wanted, this.finest - RECORDS_AT_ONCE);
-    const packet = await this.#of(this.info.version, this.client.packet(this.finest, to));
+    const packet = await this.#of(this.info, this.client.packet(this.finest, to));
     for (const record of packet.records) this.records.set(record.step, record);
     this.finest = to;
   }
 
   async #askWindow() {
     const { client, wanted, info } = this;
-    const answer = await this.#of(info.version, client.window(wanted, gridBox(this.view.box, BEYOND)));
-    this.window = await this.#of(info.version, pictureOfWindow(answer, info.version, (x, y) => client.faceAt(x, y, wanted)));
+    const answer = await this.#of(info, client.window(wanted, gridBox(this.view.box, BEYOND)));
+    this.window = await this.#of(info, pictureOfWindow(answer, info, (x, y) => client.faceAt(x, y, wanted)));
   }
 
   /** How much of the map is seen, from 0 to 1. */
@@ -215,7 +238,7 @@ export class Detail {
     if (this.whole?.step === step) return this.whole;
     if (step > this.slice.step) this.slice = this.coarsest.copy();
     while (this.slice.step > step) this.slice.undo(this.records.get(this.slice.step));
-    this.whole = pictureOfSlice(this.slice, this.info.version);
+    this.whole = pictureOfSlice(this.slice, this.info);
     // A finer slice may reach farther than a coarse one.
     this.bounds = joinBoxes(this.bounds, this.whole.box);
     return this.whole;

@@ -21,10 +21,10 @@ export class Identify {
     sheet.map.on("dblclick", () => clearTimeout(this.waiting));
   }
 
-  /** What was told of one picture does not stand over another one, unless it is of the same step and version. */
+  /** What was told of one picture does not stand over another one, unless it is of the same step of the same map. */
   show(picture) {
     const { told } = this;
-    if (told && (told.step !== picture.step || told.version !== picture.version)) this.popup.remove();
+    if (told && ["step", "version", "history"].some((name) => told[name] !== picture[name])) this.popup.remove();
   }
 
   async #ask(latlng) {

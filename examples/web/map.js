@@ -1,11 +1,12 @@
 // The page: what is seen decides what is asked for, and what is asked for is drawn.
 
-import { Client, OtherVersion } from "./clients/js/client.js";
+import { Client, OtherHistory } from "./clients/js/client.js";
 import { Detail } from "./detail.js";
 import { Identify } from "./identify.js";
 import { Moving } from "./moving.js";
-import { Panel, wordsOf } from "./panel.js";
+import { Panel } from "./panel.js";
 import { Sheet } from "./sheet.js";
+import { wordsOf, wordsOfEdit } from "./words.js";
 
 // How often a newer version is asked for while the page is seen.
 const SECONDS_BETWEEN_NEWS = 10;
@@ -24,7 +25,8 @@ const detail = new Detail(client, {
   fails: (error) => panel.complain("server", wordsOf(error)),
   heals: () => panel.settle("server"),
   hears: (version) => panel.note("news", `Version ${version} of the map is there.`),
-  moves: (version, before) => panel.note("news", `${version > before ? "Somebody else has published" : "The server was started anew, with"} version ${version}. It is shown now.`),
+  published: (version) => panel.note("news", `Somebody else has published version ${version}. It is shown now.`),
+  restarted: (version) => panel.note("news", `The server was started anew, with version ${version}. It is shown now.`),
 });
 
 const identify = new Identify(sheet, detail, panel, { isWanted: () => !moving.isOn, failed: tellFailure });
@@ -41,12 +43,13 @@ function show(picture) {
 
 /** A request of the reader's own has failed. */
 function tellFailure(error) {
-  if (error instanceof OtherVersion) detail.moveTo(error.version);
-  else panel.complain("request", wordsOf(error));
+  if (!detail.follows(error)) panel.complain("request", wordsOf(error, "asking"));
 }
 
-async function publish(from, to) {
+async function publish(from, to, picture) {
   try {
+    // The server may have been started anew while the vertex was dragged.
+    if (picture.history !== client.history) throw new OtherHistory(client.version ?? NaN, client.history);
     const { version, foreseen } = await client.edit(`move ${from.join(" ")} ${to.join(" ")}\n`);
     panel.settle("edit");
     if (foreseen) panel.note("edit", `Your edit is published as version ${version}.`);
@@ -58,15 +61,8 @@ async function publish(from, to) {
 }
 
 function tellOfEdit(error) {
-  if (error instanceof OtherVersion) {
-    panel.complain("edit", "Your edit is not published: somebody else has published another version. It is shown now; make the edit again.");
-    detail.moveTo(error.version);
-  } else if (error.name === "Unreachable") {
-    panel.complain("edit", `No answer came (${error.message}). The edit may be published or not: the map tells, once it is there again.`);
-    detail.listen();
-  } else {
-    panel.complain("edit", `Your edit is not published. ${wordsOf(error)}`);
-  }
+  panel.complain("edit", wordsOfEdit(error));
+  if (!detail.follows(error) && error.name === "Unreachable") detail.listen();
 }
 
 async function catchUp() {

@@ -19,9 +19,9 @@ function vertexNear(map, picture, place) {
 }
 
 export class Moving {
-  /** `moved` is told of a vertex and where it shall be, both of the grid. */
+  /** `moved` is told of a vertex and where it shall be, both of the grid, and of the picture that the vertex was taken from. */
   constructor(sheet, box, moved) {
-    Object.assign(this, { sheet, box, vertex: null, isDragged: false });
+    Object.assign(this, { sheet, box, vertex: null, picture: null, isDragged: false });
     const icon = L.divIcon({ className: "handle", iconSize: [SIZE, SIZE] });
     this.handle = L.marker([0, 0], { icon, draggable: true, keyboard: false, zIndexOffset: 1000 });
     this.handle.on("dragstart", () => (this.isDragged = true));
@@ -30,7 +30,7 @@ export class Moving {
       const { lng, lat } = this.handle.getLatLng();
       const [from, to] = [this.vertex, [Math.round(lng), Math.round(lat)]];
       this.#leave();
-      if (String(from) !== String(to)) moved(from, to);
+      if (String(from) !== String(to)) moved(from, to, this.picture);
     });
     sheet.map.on("mousemove click", ({ containerPoint }) => this.#follow(containerPoint));
     box.addEventListener("change", () => {
@@ -58,7 +58,7 @@ export class Moving {
     if (!this.isOn || this.isDragged || !picture) return;
     const vertex = vertexNear(map, picture, place);
     if (vertex === null) return this.#leave();
-    this.vertex = vertex;
+    Object.assign(this, { vertex, picture });
     this.handle.setLatLng([vertex[1], vertex[0]]).addTo(map);
   }
 }

@@ -69,14 +69,3 @@ export class Panel {
     this.notices.delete(cause);
   }
 }
-
-/** What an error means to a reader. */
-export function wordsOf(error) {
-  const words = {
-    Unreachable: () => `The server cannot be reached (${error.message}). It is tried again.`,
-    Refused: () => `The server refuses: ${error.message}.`,
-    BadText: () => `The server's answer cannot be read: ${error.message}.`,
-    Unfit: () => `A refinement does not fit: ${error.message}.`,
-  };
-  return (words[error.name] ?? (() => `The page has failed: ${error.message}.`))();
-}

@@ -134,8 +134,30 @@ class Tab {
     return this.ask("Emulation.setDeviceMetricsOverride", { width, height, deviceScaleFactor: 1, mobile: false });
   }
 
+  #network(conditions) {
+    return this.ask("Network.emulateNetworkConditions", { offline: false, latency: 0, downloadThroughput: -1, uploadThroughput: -1, ...conditions });
+  }
+
   delay(latency) {
-    return this.ask("Network.emulateNetworkConditions", { offline: false, latency, downloadThroughput: -1, uploadThroughput: -1 });
+    return this.#network({ latency });
+  }
+
+  cutOff(offline) {
+    return this.#network({ offline });
+  }
+
+  /** Hands each request that fits the pattern to `take` in the place of the network, while something is done. */
+  async intercepting(urlPattern, take, work) {
+    this.paused = take;
+    await this.ask("Fetch.enable", { patterns: [{ urlPattern }] });
+    await work();
+    await this.ask("Fetch.disable");
+  }
+
+  /** Answers an intercepted request. An empty phrase is no status text, as over HTTP/2; the protocol has a blank for it. */
+  fulfill(requestId, { status, phrase, headers, body }) {
+    const responseHeaders = Object.entries({ "Content-Type": "text/plain", ...headers }).map(([name, value]) => ({ name, value }));
+    return this.ask("Fetch.fulfillRequest", { requestId, responseCode: status, responsePhrase: phrase || " ", responseHeaders, body: Buffer.from(body).toString("base64") });
   }
 
   /** What one sees, as the bytes of a PNG. */

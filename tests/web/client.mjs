@@ -1,4 +1,4 @@
-// Holds clients/js against the served program: refinement, the face of a point, what windows are painted with, and versions.
+// Holds clients/js against the served program: refinement, the face of a point, what windows are painted with, versions and histories, and refusals.
 // usage: node tests/web/client.mjs EXECUTABLE. Last line: 'N passed, N failed, N skipped'.
 import { execFile } from "node:child_process";
 import { mkdtempSync, rmSync, writeFileSync } from "node:fs";
@@ -10,7 +10,9 @@ import { Client, OtherVersion, Refused, Unreachable } from "../../clients/js/cli
 import { pictureOfSlice, pictureOfWindow } from "../../clients/js/pictures.js";
 import { areaOf, boxOf } from "../../clients/js/places.js";
 import { sliceText } from "../../clients/js/wire.js";
-import { Tally, dice, gridListing, serve, tgap } from "./lib.mjs";
+import { Tally, dice, gridListing, serve, tgap, thrown } from "./lib.mjs";
+import { lives } from "./lives.mjs";
+import { refusals } from "./refusals.mjs";
 
 const executable = path.resolve(process.argv[2]);
 const room = mkdtempSync(path.join(tmpdir(), "web-client-"));
@@ -81,7 +83,7 @@ async function findsFaces(name, client, random) {
   const { steps } = await client.info();
   for (const step of [0, Math.floor(steps / 2), steps - 2]) {
     const slice = await client.refined(step);
-    const picture = pictureOfSlice(slice, 0);
+    const picture = pictureOfSlice(slice, client);
     const parts = partsOf(await client.topology(step));
     const box = boxOf(slice.edges.values());
     for (let i = 0; i < 30; i++) {
@@ -120,7 +122,7 @@ async function paintsWindows(name, client, random) {
       const span = Math.max(2, Math.floor((all.x1 - all.x0) * random() ** 4));
       const [x0, y0] = [all.x0 + random() * (all.x1 - all.x0) - span / 2, all.y0 + random() * (all.y1 - all.y0) - span / 2].map(Math.floor);
       const area = { x0, y0, x1: x0 + span, y1: y0 + span };
-      const picture = await pictureOfWindow(await client.window(step, area), 0, (x, y) => client.faceAt(x, y, step));
+      const picture = await pictureOfWindow(await client.window(step, area), client, (x, y) => client.faceAt(x, y, step));
       if (picture.lines.length === 0) bare += 1;
       for (let j = 0; j < 8; j++) {
         const [x, y] = between(random, picture.box);
@@ -151,15 +153,6 @@ async function maps() {
   }
 }
 
-async function thrown(promise) {
-  try {
-    await promise;
-    return null;
-  } catch (error) {
-    return error;
-  }
-}
-
 /** Publishes an edit behind the back of a client that is just about to send his own. */
 async function withAnEditBetween(root, batch, work) {
   const plain = globalThis.fetch;
@@ -180,7 +173,7 @@ async function withAnEditBetween(root, batch, work) {
 /** Has each request come on a connection of its own, as through the front server of the example. */
 async function withoutKeptConnections(work) {
   const plain = globalThis.fetch;
-  globalThis.fetch = (address, options) => plain(address, { ...options, headers: { connection: "close" } });
+  globalThis.fetch = (address, options) => plain(address, { ...options, headers: { ...options.headers, connection: "close" } });
   try {
     await work();
   } finally {
@@ -249,6 +242,8 @@ try {
   await withoutKeptConnections(versions);
   await keptConnections();
   await startedAnew();
+  await lives(executable, tally);
+  await refusals(tally);
   await maps();
 } finally {
   rmSync(room, { recursive: true });

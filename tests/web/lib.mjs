@@ -40,6 +40,16 @@ export class Tally {
 
 const short = (value) => String(JSON.stringify(value)).slice(0, 300);
 
+/** What a promise is refused with; null where it is kept. */
+export async function thrown(promise) {
+  try {
+    await promise;
+    return null;
+  } catch (error) {
+    return error;
+  }
+}
+
 /** What the program answers on the command line, in the folder of the examples. */
 export function tgap(executable, ...words) {
   const ran = spawnSync(executable, words, { cwd: examples, encoding: "utf8", maxBuffer: 256 * MEGABYTES });

@@ -1,6 +1,9 @@
 // The page of the example behind its front server, and what a test asks of it.
 import { spawn, spawnSync } from "node:child_process";
-import { readFileSync, readlinkSync } from "node:fs";
+import { randomBytes } from "node:crypto";
+import { existsSync, readFileSync, readlinkSync, writeFileSync } from "node:fs";
+import path from "node:path";
+import { setTimeout as pause } from "node:timers/promises";
 import { fileURLToPath } from "node:url";
 import { crossingsAt } from "../../clients/js/places.js";
 import { readSlice } from "../../clients/js/wire.js";
@@ -12,8 +15,17 @@ const run = fileURLToPath(new URL("../../examples/web/run", import.meta.url));
 const APART = 23;
 const CLEAR = 4;
 const MARGIN = 70;
+const MILLISECONDS = 20;
+const BYTES_OF_A_TOKEN = 8;
+const TOKEN = /(?<=Tgap-History )[0-9a-f]{16}/;
 
-/** What runs `examples/web/run` over a map, and can end its program alone. */
+const childrenOf = (number) => readFileSync(`/proc/${number}/task/${number}/children`, "utf8").trim().split(" ").map(Number);
+
+async function until(holds) {
+  while (!(await holds())) await pause(MILLISECONDS);
+}
+
+/** What runs `examples/web/run` over a map, and can end its program alone and start it anew. */
 export class Served {
   static #all = new Set();
 
@@ -27,30 +39,54 @@ export class Served {
     served.child = spawn(run, map, { cwd: examples, stdio: ["ignore", "pipe", "inherit"], env: { ...process.env, TGAP_SERVER: executable } });
     served.address = await firstMatch(served.child, served.child.stdout, /http:\S+/);
     served.executable = executable;
-    served.program = served.#program();
+    served.program = served.#process((exe) => exe === executable);
+    served.front = served.#process((exe) => path.basename(exe) === "nginx").number;
     return served;
   }
 
-  /** The process of the program: its number and its words. */
-  #program() {
-    const parent = this.child.pid;
-    const numbers = readFileSync(`/proc/${parent}/task/${parent}/children`, "utf8").trim().split(" ");
-    const number = numbers.find((it) => readlinkSync(`/proc/${it}/exe`) === this.executable);
-    return { number: Number(number), words: readFileSync(`/proc/${number}/cmdline`, "utf8").split("\0").slice(1, -1) };
+  /** A process that was started with the page: its number and its words. */
+  #process(isIts) {
+    const number = childrenOf(this.child.pid).find((it) => isIts(readlinkSync(`/proc/${it}/exe`)));
+    return { number, words: readFileSync(`/proc/${number}/cmdline`, "utf8").split("\0").slice(1, -1) };
   }
 
   endProgram() {
-    process.kill(this.program.number, "SIGKILL");
+    if (this.second) this.second.kill("SIGKILL");
+    else process.kill(this.program.number, "SIGKILL");
   }
 
-  startProgramAnew() {
+  /** The program is served anew, from the version that is in its file, and the front server names another history. */
+  async startProgramAnew() {
+    const token = randomBytes(BYTES_OF_A_TOKEN).toString("hex");
+    await this.changeFront((text) => text.replaceAll(text.match(TOKEN)[0], token));
+    await this.startProgram();
+    return token;
+  }
+
+  /** The program is served anew, and the front server knows nothing of it. */
+  async startProgram() {
     this.second = spawn(this.executable, this.program.words, { stdio: "ignore" });
+    await until(async () => (await fetch(`${this.address}map/info`)).status === 200);
+  }
+
+  /** Changes the front server's configuration; when this is done, no process of it works by the old one. */
+  async changeFront(change) {
+    // nginx writes its words into its title, one blank apart.
+    const [, file] = readFileSync(`/proc/${this.front}/cmdline`, "utf8").match(/ -c (\S+)/);
+    const old = childrenOf(this.front);
+    writeFileSync(file, change(readFileSync(file, "utf8")));
+    process.kill(this.front, "SIGHUP");
+    await until(() => old.every((it) => !existsSync(`/proc/${it}`)));
   }
 
   /** Publishes an edit as somebody else does. */
   async edit(batch) {
     const answer = await fetch(`${this.address}map/edit`, { method: "POST", body: batch });
     return answer.text();
+  }
+
+  async info() {
+    return (await fetch(`${this.address}map/info`)).text();
   }
 
   async slice(step) {
@@ -73,6 +109,10 @@ export function shown(tab) {
 }
 
 export const IDLE = "Boolean(window.tgap?.sheet.picture && window.tgap.detail.settled && !window.tgap.detail.working)";
+
+export const text = (id) => `document.getElementById(${JSON.stringify(id)}).textContent`;
+export const NOTICES = "[...document.querySelectorAll('#notices li')].map((it) => it.dataset.cause + ': ' + it.querySelector('span').textContent).join('\\n')";
+export const PICTURE_TEXT = "import('/clients/js/wire.js').then((wire) => wire.sliceText({ ...window.tgap.sheet.picture, edges: new Map(window.tgap.sheet.picture.edges.map((it) => [it.key, it])) }))";
 
 /** The screenshot with what is shown on it: nothing may change meanwhile. */
 export async function look(tab) {
@@ -132,4 +172,30 @@ export function placeOf(tab, [x, y]) {
 export function sliceOf(executable, step, ...map) {
   const ran = spawnSync(executable, ["slice", map[0], String(step), ...map.slice(1)], { cwd: examples, encoding: "utf8", maxBuffer: 2 ** 28 });
   return readSlice(ran.stdout);
+}
+
+/** Goes so near to a vertex that a pixel is a grid unit, and the finest step is shown. */
+export async function goesNear(tab, [x, y]) {
+  await tab.value(`location.hash = '#0/${x}/${y}'`);
+  const CENTRE = "window.tgap.sheet.map.getCenter()";
+  await tab.until(`${IDLE} && window.tgap.sheet.map.getZoom() === 0 && Math.hypot(${CENTRE}.lng - ${x}, ${CENTRE}.lat - ${y}) < 1`);
+}
+
+/** Goes so near to a vertex that a drag over some pixels is a small edit, and drags it. */
+export async function dragsNear(tab, vertex, by) {
+  await goesNear(tab, vertex);
+  const at = await placeOf(tab, vertex);
+  await tab.drag(at, at.map((z, axis) => z + by[axis]));
+}
+
+/** An inner vertex of a border, and where it may go without harm: a hundredth of the way to the next vertex. */
+export function vertexToMove(slice) {
+  const edge = [...slice.edges.values()].find(({ points }) => points.length > 5);
+  const [p, q] = [edge.points[2], edge.points[3]];
+  return [p, p.map((z, axis) => Math.round(z + (q[axis] - z) / 100))];
+}
+
+/** An inner vertex of another border. */
+export function otherVertex(slice) {
+  return [...slice.edges.values()].filter(({ points }) => points.length > 5)[3].points[3];
 }

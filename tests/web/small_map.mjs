@@ -6,13 +6,11 @@ import { areaOf, boxOf } from "../../clients/js/places.js";
 import { sliceText } from "../../clients/js/wire.js";
 import { pixelsOf } from "./browser.mjs";
 import { examples } from "./lib.mjs";
-import { IDLE, look, placeOf, shown, sliceOf, wrongSamples } from "./served.mjs";
+import { tellsOfFailures } from "./failures.mjs";
+import { IDLE, NOTICES, PICTURE_TEXT, dragsNear, look, otherVertex, shown, sliceOf, text, vertexToMove, wrongSamples } from "./served.mjs";
 
 const MIDDLE = [420, 330];
-const text = (id) => `document.getElementById(${JSON.stringify(id)}).textContent`;
-const NOTICES = "[...document.querySelectorAll('#notices li')].map((it) => it.dataset.cause + ': ' + it.querySelector('span').textContent).join('\\n')";
 const POPUP = "document.querySelector('.leaflet-popup-content')?.innerText ?? ''";
-const PICTURE_TEXT = "import('/clients/js/wire.js').then((wire) => wire.sliceText({ ...window.tgap.sheet.picture, edges: new Map(window.tgap.sheet.picture.edges.map((it) => [it.key, it])) }))";
 const transform = JSON.parse(readFileSync(path.join(examples, "columbus.json"))).transform;
 
 export async function smallMap(on) {
@@ -152,26 +150,6 @@ async function makesAPictureOnce({ tab, tally }) {
   await tab.until(IDLE);
 }
 
-/** Goes so near to a vertex that a drag over some pixels is a small edit, and drags it. */
-async function dragsNear(tab, vertex, by) {
-  await tab.value(`location.hash = '#0/${vertex.join("/")}'`);
-  await tab.until(`${IDLE} && window.tgap.sheet.map.getZoom() === 0`);
-  const at = await placeOf(tab, vertex);
-  await tab.drag(at, at.map((z, axis) => z + by[axis]));
-}
-
-/** An inner vertex of a border, and where it may go without harm: a hundredth of the way to the next vertex. */
-function vertexToMove(slice) {
-  const edge = [...slice.edges.values()].find(({ points }) => points.length > 5);
-  const [p, q] = [edge.points[2], edge.points[3]];
-  return [p, p.map((z, axis) => Math.round(z + (q[axis] - z) / 100))];
-}
-
-/** An inner vertex of another border. */
-function otherVertex(slice) {
-  return [...slice.edges.values()].filter(({ points }) => points.length > 5)[3].points[3];
-}
-
 async function edits(on) {
   const { tab, tally, served } = on;
   await tab.value("document.getElementById('moving').click()");
@@ -218,36 +196,4 @@ async function isTooLate({ tab, tally, served }) {
   await pause(1000);
   tally.holds("and stays told", (await tab.value(NOTICES)).includes("edit: Your edit is not published: somebody else"));
   tally.equal("the newer version is shown", (await shown(tab)).version, 5);
-}
-
-async function dismiss(tab, cause) {
-  await tab.value(`document.querySelector('#notices li[data-cause=${cause}] button').click()`);
-}
-
-async function tellsOfFailures({ tab, tally, served }) {
-  await tab.value("document.getElementById('all').click()");
-  await tab.until(IDLE);
-  const slice = await served.slice((await shown(tab)).step);
-  const box = boxOf(slice.edges.values());
-  const [vertex] = vertexToMove(slice);
-  const at = await placeOf(tab, vertex);
-  await tab.drag(at, await placeOf(tab, [(box.x0 + box.x1) / 2, (box.y0 + box.y1) / 2]));
-  tally.holds("a refused edit is told", await tab.until(`(${NOTICES}).includes('Your edit is not published. The server refuses: refused 15')`));
-  await pause(1000);
-  tally.holds("it stands until it is dismissed", (await tab.value(NOTICES)).includes("refused 15"));
-  await dismiss(tab, "edit");
-  tally.holds("and not longer", !(await tab.value(NOTICES)).includes("edit:"));
-  await tab.value("document.getElementById('moving').click()");
-
-  served.endProgram();
-  await tab.wheel(MIDDLE, -200);
-  tally.holds("a server that is gone is told", await tab.until(`(${NOTICES}).includes('server: The server cannot be reached')`));
-  await pause(1500);
-  tally.holds("for as long as it is gone", (await tab.value(NOTICES)).includes("server: The server cannot be reached"));
-  served.startProgramAnew();
-  tally.holds("it is told no more when it is back", await tab.until(`!(${NOTICES}).includes('server:')`));
-  tally.holds("what was lost is told", await tab.until(`(${NOTICES}).includes('The server was started anew, with version 0.')`));
-  tally.holds("and its map is shown", await tab.until(`${text("version")} === 'Version 0' && ${IDLE}`));
-  const after = await shown(tab);
-  tally.equal("at the step of the view", after.step, after.wanted);
 }

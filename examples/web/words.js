@@ -1,0 +1,73 @@
+// What an error means to a reader, and what he should do next. The server's own words stand beside it, where it has any.
+
+/** How it goes on where a while may help, by what asked: the page for what it shows, the reader, or an editor. */
+const LATER = { reading: "It is tried again.", asking: "Try again in a moment.", editing: "Make the edit again in a moment." };
+
+const PASSWORD = { reading: "Load the page again", asking: "Load the page again", editing: "Make the edit again" };
+
+const OPERATOR = "If it stays so, tell the operator.";
+
+/** What a status says, and what to do. */
+const BY_STATUS = {
+  401: (_said, by) => ["The server wants a name and a password", `${PASSWORD[by]} and give them. The operator has them.`],
+  403: () => ["The server does not allow this from here", "Use the map's own page, at the address that the operator names."],
+  404: () => ["The server does not know what was asked for", "Load the page again, since it may be older than the server."],
+  409: ofOtherVersion,
+  412: () => ["The server was started anew meanwhile", "Load the page again."],
+  413: () => ["What was sent is too long", "Send less of it at a time."],
+  422: ofAnEdit,
+  502: (_said, by) => ["The server cannot be reached", `${LATER[by]} ${OPERATOR}`],
+  503: ofAWhile,
+  504: (_said, by) => ["The server has not answered in time", `${LATER[by]} ${OPERATOR}`],
+  507: () => ["The server has as many versions as it may have", "It takes no edit until the operator has started it anew. Tell him."],
+};
+
+function ofOtherVersion(said) {
+  const stale = /^stale ([0-9]+)$/.exec(said);
+  if (stale) return [`Somebody else has published version ${stale[1]} meanwhile`, "Look at it, and make the edit again."];
+  return ["The server has another version than the one that is shown", "Load the page again."];
+}
+
+function ofAnEdit(said) {
+  if (said.startsWith("refused")) return ["The map would not be sound", "Move the vertex to another place, or not so far."];
+  if (said.startsWith("edit line")) return ["The edit does not fit the map that is there", "Look at the map, and make another edit."];
+  return ["The server cannot do this with the map that is there", "Ask for something else."];
+}
+
+function ofAWhile(said, by) {
+  if (said.startsWith("busy")) return ["The server is busy, with many readers at your address or with another edit", LATER[by]];
+  if (said.startsWith("memory")) return ["The server has too little memory for this at the moment", `${LATER[by]} ${OPERATOR}`];
+  return ["The server cannot answer this at the moment", `${LATER[by]} ${OPERATOR}`];
+}
+
+function ofStatus({ status, said }, by) {
+  const known = BY_STATUS[status] ?? (() => [`The server refuses, with status ${status}`, "Load the page again. If that does not help, tell the operator."]);
+  const [what, next] = known(said, by);
+  return `${what}${said ? ` (${said})` : ""}. ${next}`;
+}
+
+/** `by` tells what asked: "reading", "asking" or "editing". */
+export function wordsOf(error, by = "reading") {
+  const words = {
+    Unreachable: () => (error.status === null ? `The server cannot be reached. ${LATER[by]} See whether you are connected.` : ofStatus(error, by)),
+    Refused: () => ofStatus(error, by),
+    BadText: () => `The server's answer cannot be read: ${error.message}.`,
+    Unfit: () => `A refinement does not fit: ${error.message}.`,
+  };
+  return (words[error.name] ?? (() => `The page has failed: ${error.message}.`))();
+}
+
+function ofAnotherHistory({ published }) {
+  if (published === null) return "Your edit is not published: the server was started anew. Its map is shown now; make the edit again.";
+  return `Your edit is published as version ${published}, but of a map that you had not seen: the server was started anew. See whether it is what you meant.`;
+}
+
+/** What became of an edit for which no success was told. */
+export function wordsOfEdit(error) {
+  const words = {
+    OtherVersion: () => "Your edit is not published: somebody else has published another version. It is shown now; make the edit again.",
+    OtherHistory: () => ofAnotherHistory(error),
+    Unreachable: () => `No answer came (${error.said || error.message}). The edit may be published or not: the map tells, once it is there again.`,
+  };
+  return (words[error.name] ?? (() => `Your edit is not published. ${wordsOf(error, "editing")}`))();
+}
