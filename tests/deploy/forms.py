@@ -87,7 +87,8 @@ def groups(root, host):
     yield "ends", [Form("POST", place + word + end) for place in [below, "/published/", "/"] for word in ["edit", "pin"] for end in ENDS]
     yield "steps", [Form("POST", below + step.format(word)) for word in ["edit", "pin", "edit%0a"] for step in STEPS]
     yield "paths", [Form("POST", path.format(root)) for path in PATHS]
-    yield "absolute", [Form("POST", place.format(host=host) + path) for place in ABSOLUTE for path in [f"{below}edit", f"{below}edit%0a", f"{below}pin", "/edit", "/published/edit", ""]]
+    paths = [f"{below}edit", f"{below}edit%0a", f"{below}pin", "/edit", "/published/edit", ""]
+    yield "absolute", [Form("POST", place.format(host=host) + path) for place in ABSOLUTE for path in paths]
     yield "methods", list(by_method(below))
     yield "headers", list(by_header(below))
 

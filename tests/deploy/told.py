@@ -12,11 +12,12 @@ import threading
 from forms import BATCH
 from front import COLUMBUS, HAS_IPV6, HISTORY, NAME, PASSWORD, Front, Program, exchanged, tool, until
 from lib import SECONDS, Skipped
-from walls import EDITS_IN_A_ROW, IN_A_ROW, Second
+from wires import EDITS_IN_A_ROW, IN_A_ROW, Second
 
 ALWAYS = {
     "tgap-history": HISTORY, "x-content-type-options": "nosniff", "x-frame-options": "DENY", "strict-transport-security": "max-age=31536000",
-    "content-security-policy": "default-src 'none'; script-src 'self'; style-src 'self'; img-src 'self' data:; connect-src 'self'; base-uri 'none'; form-action 'none'; frame-ancestors 'none'",
+    "content-security-policy": "default-src 'none'; script-src 'self'; style-src 'self'; img-src 'self' data:; connect-src 'self'; "
+                               "base-uri 'none'; form-action 'none'; frame-ancestors 'none'",
 }
 NUMBERS = b"version 0 steps 48 faces 49 arcs 134 points "
 OTHER_HISTORY = {"Tgap-History": "fedcba9876543210"}
@@ -77,7 +78,8 @@ def by_two(front, rows):
     with Second(front) as second:
         for row in rows:
             names = {":method": row.method, ":path": row.path, ":scheme": "https", ":authority": NAME}
-            ((status, headers, text),) = second.ask([({**names, **{name.lower(): value for name, value in row.headers.items()}}, row.body.decode(), IN_A_ROW)])
+            more = {name.lower(): value for name, value in row.headers.items()}
+            ((status, headers, text),) = second.ask([(names | more, row.body.decode(), IN_A_ROW)])
             yield status, headers, text.encode()
 
 
@@ -129,7 +131,7 @@ def access_log(tests, front):
 def histories_of_edits(tests, program, front):
     before = program.ask("GET", "/info").text
     tests.same("an edit of another history", front.edit(BATCH.encode(), OTHER_HISTORY, source="127.0.3.2").status, 412)
-    for token in [HISTORY[:-1], HISTORY + "0", HISTORY.replace("a", "A"), f"{HISTORY}, {HISTORY}", f"{HISTORY}:{HISTORY}", "x", "0"]:
+    for token in [HISTORY[:-1], HISTORY + "0", HISTORY.replace("a", "A"), f"{HISTORY}, {HISTORY}", f"{HISTORY}:{HISTORY}", "x", "0", ":", f":{HISTORY}"]:
         tests.same(f"an edit of {token}", front.edit(BATCH.encode(), {"Tgap-History": token}, source="127.0.3.3").status, 412)
     tests.same("they publish nothing", program.ask("GET", "/info").text, before)
     tests.same("an edit of this history", front.edit(BATCH.encode(), {"Tgap-History": HISTORY}, source="127.0.3.4").told, (200, b"published 1\n"))
@@ -146,7 +148,8 @@ def silent():
 def impatient(text):
     """The configuration that gives a program up sooner."""
     last = "    proxy_buffers 16 64k;\n"
-    return exchanged(text, [("proxy_read_timeout 120s;", "proxy_read_timeout 1s;"), ("proxy_read_timeout 2s;", "proxy_read_timeout 1s;"), (last, last + "    proxy_read_timeout 1s;\n")])
+    soon = "proxy_read_timeout 1s;"
+    return exchanged(text, [("proxy_read_timeout 120s;", soon), ("proxy_read_timeout 2s;", soon), (last, f"{last}    {soon}\n")])
 
 
 def connected(port, source="::1"):
