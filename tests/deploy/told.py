@@ -88,7 +88,7 @@ def by_both(tests, front, rows):
     for way, ask in ways.items():
         for row, (status, headers, text) in zip(rows, ask(front, rows)):
             name = f"{row.method} {row.path} is told {row.status} by {way}"
-            wanted = {**ALWAYS, "cache-control": row.cached, **row.more}
+            wanted = {**ALWAYS, "cache-control": row.cached, **({"content-type": "text/plain"} if row.cached == "no-store" else {}), **row.more}
             tests.same(name, (status, text), (row.status, row.text))
             tests.same(f"{name}, with its headers", {key: headers.get(key) for key in wanted}, wanted)
             tests.same(f"{name}, and no others", [key for key in ["allow", "www-authenticate", "tgap-version"] if key in headers and key not in wanted], [])
@@ -136,6 +136,9 @@ def histories_of_edits(tests, program, front):
     tests.same("they publish nothing", program.ask("GET", "/info").text, before)
     tests.same("an edit of this history", front.edit(BATCH.encode(), {"Tgap-History": HISTORY}, source="127.0.3.4").told, (200, b"published 1\n"))
     tests.same("an edit that names none", front.edit(BATCH.encode(), source="127.0.3.4").told, (200, b"published 2\n"))
+    if tool("node"):
+        row = Row("POST", "/map/edit", 200, b"published 3\n", headers={**PASSWORD, "Tgap-History": HISTORY}, body=BATCH.encode())
+        tests.same("an edit of this history by HTTP/2", next(by_two(front, [row]))[::2], (row.status, row.text))
 
 
 @contextlib.contextmanager
