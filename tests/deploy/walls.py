@@ -129,7 +129,7 @@ def walls(tests):
         by_host(tests, pieces, columbus, squares)
         by_path(tests, pieces, columbus, squares)
         on_another_machine(tests, pieces, columbus, squares)
-    with_the_old_cut(tests)
+    with_a_loose_cut(tests)
     of_the_example(tests)
 
 
@@ -176,17 +176,17 @@ def elsewhere(groups):
     return [(name, [form for form in group if not forms.may_mean_an_edit(form.target, "")]) for name, group in groups]
 
 
-def cut_as_once(text):
+def cut_loosely(text):
     """The configuration with a cut that takes a last line feed away, and no wall by method before it."""
     wall = "            set $allowed GET;\n            if ($request_method != GET) {\n                return 405;\n            }\n"
     return exchanged(text, [('rewrite "(?s)^/map/(.*)\\z" /$1 break;', "rewrite ^/map/(.*)$ /$1 break;"), (wall, "")])
 
 
-def with_the_old_cut(tests):
+def with_a_loose_cut(tests):
     """That these forms find a hole where there is one."""
     hole, version = ["/map/edit%0A", "/map/edit%0a"], "/map/edit%0a by HTTP/1.0"
     some = [(name, group) for name, group in forms.groups("", NAME) if name == "a byte after edit"]
-    with Program(tests.executable, COLUMBUS) as program, Front(program.port, cut_as_once) as front:
+    with Program(tests.executable, COLUMBUS) as program, Front(program.port, cut_loosely) as front:
         target = Target("with a hole", front.socket, [program])
         tests.same("the hole is found", published(over_one(Untold(), target, some)), hole)
         tests.same("by an older version of HTTP too", whole_connections(Untold(), target, lambda name: name == version), [version] * 2)
