@@ -42,9 +42,14 @@ def piece(pieces, begin):
     return found
 
 
-def readers_elsewhere(tests, pieces, program):
+def read_elsewhere(pieces):
+    """What lets pages of other origins read."""
     added = piece(pieces, "reading: in location /map/")
-    with Front(program.port, lambda text: exchanged(text, [(line, line + added) for line in READING])) as front:
+    return [(line, line + added) for line in READING]
+
+
+def readers_elsewhere(tests, pieces, program):
+    with Front(program.port, lambda text: exchanged(text, read_elsewhere(pieces))) as front:
         for method, path in [("GET", "/map/info"), ("GET", "/map/slice/99"), ("POST", "/map/pin")]:
             reply = front.ask(method, path, None, EVIL)
             tests.same(f"a page of another origin reads {path}", (reply.headers["Access-Control-Allow-Origin"], reply.headers["Access-Control-Expose-Headers"]), ("*", EXPOSED))
@@ -55,11 +60,16 @@ def readers_elsewhere(tests, pieces, program):
         tests.same("without these lines no page reads", [name for name in reply.headers if name.startswith("Access-Control")], [])
 
 
-def editors_elsewhere(tests, pieces, program):
+def edited_elsewhere(pieces):
+    """What lets the page of one other origin edit."""
     origin, headers = piece(pieces, "editing: in map"), piece(pieces, "editing: in location = /map/edit")
     own = f"        https://{NAME} 0;\n"
     first, last = "                return 403;\n            }\n", "            limit_conn editors 1;\n"
-    with Front(program.port, lambda text: exchanged(text, [(own, own + origin), (first, first + headers), (last, last + headers)])) as front:
+    return [(own, own + origin), (first, first + headers), (last, last + headers)]
+
+
+def editors_elsewhere(tests, pieces, program):
+    with Front(program.port, lambda text: exchanged(text, edited_elsewhere(pieces))) as front:
         asked = front.ask("OPTIONS", "/map/edit", None, {"Origin": PAGE, "Access-Control-Request-Method": "POST", "Access-Control-Request-Headers": "authorization"})
         told = [asked.headers[f"Access-Control-Allow-{name}"] for name in ["Origin", "Credentials", "Headers"]]
         tests.same("the browser asks for a page that may edit", (asked.status, told), (204, [PAGE, "true", "Authorization, Tgap-History"]))
@@ -75,10 +85,14 @@ def faces_of(reply):
     return reply.status, int(re.search(rb"faces (\d+)", reply.text)[1]) if reply.status == 200 else None
 
 
-def by_host(tests, pieces, columbus, squares):
+def chosen_by_host(pieces):
+    """What makes it choose the map by the host."""
     names = [(f"server_name {NAME};", f"server_name {NAME} {OTHER};"), (f"        https://{NAME} 0;\n", f"        https://{NAME} 0;\n        https://{OTHER} 0;\n")]
-    change = [(CHOICE, piece(pieces, "by host")), *names]
-    with Front({"columbus": columbus.port, "holland": squares.port}, lambda text: exchanged(text, change)) as front:
+    return [(CHOICE, piece(pieces, "by host")), *names]
+
+
+def by_host(tests, pieces, columbus, squares):
+    with Front({"columbus": columbus.port, "holland": squares.port}, lambda text: exchanged(text, chosen_by_host(pieces))) as front:
         tests.same("the map of the first host", faces_of(front.ask("GET", "/map/info")), (200, 49))
         tests.same("the map of the second", faces_of(front.ask("GET", "/map/info", None, {"Host": OTHER})), (200, 2))
         tests.same("no map of a third", front.ask("GET", "/map/info", None, {"Host": "other.example"}).status, 403)
@@ -113,14 +127,19 @@ def by_path(tests, pieces, columbus, squares):
         tests.holds("is one of the map of that path", squares.ask("GET", "/info").text != before)
 
 
+def passed_on(pieces, far):
+    """What passes reading on to the front server of another machine."""
+    added = exchanged(piece(pieces, "on another machine"), [
+        (f"https://{OTHER}", f"https://127.0.0.1:{far.port}"), (OTHER, NAME), ("/etc/ssl/certs/ca-certificates.crt", far.room / "etc/certificate.pem"),
+    ])
+    place = "        location = /map/edit {\n"
+    return [(place, added + place)]
+
+
 def another_machine(tests, pieces, columbus, squares):
     """One front server before another, which has the second map."""
     with Front(squares.port) as far:
-        passed_on = exchanged(piece(pieces, "on another machine"), [
-            (f"https://{OTHER}", f"https://127.0.0.1:{far.port}"), (OTHER, NAME), ("/etc/ssl/certs/ca-certificates.crt", far.room / "etc/certificate.pem"),
-        ])
-        place = "        location = /map/edit {\n"
-        with Front(columbus.port, lambda text: exchanged(text, [(place, passed_on + place)])) as front:
+        with Front(columbus.port, lambda text: exchanged(text, passed_on(pieces, far))) as front:
             front.begin("columbus", columbus.port, HERE)
             tests.holds("the history of this machine is another one", until(lambda: front.ask("GET", "/map/info").headers["Tgap-History"] == HERE))
             tests.same("the map of this machine", faces_of(front.ask("GET", "/map/info")), (200, 49))

@@ -20,7 +20,8 @@ OWN_BATCH = b"class 1 0\n"
 AT_ONCE = 4
 # How long the front server waits for a whole head, and a while for a loaded machine.
 HEAD_SECONDS = 5 + 10
-READERS_LIMIT = 8
+# What one address may have under way, texts and all.
+TEXTS_LIMIT, READERS_LIMIT = 3, 8
 # Otherwise each thread has a part of the address space for itself before it wants it.
 ONE_HEAP = ["env", "MALLOC_ARENA_MAX=1"]
 
@@ -187,16 +188,24 @@ def slow_heads(tests, front):
 
 
 def slow_readers(tests, front):
-    """As many clients as one address may have ask for megabytes and take nothing: no worker waits for them."""
-    slow, last = [], re.search(rb"steps (\d+)", front.ask("GET", "/map/info").text)[1].decode()
+    """As many clients as one address may have ask for megabytes and take nothing, or do not end their requests: no worker
+    waits for them."""
+    last = re.search(rb"steps (\d+)", front.ask("GET", "/map/info").text)[1].decode()
     with contextlib.ExitStack() as clients:
-        for _ in range(READERS_LIMIT):
-            slow.append(clients.enter_context(front.socket(room=4096)))
-            slow[-1].sendall(f"GET /map/packet/{last}/0 HTTP/1.1\r\nHost: {NAME}\r\n\r\n".encode())
+
+        def asks(line, *headers):
+            one = clients.enter_context(front.socket(room=4096))
+            one.sendall("\r\n".join([f"{line} HTTP/1.1", f"Host: {NAME}", *headers, "", ""]).encode())
+            return one
+
+        slow = [asks(f"GET /map/packet/{last}/0") for _ in range(TEXTS_LIMIT)]
         # Each reply has begun.
-        tests.same("what slow readers have of it", [one.recv(1) for one in slow], [b"H"] * READERS_LIMIT)
-        refused = timed(lambda: front.ask("GET", "/map/info"))
-        tests.same("one reader of that address too much", refused.told, (503, b"busy, try again\n"))
+        tests.same("what slow readers have of it", [one.recv(1) for one in slow], [b"H"] * TEXTS_LIMIT)
+        tests.same("one text of that address too much", front.ask("GET", "/map/slice/1").told, (503, b"busy, try again\n"))
+        tests.same("what is no text", front.ask("GET", "/map/info").status, 200)
+        for _ in range(READERS_LIMIT - TEXTS_LIMIT):
+            asks("POST /map/pin", "Content-Length: 1")
+        tests.same("one reader of that address too much", until(lambda: front.ask("GET", "/map/info").told[0] == 503, AT_ONCE), True)
         told = timed(lambda: front.ask("GET", "/map/slice/1", source="127.0.0.2"))
         tests.holds("a reader of another address", told.status == 200 and told.seconds < AT_ONCE, (told.status, told.seconds))
 
