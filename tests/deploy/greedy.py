@@ -11,8 +11,8 @@ import threading
 import time
 
 from front import Front, Program, answer_of, exchanged
+from large_map import LARGE, written
 from live import side_by_side
-from maps import LARGE, written
 
 GREEDY, READER, STEADY = "127.0.0.5", "127.0.0.6", "127.0.0.7"
 CONNECTIONS = 16

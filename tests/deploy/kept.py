@@ -7,7 +7,7 @@ import subprocess
 import tempfile
 
 from front import COLUMBUS, HISTORY, TOP, Front, Program, exchanged, until
-from maps import LARGE, written
+from large_map import LARGE, written
 
 OWN_BATCH = b"class 1 0\n"
 # The longest body that the program takes.

@@ -12,8 +12,8 @@ import time
 
 from front import COLUMBUS, NAME, PASSWORD, PROXY, TOP, Front, Program, Running, answer_of, exchanged, listens, tool, until, version_of
 from kept import kept
+from large_map import LARGE, written
 from lib import Skipped
-from maps import LARGE, written
 
 OWN_BATCH = b"class 1 0\n"
 # What has nothing to wait for is answered long before this, and what waits for a connection that somebody holds much later.
