@@ -92,21 +92,21 @@ export class Client {
   async #read(path) {
     for (let tries = 0; tries < TRIES; tries++) {
       const answer = await this.#ask("GET", path);
-      const { status, version, history } = answer;
-      const isNamed = !Number.isNaN(version);
-      if (this.version === null && status === 200 && isNamed) {
-        this.version = version;
-        this.history ??= history;
-      }
-      if (!isNamed || version === this.version || this.version === null) {
-        mustSucceed(answer);
-        return answer;
-      }
+      const { version } = answer;
+      if (Number.isNaN(version) || version === this.version || this.version === null) return this.#kept(answer);
       if (version > this.version) throw new OtherVersion(version);
       // Connections may take turns: with one more pin each time, all of them are met.
       for (let i = 0; i <= tries; i++) await this.#pinShown();
     }
     throw new Refused(503, "the connections do not agree on a version");
+  }
+
+  /** A success, whose version and history are kept where none are. */
+  #kept(answer) {
+    mustSucceed(answer);
+    this.version ??= answer.version;
+    this.history ??= answer.history;
+    return answer;
   }
 
   async #pinShown() {

@@ -1,7 +1,10 @@
 // Holds the front server of the example against what it lets through, what it says itself, and what it puts beside each reply.
 // usage: node tests/web/front_server.mjs EXECUTABLE. Last line: 'N passed, N failed, N skipped'.
+import { once } from "node:events";
+import { existsSync } from "node:fs";
 import { request } from "node:http";
 import path from "node:path";
+import { setTimeout as pause } from "node:timers/promises";
 import { Tally } from "./lib.mjs";
 import { Served } from "./served.mjs";
 
@@ -121,6 +124,17 @@ async function tellsOfTheProgram(served, history) {
   hasItsHeaders("another life", await ask(served, "GET", "/map/info"), next);
 }
 
+/** However often it is told to end, what it has started ends with it. */
+async function endsWhole(served) {
+  const ended = once(served.child, "exit");
+  for (let i = 0; i < 50; i++) {
+    served.child.kill();
+    await pause(0.2);
+  }
+  await ended;
+  tally.holds("the front server ends with what started it", !existsSync(`/proc/${served.front}`));
+}
+
 const served = await Served.start(path.resolve(process.argv[2]));
 process.on("SIGTERM", () => {
   served.stop();
@@ -133,6 +147,7 @@ try {
   await keepsOut(served, history);
   await refusesEdits(served, history);
   await tellsOfTheProgram(served, history);
+  await endsWhole(served);
 } finally {
   served.stop();
 }

@@ -224,6 +224,10 @@ async function frontServerAlone(executable, tally) {
     front.turnTo(both[0], TOKENS[0]);
     front.status = null;
     tally.holds("a refusal before the first success decides nothing", (await thrown(first.info())) === null && first.history === TOKENS[0]);
+    const shown = new Client(front.root);
+    shown.show(LAST);
+    await shown.slice(0);
+    tally.equal("where a version is shown before the first success, this decides the history", shown.history, TOKENS[0]);
     const pinned = new Client(front.root);
     await pinned.newest();
     tally.holds("to ask for the newest version decides nothing", pinned.version === null && pinned.history === undefined);

@@ -177,8 +177,8 @@ export function sliceOf(executable, step, ...map) {
 /** Goes so near to a vertex that a pixel is a grid unit, and the finest step is shown. */
 export async function goesNear(tab, [x, y]) {
   await tab.value(`location.hash = '#0/${x}/${y}'`);
-  const CENTRE = "window.tgap.sheet.map.getCenter()";
-  await tab.until(`${IDLE} && window.tgap.sheet.map.getZoom() === 0 && Math.hypot(${CENTRE}.lng - ${x}, ${CENTRE}.lat - ${y}) < 1`);
+  const isInTheMiddle = `(({ map }) => map.latLngToContainerPoint([${y}, ${x}]).distanceTo(map.getSize().divideBy(2)) < 2)(window.tgap.sheet)`;
+  await tab.until(`${IDLE} && window.tgap.sheet.map.getZoom() === 0 && ${isInTheMiddle}`);
 }
 
 /** Goes so near to a vertex that a drag over some pixels is a small edit, and drags it. */
