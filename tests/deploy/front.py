@@ -111,7 +111,7 @@ def exchanged(text, pairs):
     """The text with each first word of a pair, which must be in it, replaced by the second."""
     for old, new in pairs:
         if old not in text:
-            raise OSError(f"deploy/nginx.conf has no '{old}'")
+            raise OSError(f"there is no '{old}' to be exchanged")
         text = text.replace(old, str(new))
     return text
 
@@ -121,7 +121,7 @@ def temporary_folders(room):
 
 
 class Front(Running):
-    """nginx with deploy/nginx.conf before the program that listens at `upstream`, a port or the path of a socket."""
+    """nginx with deploy/nginx.conf before the program that listens at `upstream`: a port, or the folder that stands for /run/tgap."""
 
     def __init__(self, upstream, change=lambda text: text):
         self.room = pathlib.Path(tempfile.mkdtemp(prefix="tgap-front-"))
@@ -134,12 +134,14 @@ class Front(Running):
         make_certificate(self.room / "etc")
         make_password(self.room / "etc/editors")
         text = change((TOP / "deploy/nginx.conf").read_text())
-        place = f"unix:{upstream}" if isinstance(upstream, pathlib.Path) else f"127.0.0.1:{upstream}"
+        if not isinstance(upstream, pathlib.Path):
+            text = exchanged(text, [("unix:/run/tgap/$map/$history.sock", f"127.0.0.1:{upstream}")])
         text = exchanged(text, [
             ("pid /run/nginx.pid", f"daemon off;\npid {self.room}/pid"), ("http {", "http {\n" + temporary_folders(self.room)),
             ("/var/log/nginx/", f"{self.room}/log/"), ("/var/log/tgap/", f"{self.room}/log/"), ("/etc/tgap/", f"{self.room}/etc/"),
             ("/srv/tgap/page", f"{self.room}/page"), ("/var/www/acme", f"{self.room}/acme"),
-            ("listen 80", f"listen 127.0.0.1:{self.plain}"), ("listen 443", f"listen 127.0.0.1:{self.port}"), ("unix:/run/tgap/columbus.sock", place),
+            ("listen 80", f"listen 127.0.0.1:{self.plain}"), ("listen 443", f"listen 127.0.0.1:{self.port}"),
+            ("/run/tgap/", f"{upstream if isinstance(upstream, pathlib.Path) else self.room}/"),
         ])
         self.conf = self.room / "nginx.conf"
         self.conf.write_text(text)

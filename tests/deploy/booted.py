@@ -1,0 +1,133 @@
+"""The commands of docs/deployment.md and the units of deploy/ with systemd itself: a copy of this machine's folders, in
+memory, is booted in a container with a network of its own, and inside.py works in it."""
+import contextlib
+import json
+import os
+import pathlib
+import shutil
+import signal
+import subprocess
+import tempfile
+
+import rehearsal
+from front import PATH, PROXY, TOP, tool
+from lib import Skipped
+from live import written
+
+TOOLS = ["systemd-nspawn", "systemctl", "nginx", "openssl", "jq", "curl", "unshare", "mount", "useradd", "systemd-socket-activate"]
+SECONDS = 400
+# Cells a side of a map whose edit takes two seconds or more.
+LARGE = 147
+# Nothing of the machine is changed: what is written goes to the memory that is mounted here alone.
+BOOT = r"""
+mount -t tmpfs tmpfs "$ROOM/memory"
+mkdir "$ROOM/memory/over" "$ROOM/memory/work" "$ROOM/memory/root"
+mount -t overlay overlay -o "lowerdir=/,upperdir=$ROOM/memory/over,workdir=$ROOM/memory/work" "$ROOM/memory/root" || { echo no folder of its own; exit 9; }
+mkdir -p /run/systemd/nspawn
+mount -t tmpfs tmpfs /run/systemd/nspawn
+cd "$ROOM/memory/root"
+: >etc/fstab
+rm -rf etc/systemd/system/*.wants etc/systemd/system/tgap* etc/tgap var/log/tgap srv/tgap
+cp "$ROOM"/units/* etc/systemd/system
+ln -sf /etc/systemd/system/booted.target etc/systemd/system/default.target
+[ -s etc/machine-id ] || echo 0123456789abcdef0123456789abcdef >etc/machine-id
+exec systemd-nspawn --quiet --boot --directory="$ROOM/memory/root" --machine="$(basename "$ROOM")" --private-network --register=no $UNIT \
+    --link-journal=no --bind="$ROOM/shared:/shared" --bind="$ROOM/repository:/repository"
+"""
+TARGET = "[Unit]\nRequires=basic.target booted.service\nAfter=basic.target\nAllowIsolate=yes\n"
+SERVICE = """[Unit]
+After=basic.target
+[Service]
+Type=oneshot
+# Where the groups of processes have a folder for each resource, that of memory is not the container's own.
+ExecStartPre=-/bin/sh -c '[ ! -d /sys/fs/cgroup/memory ] || mount -o remount,bind,rw /sys/fs/cgroup/memory && systemctl daemon-reexec'
+ExecStart=/usr/bin/python3 -B /repository/tests/deploy/inside.py
+StandardOutput=file:/shared/said
+StandardError=file:/shared/said
+TimeoutStartSec=infinity
+ExecStopPost=/bin/sh -c 'journalctl --no-pager -u "tgap@*" -u nginx >/shared/journal; systemctl --no-block --force poweroff'
+"""
+
+
+def booted(tests):
+    missing = [name for name in TOOLS if not tool(name)] + [name for name in [PROXY] if not pathlib.Path(name).exists()]
+    if missing or os.geteuid() != 0:
+        raise Skipped(f"{', '.join(missing)} missing" if missing else "it wants the rights of root")
+    with tempfile.TemporaryDirectory(prefix="tgap-booted-") as folder, groups_of_its_own() as enter:
+        room = pathlib.Path(folder)
+        lay_out(room, tests.executable)
+        said = boot(room, enter)
+        told = [json.loads(line) for line in lines_of(room / "shared/told")]
+        if not told:
+            raise Skipped(f"no container can be booted: {said[-300:]}")
+        for name, got, wanted in told:
+            tests.same(f"booted: {name}", got, wanted)
+        tests.same("booted: all was done", told[-1][0], "the end")
+        if os.environ.get("BOOTED_KEPT"):
+            shutil.copytree(room / "shared", os.environ["BOOTED_KEPT"], dirs_exist_ok=True)
+
+
+def lines_of(path):
+    return path.read_text().splitlines() if path.exists() else []
+
+
+def lay_out(room, executable):
+    for name in ["memory", "shared", "units"]:
+        (room / name).mkdir()
+    rehearsal.lay_out(room, executable)
+    (room / "repository/tests").mkdir()
+    shutil.copytree(TOP / "tests/deploy", room / "repository/tests/deploy")
+    shutil.copy(TOP / "tests/lib.py", room / "repository/tests")
+    shutil.copytree(TOP / "docs", room / "repository/docs")
+    (room / "shared/bin").mkdir()
+    shutil.move(room / "bin/apt-get", room / "shared/bin")
+    (room / "shared/script").write_text(rehearsal.commands())
+    written(room / "shared", LARGE)
+    (room / "units/booted.target").write_text(TARGET)
+    (room / "units/booted.service").write_text(SERVICE)
+
+
+def boot(room, enter):
+    """What the container says of itself, when it has gone."""
+    unit = "" if pathlib.Path("/run/systemd/system").exists() else "--keep-unit"
+    how = {"stdin": subprocess.DEVNULL, "stdout": subprocess.PIPE, "stderr": subprocess.STDOUT, "text": True, "start_new_session": True, "preexec_fn": enter}
+    words = [tool("unshare"), "-m", "sh", "-eu", "-c", BOOT]
+    with subprocess.Popen(words, env={**os.environ, "PATH": PATH, "ROOM": str(room), "UNIT": unit}, **how) as container:
+        try:
+            return container.communicate(timeout=SECONDS)[0]
+        except subprocess.TimeoutExpired:
+            os.killpg(container.pid, signal.SIGKILL)
+            return container.communicate()[0]
+
+
+@contextlib.contextmanager
+def groups_of_its_own():
+    """What makes the calling process leave this one's groups for new ones, below, in which the container makes its own.
+    systemd does that by itself where it is there."""
+    made = [] if pathlib.Path("/run/systemd/system").exists() else list(new_groups(f"tgap-booted-{os.getpid()}"))
+
+    def enter():
+        for group in made:
+            (group / "cgroup.procs").write_text("0")
+
+    try:
+        yield enter
+    finally:
+        for group in made:
+            for folder, _, _ in os.walk(group, topdown=False):
+                with contextlib.suppress(OSError):
+                    os.rmdir(folder)
+
+
+def new_groups(name):
+    own = {}
+    for line in pathlib.Path("/proc/self/cgroup").read_text().splitlines():
+        _, kinds, path = line.split(":", 2)
+        own.update({kind: path for kind in kinds.split(",")})
+    for line in pathlib.Path("/proc/self/mounts").read_text().splitlines():
+        _, place, kind, options = line.split()[:4]
+        if kind in ("cgroup", "cgroup2") and (words := [word for word in ["", "memory", "name=systemd"] if word in options.split(",") or (not word and kind == "cgroup2")]):
+            group = pathlib.Path(f"{place}/{own[words[0]]}/{name}")
+            with contextlib.suppress(OSError):
+                group.mkdir()
+                yield group
