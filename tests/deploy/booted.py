@@ -16,6 +16,7 @@ from live import written
 
 TOOLS = ["systemd-nspawn", "systemctl", "nginx", "openssl", "jq", "curl", "unshare", "mount", "useradd", "systemd-socket-activate"]
 SECONDS = 400
+BY_SYSTEMD = pathlib.Path("/run/systemd/system").exists()
 # Cells a side of a map whose edit takes two seconds or more.
 LARGE = 147
 # Nothing of the machine is changed: what is written goes to the memory that is mounted here alone.
@@ -31,21 +32,27 @@ rm -rf etc/systemd/system/*.wants etc/systemd/system/tgap* etc/tgap var/log/tgap
 cp "$ROOM"/units/* etc/systemd/system
 ln -sf /etc/systemd/system/booted.target etc/systemd/system/default.target
 [ -s etc/machine-id ] || echo 0123456789abcdef0123456789abcdef >etc/machine-id
-exec systemd-nspawn --quiet --boot --directory="$ROOM/memory/root" --machine="$(basename "$ROOM")" --private-network --register=no $UNIT \
-    --link-journal=no --bind="$ROOM/shared:/shared" --bind="$ROOM/repository:/repository"
+# It ends with this status where the machine in it is to begin again.
+again=133 status=133
+while [ $status = $again ]; do
+    status=0
+    systemd-nspawn --quiet --boot --directory="$ROOM/memory/root" --machine="$(basename "$ROOM")" --private-network --register=no $UNIT \
+        --link-journal=no --bind="$ROOM/shared:/shared" --bind="$ROOM/repository:/repository" || status=$?
+done
 """
 TARGET = "[Unit]\nRequires=basic.target booted.service\nAfter=basic.target\nAllowIsolate=yes\n"
 SERVICE = """[Unit]
 After=basic.target
 [Service]
 Type=oneshot
-# Where the groups of processes have a folder for each resource, that of memory is not the container's own.
-ExecStartPre=-/bin/sh -c '[ ! -d /sys/fs/cgroup/memory ] || mount -o remount,bind,rw /sys/fs/cgroup/memory && systemctl daemon-reexec'
+# Where each resource has control groups of its own, those of memory are not given to the container.
+ExecStartPre=-/bin/sh -c '[ ! -d /sys/fs/cgroup/memory ] || { mount -o remount,bind,rw /sys/fs/cgroup/memory && systemctl daemon-reexec; }'
 ExecStart=/usr/bin/python3 -B /repository/tests/deploy/inside.py
-StandardOutput=file:/shared/said
-StandardError=file:/shared/said
+StandardOutput=append:/shared/said
+StandardError=append:/shared/said
 TimeoutStartSec=infinity
-ExecStopPost=/bin/sh -c 'journalctl --no-pager -u "tgap@*" -u nginx >/shared/journal; systemctl --no-block --force poweroff'
+# It has set off itself where the machine is to begin again.
+ExecStopPost=/bin/sh -c '[ -e /shared/boots ] || systemctl --no-block poweroff'
 """
 
 
@@ -56,19 +63,24 @@ def booted(tests):
     with tempfile.TemporaryDirectory(prefix="tgap-booted-") as folder, groups_of_its_own() as enter:
         room = pathlib.Path(folder)
         lay_out(room, tests.executable)
-        said = boot(room, enter)
-        told = [json.loads(line) for line in lines_of(room / "shared/told")]
-        if not told:
-            raise Skipped(f"no container can be booted: {said[-300:]}")
-        for name, got, wanted in told:
-            tests.same(f"booted: {name}", got, wanted)
-        tests.same("booted: all was done", told[-1][0], "the end")
-        if os.environ.get("BOOTED_KEPT"):
-            shutil.copytree(room / "shared", os.environ["BOOTED_KEPT"], dirs_exist_ok=True)
+        console = boot(room, enter)
+        said, told = [text_of(room / "shared" / name) for name in ["said", "told"]]
+        if not said and not told:
+            raise Skipped(f"no container can be booted: {console[-300:]}")
+        count(tests, [json.loads(line) for line in told.splitlines()], said)
 
 
-def lines_of(path):
-    return path.read_text().splitlines() if path.exists() else []
+def text_of(path):
+    return path.read_text() if path.exists() else ""
+
+
+def count(tests, told, said):
+    for name, *results in told:
+        if len(results) == 2:
+            tests.same(f"booted: {name}", *results)
+        else:
+            tests.skip(f"booted: {name}", *results)
+    tests.holds("booted: all of it was done", told and told[-1][0] == "the end", said[-300:])
 
 
 def lay_out(room, executable):
@@ -89,10 +101,9 @@ def lay_out(room, executable):
 
 def boot(room, enter):
     """What the container says of itself, when it has gone."""
-    unit = "" if pathlib.Path("/run/systemd/system").exists() else "--keep-unit"
     how = {"stdin": subprocess.DEVNULL, "stdout": subprocess.PIPE, "stderr": subprocess.STDOUT, "text": True, "start_new_session": True, "preexec_fn": enter}
     words = [tool("unshare"), "-m", "sh", "-eu", "-c", BOOT]
-    with subprocess.Popen(words, env={**os.environ, "PATH": PATH, "ROOM": str(room), "UNIT": unit}, **how) as container:
+    with subprocess.Popen(words, env={**os.environ, "PATH": PATH, "ROOM": str(room), "UNIT": "" if BY_SYSTEMD else "--keep-unit"}, **how) as container:
         try:
             return container.communicate(timeout=SECONDS)[0]
         except subprocess.TimeoutExpired:
@@ -102,9 +113,9 @@ def boot(room, enter):
 
 @contextlib.contextmanager
 def groups_of_its_own():
-    """What makes the calling process leave this one's groups for new ones, below, in which the container makes its own.
-    systemd does that by itself where it is there."""
-    made = [] if pathlib.Path("/run/systemd/system").exists() else list(new_groups(f"tgap-booted-{os.getpid()}"))
+    """What has the calling process leave this one's control groups for new ones below, in which the container makes its
+    own. Where systemd runs the machine it does so itself."""
+    made = [] if BY_SYSTEMD else list(new_groups(f"tgap-booted-{os.getpid()}"))
 
     def enter():
         for group in made:
@@ -120,14 +131,12 @@ def groups_of_its_own():
 
 
 def new_groups(name):
-    own = {}
+    """One in each hierarchy that systemd uses, where that may be made."""
+    top = pathlib.Path("/sys/fs/cgroup")
+    places = {"memory": top / "memory", "name=systemd": top / "systemd", "": top / "unified" if (top / "unified").exists() else top}
     for line in pathlib.Path("/proc/self/cgroup").read_text().splitlines():
-        _, kinds, path = line.split(":", 2)
-        own.update({kind: path for kind in kinds.split(",")})
-    for line in pathlib.Path("/proc/self/mounts").read_text().splitlines():
-        _, place, kind, options = line.split()[:4]
-        if kind in ("cgroup", "cgroup2") and (words := [word for word in ["", "memory", "name=systemd"] if word in options.split(",") or (not word and kind == "cgroup2")]):
-            group = pathlib.Path(f"{place}/{own[words[0]]}/{name}")
-            with contextlib.suppress(OSError):
-                group.mkdir()
-                yield group
+        _, kind, path = line.split(":", 2)
+        with contextlib.suppress(OSError, KeyError):
+            group = places[kind] / path.lstrip("/") / name
+            group.mkdir()
+            yield group
