@@ -16,6 +16,7 @@ from live import written
 
 TOOLS = ["systemd-nspawn", "systemctl", "nginx", "openssl", "jq", "curl", "unshare", "mount", "useradd", "systemd-socket-activate"]
 SECONDS = 400
+OWN_NAME = f"tgap-booted-{os.getpid()}"
 BY_SYSTEMD = pathlib.Path("/run/systemd/system").exists()
 # Cells a side of a map whose edit takes two seconds or more.
 LARGE = 147
@@ -36,11 +37,11 @@ ln -sf /etc/systemd/system/booted.target etc/systemd/system/default.target
 again=133 status=133
 while [ $status = $again ]; do
     status=0
-    systemd-nspawn --quiet --boot --directory="$ROOM/memory/root" --machine="$(basename "$ROOM")" --private-network --register=no $UNIT \
+    systemd-nspawn --quiet --boot --directory="$ROOM/memory/root" --machine="$MACHINE" --private-network --register=no $UNIT \
         --link-journal=no --bind="$ROOM/shared:/shared" --bind="$ROOM/repository:/repository" || status=$?
 done
 """
-TARGET = "[Unit]\nRequires=basic.target booted.service\nAfter=basic.target\nAllowIsolate=yes\n"
+TARGET = "[Unit]\nRequires=basic.target booted.service\nAfter=basic.target\n"
 SERVICE = """[Unit]
 After=basic.target
 [Service]
@@ -103,7 +104,8 @@ def boot(room, enter):
     """What the container says of itself, when it has gone."""
     how = {"stdin": subprocess.DEVNULL, "stdout": subprocess.PIPE, "stderr": subprocess.STDOUT, "text": True, "start_new_session": True, "preexec_fn": enter}
     words = [tool("unshare"), "-m", "sh", "-eu", "-c", BOOT]
-    with subprocess.Popen(words, env={**os.environ, "PATH": PATH, "ROOM": str(room), "UNIT": "" if BY_SYSTEMD else "--keep-unit"}, **how) as container:
+    environment = {**os.environ, "PATH": PATH, "ROOM": str(room), "MACHINE": OWN_NAME, "UNIT": "" if BY_SYSTEMD else "--keep-unit"}
+    with subprocess.Popen(words, env=environment, **how) as container:
         try:
             return container.communicate(timeout=SECONDS)[0]
         except subprocess.TimeoutExpired:
@@ -115,7 +117,7 @@ def boot(room, enter):
 def groups_of_its_own():
     """What has the calling process leave this one's control groups for new ones below, in which the container makes its
     own. Where systemd runs the machine it does so itself."""
-    made = [] if BY_SYSTEMD else list(new_groups(f"tgap-booted-{os.getpid()}"))
+    made = [] if BY_SYSTEMD else list(new_groups(OWN_NAME))
 
     def enter():
         for group in made:

@@ -35,8 +35,8 @@ class Unit:
         ])
         written_program(self.room / "steps", text)
         written_program(self.room / "systemctl", SYSTEMCTL)
-        self.map, *rules = [str(files.get(word, word)) for word in words]
-        self.environment = {**os.environ, "PATH": f"{room}:{PATH}", "ASKED": f"{room}/asked", "MAP": self.map, "WORKERS": "4", "VERSIONS": "16", "OBJECT_RULES": " ".join(rules)}
+        path, *rules = [str(files.get(word, word)) for word in words]
+        self.environment = {**os.environ, "PATH": f"{room}:{PATH}", "ASKED": f"{room}/asked", "MAP": path, "WORKERS": "4", "VERSIONS": "16", "OBJECT_RULES": " ".join(rules)}
 
     def __enter__(self):
         self.start()
@@ -62,6 +62,7 @@ class Unit:
         # It has its network before its user; whoever enters before it is there stays outside.
         until(lambda: pathlib.Path(f"/proc/{self.running.process.pid}").owner() == USER)
         if (opened := self.beside("open")).returncode:
+            self.kill()
             raise OSError(f"the program does not serve: {opened.stderr}")
 
     def kill(self):

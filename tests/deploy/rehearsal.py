@@ -12,10 +12,11 @@ from lib import Skipped
 TOOLS = ["nginx", "openssl", "jq", "curl", "unshare", "nsenter", "setpriv", "prlimit", "ip", "useradd", "systemd-socket-activate"]
 FOLDERS = ["/etc", "/usr/local", "/srv", "/var", "/run"]
 SECONDS = 300
-# The last line tells that all of it has been done; the ports are asked for from outside the program's network.
+# The last line tells that all of it has been done; the ports are asked for from outside the program's network. The front
+# server learns of the last life a moment after it has begun.
 AFTER = r"""
 echo "stands $(stat -c '%U %G %a' /srv/tgap/maps /etc/tgap/editors /run/tgap/columbus/*.sock | tr '\n' ' ')"
-curl -sS --cacert /etc/tgap/certificate.pem --resolve "$NAME:443:127.0.0.1" "https://$NAME/map/info"
+curl -fsS --retry 20 --retry-delay 1 --cacert /etc/tgap/certificate.pem --resolve "$NAME:443:127.0.0.1" "https://$NAME/map/info"
 curl -sS --cacert /etc/tgap/certificate.pem --resolve "$NAME:443:127.0.0.1" -o page "https://$NAME/" && cmp page examples/web/index.html && echo 'the page'
 for path in run nginx.conf settings.py; do
     curl -sS --cacert /etc/tgap/certificate.pem --resolve "$NAME:443:127.0.0.1" -o /dev/null -w "$path %{http_code}\n" "https://$NAME/$path"
