@@ -14,7 +14,7 @@ from front import PATH, PROXY, TOP, tool
 from lib import Skipped
 from live import written
 
-TOOLS = ["systemd-nspawn", "systemctl", "nginx", "openssl", "jq", "curl", "unshare", "mount", "useradd", "systemd-socket-activate"]
+TOOLS = ["systemd-nspawn", "systemctl", "nginx", "openssl", "jq", "curl", "setpriv", "unshare", "mount", "useradd", "systemd-socket-activate"]
 SECONDS = 400
 OWN_NAME = f"tgap-booted-{os.getpid()}"
 BY_SYSTEMD = pathlib.Path("/run/systemd/system").exists()
@@ -103,7 +103,8 @@ def lay_out(room, executable):
 def boot(room, enter):
     """What the container says of itself, when it has gone."""
     how = {"stdin": subprocess.DEVNULL, "stdout": subprocess.PIPE, "stderr": subprocess.STDOUT, "text": True, "start_new_session": True, "preexec_fn": enter}
-    words = [tool("unshare"), "-m", "sh", "-eu", "-c", BOOT]
+    # All of it ends with this process, whatever ends that.
+    words = [tool("setpriv"), "--pdeathsig", "KILL", tool("unshare"), "-m", "-p", "-f", "--kill-child", "--mount-proc", "sh", "-eu", "-c", BOOT]
     environment = {**os.environ, "PATH": PATH, "ROOM": str(room), "MACHINE": OWN_NAME, "UNIT": "" if BY_SYSTEMD else "--keep-unit"}
     with subprocess.Popen(words, env=environment, **how) as container:
         try:
