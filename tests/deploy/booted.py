@@ -10,7 +10,7 @@ import subprocess
 import tempfile
 
 import rehearsal
-from front import PATH, PROXY, TOP, tool
+from front import PATH, PROXY, TOP, tool, until
 from lib import Skipped
 from live import written
 
@@ -128,9 +128,15 @@ def groups_of_its_own():
         yield enter
     finally:
         for group in made:
-            for folder, _, _ in os.walk(group, topdown=False):
-                with contextlib.suppress(OSError):
-                    os.rmdir(folder)
+            until(lambda group=group: is_gone(group), 10)
+
+
+def is_gone(group):
+    """Whether a group could be taken away with those in it, as it can when no process is left in them."""
+    for folder, _, _ in os.walk(group, topdown=False):
+        with contextlib.suppress(OSError):
+            os.rmdir(folder)
+    return not group.exists()
 
 
 def new_groups(name):
