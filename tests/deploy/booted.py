@@ -17,7 +17,6 @@ from live import written
 TOOLS = ["systemd-nspawn", "systemctl", "nginx", "openssl", "jq", "curl", "setpriv", "unshare", "mount", "useradd", "systemd-socket-activate"]
 SECONDS = 400
 OWN_NAME = f"tgap-booted-{os.getpid()}"
-BY_SYSTEMD = pathlib.Path("/run/systemd/system").exists()
 # Cells a side of a map whose edit takes two seconds or more.
 LARGE = 147
 # Nothing of the machine is changed: what is written goes to the memory that is mounted here alone.
@@ -37,7 +36,7 @@ ln -sf /etc/systemd/system/booted.target etc/systemd/system/default.target
 again=133 status=133
 while [ $status = $again ]; do
     status=0
-    systemd-nspawn --quiet --boot --directory="$ROOM/memory/root" --machine="$MACHINE" --private-network --register=no $UNIT \
+    systemd-nspawn --quiet --boot --directory="$ROOM/memory/root" --machine="$MACHINE" --private-network --register=no --keep-unit \
         --link-journal=no --bind="$ROOM/shared:/shared" --bind="$ROOM/repository:/repository" || status=$?
 done
 """
@@ -105,7 +104,7 @@ def boot(room, enter):
     how = {"stdin": subprocess.DEVNULL, "stdout": subprocess.PIPE, "stderr": subprocess.STDOUT, "text": True, "start_new_session": True, "preexec_fn": enter}
     # All of it ends with this process, whatever ends that.
     words = [tool("setpriv"), "--pdeathsig", "KILL", tool("unshare"), "-m", "-p", "-f", "--kill-child", "--mount-proc", "sh", "-eu", "-c", BOOT]
-    environment = {**os.environ, "PATH": PATH, "ROOM": str(room), "MACHINE": OWN_NAME, "UNIT": "" if BY_SYSTEMD else "--keep-unit"}
+    environment = {**os.environ, "PATH": PATH, "ROOM": str(room), "MACHINE": OWN_NAME}
     with subprocess.Popen(words, env=environment, **how) as container:
         try:
             return container.communicate(timeout=SECONDS)[0]
@@ -117,8 +116,8 @@ def boot(room, enter):
 @contextlib.contextmanager
 def groups_of_its_own():
     """What has the calling process leave this one's control groups for new ones below, in which the container makes its
-    own. Where systemd runs the machine it does so itself."""
-    made = [] if BY_SYSTEMD else list(new_groups(OWN_NAME))
+    own."""
+    made = list(new_groups(OWN_NAME))
 
     def enter():
         for group in made:
