@@ -88,6 +88,11 @@ def serve(path):
     SETTINGS.write_text(f"MAP={path}\nWORKERS=4\nVERSIONS=16\n")
 
 
+def front_server_knows():
+    """Whether the front server comes to name the life that there is."""
+    return until(lambda: ask("GET", "/map/info").headers["Tgap-History"] == token(), 30)
+
+
 def kept():
     return [json.loads(line) for line in pathlib.Path("/var/log/tgap/batches.log").read_text().splitlines()]
 
@@ -126,6 +131,7 @@ def stops():
     for units in [[UNIT], [UNIT, "nginx"]]:
         systemctl("restart", UNIT)
         systemctl("start", "nginx")
+        tell(f"the front server before {units}", front_server_knows(), True)
         before, history = len(kept()), token()
         begun = time.monotonic()
         edit, told = side_by_side([lambda: ask("POST", "/map/edit", OWN_BATCH, ANNA), lambda units=units: stopped_meanwhile(units)])
@@ -201,7 +207,7 @@ class Lives:
         self.faces[token()] = self.side**2
         answer = past_nginx("GET", "/info")
         served = b"faces %d " % self.side**2 in answer.text and version_of(answer.text) == 0
-        return served and until(lambda: ask("GET", "/map/info").headers["Tgap-History"] == token(), 30)
+        return served and front_server_knows()
 
 
 def lives():
@@ -277,8 +283,8 @@ def memory():
                 published += 1
         print(f"killed after {published} versions", flush=True)
         tell("another life after the memory's end", until(lambda: token() != before and shown("ActiveState", "NRestarts") == ["active", "1"], 60), True)
-        answer = ask("GET", "/map/info")
-        tell("its version, by the front server", [version_of(answer.text), answer.headers["Tgap-History"] == token()], [0, True])
+        tell("the front server after it", front_server_knows(), True)
+        tell("its version", version_of(ask("GET", "/map/info").text), 0)
 
 
 @contextlib.contextmanager
@@ -323,6 +329,7 @@ def machine_ends():
     for name, unit in [(f"{UNIT}.service", "/etc/systemd/system/tgap@.service"), ("nginx.service", "/lib/systemd/system/nginx.service")]:
         (wanted / name).symlink_to(unit)
     BOOTS.write_text(f"{len(kept())} {token()}")
+    tell("the front server before the machine's end", front_server_knows(), True)
     # It ends with this process, and the front server goes on.
     threading.Thread(target=lambda: ask("POST", "/map/edit", OWN_BATCH, ANNA), daemon=True).start()
     tell("an edit when the machine ends", until(lambda: open_requests() == 1, 30), True)
