@@ -122,7 +122,7 @@ def exchanged(text, pairs):
     """The text with each first word of a pair, which must be in it, replaced by the second."""
     for old, new in pairs:
         if old not in text:
-            raise OSError(f"deploy/nginx.conf has no '{old}'")
+            raise OSError(f"there is no '{old}' to be exchanged")
         text = text.replace(old, str(new))
     return text
 

@@ -1,19 +1,16 @@
 """deploy/nginx.conf before the program: readers and editors at once, slow and foreign clients, clients that go, and what is kept of the edits."""
 import contextlib
 import gzip
-import os
 import pathlib
 import re
 import socket
-import subprocess
 import tempfile
 import threading
 import time
 
-from front import COLUMBUS, NAME, PASSWORD, PROXY, TOP, Front, Program, Running, answer_of, exchanged, listens, tool, until, version_of
+from front import COLUMBUS, NAME, PASSWORD, Front, Program, answer_of, exchanged, until, version_of
 from kept import kept
 from large_map import LARGE, written
-from lib import Skipped
 
 OWN_BATCH = b"class 1 0\n"
 # What has nothing to wait for is answered long before this, and what waits for a connection that somebody holds much later.
@@ -56,7 +53,8 @@ def little_kept_by_the_system(text):
 def timed(call):
     begun = time.monotonic()
     answer = call()
-    answer.seconds = time.monotonic() - begun
+    answer.ended = time.monotonic()
+    answer.seconds = answer.ended - begun
     return answer
 
 
@@ -262,43 +260,3 @@ def address_space(tests):
             tests.same("an edit when the address space is at its end", program.ask("POST", "/edit", OWN_BATCH).told, (503, b"memory\n"))
             tests.same("the program lives", version_of(program.ask("GET", "/info").text), 0)
         tests.same("the edit when there is room again", program.ask("POST", "/edit", OWN_BATCH).told, (200, b"published 1\n"))
-
-
-def closed_port(tests):
-    """The program in a network of its own, reached by a socket of the front server's group alone, as the units have it."""
-    missing = [name for name in ["unshare", "nsenter", "ip", "systemd-socket-activate"] if not tool(name)]
-    if missing or not pathlib.Path(PROXY).exists():
-        raise Skipped(f"{', '.join(missing) or PROXY} is missing")
-    if subprocess.run(["unshare", "-n", "true"], capture_output=True, check=False).returncode:
-        raise Skipped("a network of its own wants the rights of root")
-    with tempfile.TemporaryDirectory() as room, contextlib.ExitStack() as running:
-        os.chmod(room, 0o755)
-        program = running.enter_context(Program(tests.executable, COLUMBUS, under=["unshare", "-n", "sh", "-c", 'ip link set lo up && exec "$@"', "sh"]))
-        place = pathlib.Path(room) / "columbus.sock"
-        proxy = running.enter_context(Proxy(program, place))
-        front = running.enter_context(Front(place))
-        tests.holds("nobody reaches the port of the program", not listens(program.port))
-        tests.same("by the front server it is reached", front.ask("GET", "/map/info").status, 200)
-        tests.same("and edited", front.edit(OWN_BATCH).told, (200, b"published 1\n"))
-        tests.same("another user of the machine", connects_as("nobody", place), False)
-        tests.same("the front server's user", connects_as("www-data", place), True)
-        tests.same("the way is still there", proxy.process.poll(), None)
-
-
-class Proxy(Running):
-    """What tgap-proxy does for a program that is in a network of its own."""
-
-    def __init__(self, program, place):
-        words = ["nsenter", "-t", program.process.pid, "-n", "systemd-socket-activate", "-l", place, PROXY, f"127.0.0.1:{program.port}"]
-        super().__init__(words, stderr=subprocess.DEVNULL)
-        if not until(place.exists):
-            raise OSError("systemd-socket-activate makes no socket")
-        settings = dict(line.split("=", 1) for line in (TOP / "deploy/tgap-proxy.socket").read_text().splitlines() if line.startswith("Socket"))
-        subprocess.run(["chown", f"{settings['SocketUser']}:{settings['SocketGroup']}", place], check=True)
-        subprocess.run(["chmod", settings["SocketMode"], place], check=True)
-
-
-def connects_as(user, place):
-    text = "import socket, sys; socket.socket(socket.AF_UNIX).connect(sys.argv[1])"
-    words = ["/usr/bin/python3", "-c", text, str(place)]
-    return subprocess.run(words, user=user, group=user if user != "nobody" else "nogroup", extra_groups=[], capture_output=True, check=False).returncode == 0

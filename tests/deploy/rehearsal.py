@@ -12,10 +12,11 @@ from lib import Skipped
 TOOLS = ["nginx", "openssl", "jq", "curl", "unshare", "nsenter", "setpriv", "prlimit", "ip", "useradd", "systemd-socket-activate"]
 FOLDERS = ["/etc", "/usr/local", "/srv", "/var", "/run"]
 SECONDS = 300
-# The last line tells that all of it has been done; the ports are asked for from outside the program's network.
+# The last line tells that all of it has been done; the ports are asked for from outside the program's network. The front
+# server learns of the last life a moment after it has begun.
 AFTER = r"""
-echo "stands $(stat -c '%U %G %a' /srv/tgap/maps /etc/tgap/editors /run/tgap/columbus.sock | tr '\n' ' ')"
-curl -sS --cacert /etc/tgap/certificate.pem --resolve "$NAME:443:127.0.0.1" "https://$NAME/map/info"
+echo "stands $(stat -c '%U %G %a' /srv/tgap/maps /etc/tgap/editors /run/tgap/columbus/*.sock | tr '\n' ' ')"
+curl -fsS --retry 20 --retry-delay 1 --cacert /etc/tgap/certificate.pem --resolve "$NAME:443:127.0.0.1" "https://$NAME/map/info"
 curl -sS --cacert /etc/tgap/certificate.pem --resolve "$NAME:443:127.0.0.1" -o page "https://$NAME/" && cmp page examples/web/index.html && echo 'the page'
 for path in run nginx.conf settings.py; do
     curl -sS --cacert /etc/tgap/certificate.pem --resolve "$NAME:443:127.0.0.1" -o /dev/null -w "$path %{http_code}\n" "https://$NAME/$path"
@@ -26,7 +27,7 @@ tar -tzf /var/backups/tgap.tar.gz | grep -c -e columbus.json -e editors -e batch
 """
 SAID = [
     r"ok faces 49 arcs 134 points 877", r"version 0 steps 48 faces 49 .*", r"version 0 steps 48 faces 49 .*", r"published 1", r"published 1",
-    r"stands root tgap 750 root www-data 640 root www-data 660 ", r"version 1 steps 48 faces 49 .*", r"the page", r"run 404", r"nginx.conf 404", r"settings.py 404",
+    r"stands root tgap 750 root www-data 640 tgap www-data 660 ", r"version 1 steps 48 faces 49 .*", r"the page", r"run 404", r"nginx.conf 404", r"settings.py 404",
     r"the port is closed", r" 1 tgap", r"3",
 ]
 
@@ -51,13 +52,17 @@ def rehearsal(tests):
             tests.holds(f"the document's commands say {wanted}", re.fullmatch(wanted, line), line)
 
 
+def commands():
+    """The document's, and what tells that all of it has been done."""
+    return "".join(re.findall(r"^```sh\n([\s\S]*?)^```$", (TOP / "docs/deployment.md").read_text(), re.MULTILINE)) + AFTER
+
+
 def script(room):
     """The document's commands, after a network and folders of their own."""
-    commands = re.findall(r"^```sh\n([\s\S]*?)^```$", (TOP / "docs/deployment.md").read_text(), re.MULTILINE)
     own = "".join(f"mkdir -p {room}/over{path} {room}/work{path}\n"
                   f"mount -t overlay overlay -o lowerdir={path},upperdir={room}/over{path},workdir={room}/work{path} {path} || {{ echo no folder of its own >&2; exit 1; }}\n"
                   for path in FOLDERS)
-    return own + "ip link set lo up\n" + "".join(commands) + AFTER
+    return own + "ip link set lo up\n" + commands()
 
 
 def lay_out(room, executable):

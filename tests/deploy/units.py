@@ -4,27 +4,28 @@ import re
 import subprocess
 import tempfile
 
-from front import COLUMBUS, PROXY, TOP, Program, tool
+from front import COLUMBUS, TOP, Program, tool
 from lib import Skipped
 
-UNITS = {"tgap.service": "tgap@.service", "tgap-proxy.service": "tgap-proxy@.service", "tgap-proxy.socket": "tgap-proxy@.socket"}
-# What a unit of ours must say, beside what systemd-analyze thinks of it.
+STEPS = "/usr/local/lib/tgap/tgap-unit"
+# What the unit must say, beside what systemd-analyze thinks of it.
 SETTINGS = {
     "CapabilityBoundingSet": "", "SystemCallFilter": "@system-service", "RestrictNamespaces": "yes", "LockPersonality": "yes", "MemoryDenyWriteExecute": "yes",
     "UMask": "0077", "NoNewPrivileges": "yes", "PrivateNetwork": "yes", "Restart": "on-failure", "User": "tgap",
+    "ProtectSystem": "strict", "TemporaryFileSystem": "/run:ro", "KillMode": "mixed",
 }
 # Of ten, where ten is a unit without any of this.
-EXPOSURE = 2.5
+EXPOSURE = 1.5
 
 
 def settings(tests):
-    for name in ["tgap.service", "tgap-proxy.service"]:
-        told = settings_of(name)
-        tests.same(f"settings of {name}", {key: told.get(key) for key in SETTINGS}, SETTINGS)
     told = settings_of("tgap.service")
+    tests.same("settings of the unit", {key: told.get(key) for key in SETTINGS}, SETTINGS)
     tests.same("when the map server is not started again", told.get("RestartPreventExitStatus"), "2 3 4")
     tests.same("the memory of large replies goes back", told.get("Environment"), "MALLOC_MMAP_THRESHOLD_=131072 MALLOC_TRIM_THRESHOLD_=131072")
     tests.holds("the address space ends before the memory does", gigabytes(told["LimitAS"]) < gigabytes(told["MemoryMax"]))
+    drained = int(re.search(r"^drain_seconds=(\d+)$", (TOP / "deploy/tgap-unit").read_text(), re.MULTILINE)[1])
+    tests.holds("a stop waits for longer than its requests have", int(told["TimeoutStopSec"].removesuffix("s")) >= drained + 10, told["TimeoutStopSec"])
 
 
 def settings_of(name):
@@ -36,21 +37,16 @@ def gigabytes(text):
 
 
 def by_systemd(tests):
-    """Each unit under the name that it is installed by, with the executable in its place."""
-    if not tool("systemd-analyze") or not pathlib.Path(PROXY).exists():
-        raise Skipped("systemd-analyze or systemd-socket-proxyd is missing")
+    """The unit under the name that it is installed by, with its steps in their place."""
+    if not tool("systemd-analyze"):
+        raise Skipped("systemd-analyze is missing")
     with tempfile.TemporaryDirectory() as room:
-        for name, installed in UNITS.items():
-            text = (TOP / "deploy" / name).read_text().replace("/usr/local/bin/tgap", tests.executable)
-            (pathlib.Path(room) / installed).write_text(text)
-        for installed in UNITS.values():
-            unit = str(pathlib.Path(room) / installed.replace("@", "@columbus"))
-            told = subprocess.run([tool("systemd-analyze"), "verify", unit], capture_output=True, text=True, timeout=60, check=False)
-            tests.same(f"systemd-analyze verify of {installed}", (told.returncode, told.stderr), (0, ""))
-            if installed.endswith("service"):
-                words = [tool("systemd-analyze"), "security", "--offline=yes", "--no-pager", f"--threshold={int(EXPOSURE * 10)}", unit]
-                told = subprocess.run(words, capture_output=True, text=True, timeout=60, check=False)
-                tests.same(f"systemd-analyze security of {installed}", told.returncode, 0)
+        text = (TOP / "deploy/tgap.service").read_text().replace(STEPS, str(TOP / "deploy/tgap-unit"))
+        (pathlib.Path(room) / "tgap@.service").write_text(text)
+        unit = f"{room}/tgap@columbus.service"
+        for words in [["verify"], ["security", "--offline=yes", "--no-pager", f"--threshold={int(EXPOSURE * 10)}"]]:
+            told = subprocess.run([tool("systemd-analyze"), *words, unit], capture_output=True, text=True, timeout=60, check=False)
+            tests.same(f"systemd-analyze {words[0]}", (told.returncode, told.stderr), (0, ""))
 
 
 def system_calls(tests):
