@@ -131,6 +131,8 @@ def joining(tests):
         ("an empty log", "", (), 1, None, "no batch of map columbus was published"),
         ("a line that is cut", one + two[:-20], (), 1, None, "line 2 "),
         ("a line of something else", one + "{}\n", (), 1, None, "line 2 "),
+        ("a line without a history", '{"map":"columbus","version":"1","batch":"x\\n"}\n' + one, (), 1, None, "line 1 "),
+        ("a line that is no object", one + "[]\n", (), 1, None, "line 2 "),
         ("an empty batch", row("200", "1", ""), (), 0, [b""], ""),
         ("bytes that are no text", one.replace("x", "\udcff"), (), 0, [b"\xff\n"], ""),
         ("more than goes into one", row("200", "1", "x" * LONGEST) + two, (), 0, [b"x" * LONGEST, b"y\n"], ""),
