@@ -103,12 +103,9 @@ def by_host(tests, pieces, columbus, squares):
 
 def chosen_by_path(pieces):
     """What makes deploy/nginx.conf choose the map by the path: the document's lines in place of those that begin alike."""
+    alike = ["location = /map/edit {", 'location ~ "^/map/pin(/[0-9]+)?\\z" {', "location /map/ {", "location = /health {", 'rewrite "(?s)^/map/(.*)\\z" /$1 break;']
     lines = piece(pieces, "by path: in place of the lines").splitlines()
-    edit, pin, reading, cut = lines
-    return [
-        (CHOICE, piece(pieces, "by path: in place of map")), ("location = /map/edit {", edit), ('location ~ "^/map/pin(/[0-9]+)?\\z" {', pin), ("location /map/ {", reading),
-        ('rewrite "(?s)^/map/(.*)\\z" /$1 break;', cut),
-    ]
+    return [(CHOICE, piece(pieces, "by path: in place of map")), *zip(alike, lines, strict=True)]
 
 
 def by_path(tests, pieces, columbus, squares):
@@ -116,6 +113,7 @@ def by_path(tests, pieces, columbus, squares):
         tests.same("the map of the first path", faces_of(front.ask("GET", "/columbus/map/info")), (200, 49))
         tests.same("the map of the second path", faces_of(front.ask("GET", "/holland/map/info?a=b")), (200, 2))
         tests.same("a window by path", front.ask("GET", "/holland/map/window/0/0/0/1/1").status, 200)
+        tests.same("the health of each by path", [faces_of(front.ask("GET", f"/{name}/health")) for name in ["columbus", "holland"]], [(200, 49), (200, 2)])
         for path in ["/other/map/info", "/other/map/edit", "/map/info", "/holland/info"]:
             tests.same(f"no map at {path}", front.ask("GET", path).status, 404)
         before = squares.ask("GET", "/info").text
