@@ -46,8 +46,8 @@ export function pictureOfSlice(slice, seen) {
 }
 
 /**
- * The picture of a window, which bears the version and the history that `seen` has. `ask` gives the face and class of a grid point: where no border runs through the window, all of it lies in one face, and the window
- * does not tell which. The window must be two units wide and high at least.
+ * The picture of a window, which bears the version and the history that `seen` has. `ask` gives the face and class of a grid point: where no border runs through the
+ * window, all of it lies in one face, and the window does not tell which. The window must be two units wide and high at least.
  */
 export async function pictureOfWindow(window, seen, ask) {
   const { x0, y0, x1, y1 } = window.area;
