@@ -92,13 +92,20 @@ def lost_replies(tests):
             tests.holds("its edit is published", until(lambda: front.version() == 1))
             tests.same("it is kept as one without reply", until(lambda: told(kept(front))), [(HISTORY, "504", "", "anna")])
             tests.same("no batch was published that is known", joined(log_of(front), "columbus")[0], 1)
-            program.process.send_signal(signal.SIGSTOP)
+            halt(program.process)
             tests.same("another one", front.edit(b"move 6 1 6 2\n").status, 504)
             program.process.send_signal(signal.SIGKILL)
         later = row("200", "2", "class 1 0\n") + row("504", "", "class 1 1\n")
         status, said, parts = joined(later, "columbus")
         tests.same("a gap is refused", (status, parts), (1, None))
         tests.holds("with the line of the batch that may fill it", said.startswith("batches: ") and "line 2" in said, said)
+
+
+def halt(process):
+    """Has a process do nothing from here on. Its threads stop one after the other."""
+    process.send_signal(signal.SIGSTOP)
+    threads = pathlib.Path(f"/proc/{process.pid}/task")
+    until(lambda: all(" T " in (thread / "stat").read_text() for thread in threads.iterdir()))
 
 
 def hasty(text):

@@ -114,7 +114,7 @@ async function refusesEdits(served, history) {
 
 async function tellsOfTheProgram(served, history) {
   await served.changeFront((text) => text.replace(/(?=location \/map\/)/, "proxy_read_timeout 1s;\n"));
-  process.kill(served.program.number, "SIGSTOP");
+  await served.haltProgram();
   isItsOwn("a program that does not answer", await ask(served, "GET", "/map/slice/0.html"), history, 504, "no reply in time");
   served.endProgram();
   isItsOwn("a program that is gone", await ask(served, "GET", "/map/slice/0.js"), history, 502, "the map is not served at the moment");

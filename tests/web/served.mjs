@@ -1,7 +1,7 @@
 // The page of the example behind its front server, and what a test asks of it.
 import { spawn, spawnSync } from "node:child_process";
 import { randomBytes } from "node:crypto";
-import { existsSync, readFileSync, readlinkSync, writeFileSync } from "node:fs";
+import { existsSync, readFileSync, readdirSync, readlinkSync, writeFileSync } from "node:fs";
 import path from "node:path";
 import { setTimeout as pause } from "node:timers/promises";
 import { fileURLToPath } from "node:url";
@@ -53,6 +53,14 @@ export class Served {
   endProgram() {
     if (this.second) this.second.kill("SIGKILL");
     else process.kill(this.program.number, "SIGKILL");
+  }
+
+  /** The program answers nothing from here on, though it is there. */
+  async haltProgram() {
+    const { number } = this.program;
+    process.kill(number, "SIGSTOP");
+    // Its threads stop one after the other.
+    await until(() => readdirSync(`/proc/${number}/task`).every((it) => / T /.test(readFileSync(`/proc/${number}/task/${it}/stat`, "utf8"))));
   }
 
   /** The program is served anew, from the version that is in its file, and the front server names another history. */
