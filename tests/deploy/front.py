@@ -165,7 +165,9 @@ class Front(Running):
         self.words = [tool("nginx"), "-e", self.room / "log/error.log", "-p", self.room, "-c", self.conf]
         super().__init__(self.words, stderr=subprocess.DEVNULL)
         if not until(lambda: listens(self.port) or self.process.poll() is not None) or self.process.poll() is not None:
-            raise OSError("nginx does not start: " + (self.room / "log/error.log").read_text())
+            why = (self.room / "log/error.log").read_text()
+            self.stop()
+            raise OSError(f"nginx does not start: {why}")
 
     def note(self, name, port, history):
         """Writes down which history a map has begun, and where the program of it listens."""
