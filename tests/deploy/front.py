@@ -60,7 +60,7 @@ class Running:
     """A process with a group of its own, which is stopped at the end."""
 
     def __init__(self, words, **rest):
-        self.process = subprocess.Popen([str(word) for word in words], stdin=subprocess.DEVNULL, start_new_session=True, **rest)
+        self.process = subprocess.Popen([str(word) for word in words], start_new_session=True, **{"stdin": subprocess.DEVNULL, **rest})
 
     def __enter__(self):
         return self

@@ -83,7 +83,7 @@ class Second(Running):
 
     def __init__(self, front):
         words = [tool("node"), SECOND, front.port, front.room / "etc/certificate.pem", next(FIRST_OF_HTTP_2), IN_A_ROW]
-        self.process = subprocess.Popen([str(word) for word in words], stdin=subprocess.PIPE, stdout=subprocess.PIPE, start_new_session=True)
+        super().__init__(words, stdin=subprocess.PIPE, stdout=subprocess.PIPE)
 
     def stop(self, by=signal.SIGTERM):
         self.process.stdin.close()

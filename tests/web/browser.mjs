@@ -13,11 +13,12 @@ const REMOVALS = 10;
 const SECONDS_BETWEEN_REMOVALS = 0.5;
 
 export class Browser {
-  static async start(executable, size) {
+  /** `more` are further words for the browser. */
+  static async start(executable, size, more = []) {
     const browser = new Browser();
     browser.room = mkdtempSync(path.join(tmpdir(), "web-browser-"));
     const words = ["--headless", "--no-sandbox", "--disable-gpu", `--window-size=${size}`, "--remote-debugging-port=0", `--user-data-dir=${browser.room}`];
-    browser.child = spawn(executable, [...words, "about:blank"], { stdio: ["ignore", "ignore", "pipe"] });
+    browser.child = spawn(executable, [...words, ...more, "about:blank"], { stdio: ["ignore", "ignore", "pipe"] });
     browser.port = new URL(await firstMatch(browser.child, browser.child.stderr, /ws:\S+/)).port;
     return browser;
   }
