@@ -95,9 +95,12 @@ def says_why_it_does_not(tests):
         tests.same("a build with --help", build(checkout, "--help"), (1, b"", "usage: ./tgap build\n"))
         tests.same("the calls of the toolchain", checkout.calls(), [])
     refuses(tests, "a build with no toolchain", "rt, the command of the Rattle toolchain, is not found")
+
+
+def wants_to_write(tests):
     if os.geteuid() != 0:
         raise Skipped("only the administrator can become another user")
-    with checkout.toolchain("exit 1"):
+    with tests.checkout.toolchain("exit 1"):
         refuses(tests, "a build by another user", "may not be written", user=NOBODY, group=NOBODY, extra_groups=[])
 
 
@@ -166,4 +169,4 @@ def ends_with_its_caller(tests):
             tests.same(f"{name}: the launcher has ended", (stat_of(launcher) or "Z")[0] in "XZ", True)
 
 
-TESTS = [builds_once, builds_what_is_released, says_why_it_does_not, ends_with_the_launcher, ends_with_its_caller]
+TESTS = [builds_once, builds_what_is_released, says_why_it_does_not, wants_to_write, ends_with_the_launcher, ends_with_its_caller]
