@@ -1,5 +1,7 @@
 # What the launcher says in words: the help, and a sentence for each status of the program but 0.
 
+say() { echo "tgap: $*" >&2; }
+
 help_text() {
     cat <<'END'
 One map of areas, kept once and served at every scale.
@@ -50,9 +52,16 @@ MAP is the file of a listing. With OBJECT and RULES it is the file of a topology
 (TopoJSON), OBJECT the name of one of its objects, or - for the only one, and RULES
 the file of its rules.
 
+  build               proves the sources of this checkout and builds their program;
+                      it wants rt, the command of the Rattle toolchain, takes about
+                      an hour from nothing, and ends where its caller does
   --help, -h, help    this text
   --version           the version, the sum of the sources, and the toolchain that
                       proved them
+
+The program that is run is the released one where it is that of the sources beside
+it. Else it is the one that was built here, where no source is newer; else the
+released one of older sources, with a warning.
 
 The answer comes on the standard output. The status is 0 where it was done; else a
 sentence on the standard error tells what was wrong.

@@ -16,7 +16,9 @@ TOOLCHAIN = "toolchain-of-the-tests logic 0123456789abcdef"
 # What the launcher needs of a machine beside its shell: no toolchain, no python3, no git.
 TOOLS = ["awk", "cat", "chmod", "cut", "find", "grep", "head", "readlink", "sed", "setpriv", "sha256sum", "sort", "tr", "true", "uname", "wc", "xargs"]
 # What a build and the gate need beside these.
-BUILD_TOOLS = ["cmp", "cp", "dirname", "git", "install", "mkdir", "mktemp", "nproc", "rm", "sh", "tail", "tee", "timeout", "touch"]
+BUILD_TOOLS = ["cmp", "cp", "dirname", "git", "install", "mkdir", "mktemp", "nproc", "rm", "setsid", "sh", "sleep", "tail", "tee", "timeout", "touch"]
+# What it needs to write its stamp.
+STAMP_TOOLS = ["rm", "touch"]
 PARTS = ("src", "specs", "proofs")
 
 
@@ -46,7 +48,7 @@ def left_out(crates):
 
     def names(folder, found):
         others = set(found) - set(crates or found) if pathlib.Path(folder) == TOP / "crates" else set()
-        return others | ({".git", "out", "__pycache__", "docs", "bench", "must-fail"} & set(found))
+        return others | ({".git", ".checked", "out", "__pycache__", "docs", "bench", "must-fail"} & set(found))
 
     return names
 
@@ -71,12 +73,15 @@ class Checkout:
                 os.chmod(f"{folder}/{name}", 0o644)
         self.executable = pathlib.Path(executable)
         self.launcher, self.released, self.sums = self.top / "tgap", self.top / "release/tgap-x86_64-linux", self.top / "release/SOURCES"
+        self.stamp = self.top / "release/.checked"
         self.built = self.top / "crates/map_server/out/map_server"
         for path in (self.launcher, self.top / "release/make", self.top / ".ci/run"):
             path.chmod(0o755)
         self.bare = folder_of_tools(room / "tools", TOOLS)
         self.unbound = folder_of_tools(room / "tools without setpriv", [name for name in TOOLS if name != "setpriv"])
         self.full = folder_of_tools(room / "tools with rt", TOOLS + BUILD_TOOLS)
+        self.counting = folder_of_tools(room / "tools that count sums", [name for name in TOOLS + STAMP_TOOLS if name != "sha256sum"])
+        script(self.counting / "sha256sum", f'echo >>"{room}/sums"\nexec {shutil.which("sha256sum")} "$@"')
         self.release(self.executable.read_bytes())
 
     def release(self, program):
@@ -127,6 +132,16 @@ class Checkout:
                 os.utime(path, ns=(was[1].st_atime_ns, was[1].st_mtime_ns))
 
     @contextlib.contextmanager
+    def moved(self, path, to=None):
+        """A file or folder elsewhere, by default outside, until the end of a test."""
+        path, to = self.top / path, self.top / to if to else self.room / "moved"
+        path.rename(to)
+        try:
+            yield
+        finally:
+            to.rename(path)
+
+    @contextlib.contextmanager
     def toolchain(self, text):
         """A stand-in for the toolchain's command: what it does is the text of a shell script, and RT_CALLS lists its calls."""
         rt = script(self.full / "rt", f'echo "$*" >>"{self.room}/calls"\n[ "$1" != version ] || {{ echo "{TOOLCHAIN}"; exit; }}\n{text}')
@@ -139,6 +154,13 @@ class Checkout:
 
     def calls(self):
         return (self.room / "calls").read_text(encoding="ascii").splitlines()
+
+    def counted(self, *words, **how):
+        """What the launcher answers on these words, where it may write a stamp, and whether it took sums."""
+        counts = self.room / "sums"
+        counts.write_bytes(b"")
+        counts.chmod(0o666)
+        return self.run(*words, tools=self.counting, **how), counts.read_bytes() != b""
 
     def leaves(self, executable=None):
         """What a stand-in does to leave an executable where the toolchain does."""

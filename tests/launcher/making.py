@@ -37,7 +37,6 @@ def release_is_made(tests):
         raise Skipped("there is no git")
     with checkout.toolchain(f"{checkout.leaves()}; {PASSED}"):
         is_refused(tests, "in no checkout of git", "git cannot tell")
-        (checkout.top / ".gitignore").write_text("out/\n", encoding="ascii")
         git(checkout, "init", "-q")
         git(checkout, "add", "-A")
         git(checkout, "commit", "-q", "-m", "all")
@@ -48,7 +47,8 @@ def release_is_made(tests):
             program = checkout.released.read_bytes()
             tests.same("the executable that is released", program, checkout.executable.read_bytes())
             tests.same("the sums that are released", checkout.sums.read_text(encoding="ascii").splitlines()[1:], checkout.listing(program).splitlines()[1:])
-            tests.same("the launcher runs it", checkout.run("check", "examples/two_squares.tgap"), (0, b"ok faces 2 arcs 3 points 10\n", ""))
+            tests.same("the launcher runs it", checkout.run("check", "examples/two_squares.tgap", tools=checkout.full), (0, b"ok faces 2 arcs 3 points 10\n", ""))
+            tests.same("its stamp, which is not committed", checkout.stamp.exists(), True)
             before = checkout.sums.read_bytes()
             tests.same("release/make again: its status, and the same sums", (make(checkout)[0], checkout.sums.read_bytes()), (0, before))
     unproved_trees_are_refused(tests)
@@ -142,4 +142,9 @@ def gate_has_its_plain_line(tests):
     tests.same("lines of the gate that are rt ci alone", [line.strip() for line in lines if "rt ci" in line and not line.lstrip().startswith(("#", "echo"))], ["rt ci"])
 
 
-TESTS = [gate_ends_as_it_must, gate_compares_by_one_toolchain, gate_has_its_plain_line, release_is_made]
+def only_the_launcher_trusts_the_stamp(tests):
+    texts = {name: (tests.checkout.top / name).read_text(encoding="utf-8") for name in ("tgap", "release/make", ".ci/run", "release/build")}
+    tests.same("who looks at the stamp", [name for name, text in texts.items() if "stamp" in text], ["tgap"])
+
+
+TESTS = [gate_ends_as_it_must, gate_compares_by_one_toolchain, gate_has_its_plain_line, only_the_launcher_trusts_the_stamp, release_is_made]

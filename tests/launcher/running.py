@@ -1,4 +1,5 @@
-"""Which program the launcher runs: the released one where it is that of the sources, however the checkout lies there; else what is built."""
+"""Which program the launcher runs: the released one where it is that of the sources, however the checkout lies there; else the one that was built
+there where it is newer than they; else the released one, with a warning. It proves nothing."""
 import os
 import pathlib
 
@@ -10,17 +11,28 @@ ANSWER = b"borders 1\nborder 0 3 0\nborder 1 3 0\nend\n"
 # Seconds of the processor for one answer: its wall clock says more of what else a machine does.
 MOST_SECONDS = 0.3
 SOURCE = "crates/lemmas/src/lib.rt"
-NO_TOOLCHAIN = "rt, the command of the Rattle toolchain, is not found"
+BRING_BACK, BUILD = "git checkout -- release", "./tgap build"
 
 
 def answers(tests, name, **how):
     tests.same(name, tests.checkout.run(*how.pop("words", WORDS), **how), (0, ANSWER, ""))
 
 
+def warning(source):
+    """The one line of a launcher that runs the released program of older sources."""
+    return f"tgap: the released program is that of older sources: {source}; it is run, and ./tgap build proves and builds that of this checkout\n"
+
+
+def warns(tests, name, source, **how):
+    """The answer is the program's own, and one line says which source differs."""
+    tests.same(name, tests.checkout.run(*WORDS, **how), (0, ANSWER, warning(source)))
+
+
 def refuses(tests, name, *fragments, **how):
-    """The launcher ends with 1 and nothing on the standard output, and says each of these."""
+    """The launcher ends with 1 and nothing on the standard output, and says each of these in one line."""
     status, out, said = tests.checkout.run(*WORDS, **how)
     faults = [] if (status, out) == (1, b"") else [f"got status {status} and {out!r}, expected 1 and nothing"]
+    faults += [] if said.count("\n") == 1 else [f"it is not one line: {said!r}"]
     tests.tell(name, faults + [f"{fragment!r} is not said: {said!r}" for fragment in fragments if fragment not in said])
 
 
@@ -59,8 +71,8 @@ def answers_another_user(tests):
         raise Skipped("only the administrator can become another user")
     user = {"user": NOBODY, "group": NOBODY, "extra_groups": []}
     answers(tests, "as another user", **user)
-    with tests.checkout.altered(SOURCE, b"// other\n"), tests.checkout.toolchain("exit 1"):
-        refuses(tests, "as another user, with other sources", "may not be written", SOURCE, tools=tests.checkout.full, **user)
+    with tests.checkout.altered(SOURCE, b"// other\n"):
+        warns(tests, "as another user, with other sources", f"{SOURCE} is another", **user)
 
 
 def decides_by_content(tests):
@@ -71,57 +83,79 @@ def decides_by_content(tests):
     answers(tests, "with a source that is newer and the same")
     with checkout.altered(SOURCE, text[:-2] + bytes([text[-2] ^ 1]) + text[-1:]):
         os.utime(source, ns=(found.st_atime_ns, found.st_mtime_ns))
-        refuses(tests, "with a source of the same size and time, and one other byte", SOURCE, "is another", NO_TOOLCHAIN)
+        warns(tests, "with a source of the same size and time, and one other byte", f"{SOURCE} is another")
     with checkout.altered(SOURCE):
-        refuses(tests, "with a source less", SOURCE, "is missing", NO_TOOLCHAIN)
+        warns(tests, "with a source less", f"{SOURCE} is missing")
     with checkout.altered("crates/lemmas/specs/Added.antt", b""):
-        refuses(tests, "with a source more", "crates/lemmas/specs/Added.antt", NO_TOOLCHAIN)
+        warns(tests, "with a source more", "crates/lemmas/specs/Added.antt is not in release/SOURCES")
+    with checkout.moved("crates/map_server/proofs"):
+        (first,) = sorted(name for name in checkout.sums.read_text(encoding="ascii").split() if name.startswith("crates/map_server/proofs/"))[:1]
+        warns(tests, "with a folder less", f"{first} is missing")
     with checkout.altered("crates.txt", b"lemmas:\n"):
-        refuses(tests, "with other crates", "crates.txt", "is another", NO_TOOLCHAIN)
+        warns(tests, "with other crates", "crates.txt is another")
     answers(tests, "with the sources as they were")
+
+
+def leaves_the_program_alone(tests):
+    """With a warning too the status is the program's, its sentence follows, and no toolchain is asked."""
+    checkout = tests.checkout
+    with checkout.altered("crates/lemmas/src/.lib.rt.swp", b""), checkout.toolchain("exit 1"):
+        warned = warning("crates/lemmas/src/.lib.rt.swp is not in release/SOURCES")
+        warns(tests, "with a toolchain", "crates/lemmas/src/.lib.rt.swp is not in release/SOURCES", tools=checkout.full)
+        status, out, said = checkout.run("slice", WORDS[1], "2", tools=checkout.full)
+        tests.same("a refusal behind a warning", (status, out, said.startswith(warned), said.count("\n")), (5, b"step too high 1\n", True, 2))
+        tests.same("with no standard error", checkout.run(*WORDS, tools=checkout.full, preexec_fn=lambda: os.close(2)), (0, ANSWER, ""))
+        tests.same("the calls of the toolchain", checkout.calls(), [])
 
 
 def notices_damage(tests):
     checkout = tests.checkout
     program = checkout.released.read_bytes()
+    damaged = ["release/tgap-x86_64-linux is missing, cut or another", BRING_BACK, BUILD]
     with checkout.altered(checkout.released, program[: len(program) // 2]):
-        refuses(tests, "with a released executable that is cut", "is missing, cut or another", NO_TOOLCHAIN)
+        refuses(tests, "with a released executable that is cut", *damaged)
+        with checkout.altered(SOURCE, b"// other\n"):
+            refuses(tests, "with one that is cut, and other sources", *damaged)
     with checkout.altered(checkout.released, program[:-1] + bytes([program[-1] ^ 1])):
-        refuses(tests, "with a released executable of one other byte", "is missing, cut or another", NO_TOOLCHAIN)
+        refuses(tests, "with a released executable of one other byte", *damaged)
     with checkout.altered(checkout.released):
-        refuses(tests, "with no released executable", "is missing, cut or another", NO_TOOLCHAIN)
+        refuses(tests, "with no released executable", *damaged)
     with checkout.altered(checkout.sums):
-        refuses(tests, "with no sums", "release/SOURCES is missing", NO_TOOLCHAIN)
+        refuses(tests, "with no sums", "release/SOURCES is missing", BRING_BACK, BUILD)
     with checkout.altered(checkout.sums, b""):
-        refuses(tests, "with sums that are empty", "is not in release/SOURCES", NO_TOOLCHAIN)
+        refuses(tests, "with sums that are empty", "release/SOURCES cannot be read", BRING_BACK, BUILD)
+    with checkout.altered(checkout.sums, checkout.source_lines().encode()):
+        refuses(tests, "with sums that do not tell the executable", "is not in release/SOURCES", BRING_BACK, BUILD)
     checkout.released.chmod(0o644)
     try:
-        refuses(tests, "with a released executable that may not be executed", "chmod +x", NO_TOOLCHAIN)
+        refuses(tests, "with a released executable that may not be executed", "chmod +x")
+        with checkout.altered(SOURCE, b"// other\n"):
+            refuses(tests, "with one that may not be executed, and other sources", "chmod +x")
     finally:
         checkout.released.chmod(0o755)
     answers(tests, "with the released executable as it was")
 
 
-def builds_where_sources_differ(tests):
+def runs_what_was_built(tests):
+    """Where the released executable is not that of the sources, the one that was built there is run while no source is newer."""
     checkout = tests.checkout
-    with checkout.altered(SOURCE, b"// other\n"), checkout.toolchain(f'[ "$1" != run ] || {{ {checkout.leaves()}; }}'):
-        status, out, said = checkout.run(*WORDS, tools=checkout.full)
-        tests.same("the answer of what was built", (status, out), (0, ANSWER))
-        wanted = [f"not that of these sources: {SOURCE}", "proved and built first", "building the program"]
-        tests.tell("what a build says", [f"{fragment!r} is not said: {said!r}" for fragment in wanted if fragment not in said])
-        called = [call.split(" --jobs")[0] for call in checkout.calls()]
-        tests.same("the calls of the toolchain", called, ["lib", "all check", "run -- check ../../examples/two_squares.tgap"])
-        answers(tests, "again, with what was built", tools=checkout.full)
-        tests.same("the calls of the toolchain after that", len(checkout.calls()), 3)
-        os.utime(checkout.top / SOURCE)
-        checkout.run(*WORDS, tools=checkout.full)
-        tests.same("the calls of the toolchain after a change", len(checkout.calls()), 6)
-
-
-def tells_a_build_that_fails(tests):
-    checkout = tests.checkout
-    with checkout.altered(SOURCE, b"// other\n"), checkout.toolchain("echo 'lib.rt:1:1: error: no proof'; exit 1"):
-        refuses(tests, "with sources that are not proved", "error: no proof", tools=checkout.full)
+    with checkout.toolchain("exit 1"):
+        checkout.built.parent.mkdir()
+        script(checkout.built, "echo built")
+        wanted = (0, b"built\n", "")
+        answers(tests, "with a built one, where the released one is that of the sources")
+        with checkout.altered(checkout.released):
+            tests.same("with a built one, and no released one", checkout.run(*WORDS), wanted)
+        with checkout.altered(checkout.sums):
+            tests.same("with a built one, and no sums", checkout.run(*WORDS), wanted)
+        with checkout.altered(SOURCE, b"// other\n"):
+            warns(tests, "with a built one that is older than a source", f"{SOURCE} is another")
+            os.utime(checkout.built)
+            tests.same("with a built one that is newer than all sources", checkout.run(*WORDS), wanted)
+            with checkout.altered(checkout.released, b"cut"):
+                os.utime(checkout.top / SOURCE)
+                refuses(tests, "with a built one that is older, and a released one that is cut", BRING_BACK, BUILD)
+        tests.same("the calls of the toolchain", checkout.calls(), [])
 
 
 def tells_what_it_wants(tests):
@@ -150,8 +184,8 @@ TESTS = [
     answers_without_writing,
     answers_another_user,
     decides_by_content,
+    leaves_the_program_alone,
     notices_damage,
-    builds_where_sources_differ,
-    tells_a_build_that_fails,
+    runs_what_was_built,
     tells_what_it_wants,
 ]
