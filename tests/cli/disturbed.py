@@ -1,6 +1,6 @@
-"""A long answer whose write is interrupted, cut short, or moves nothing, and a large map of which a read is interrupted or cut
-short: the answer is whole, or its status tells that it is not. One call is disturbed in each run, by the library that
-tests/sweep has for it."""
+"""A long answer whose write is interrupted, cut short, or moves nothing, and a large map of which a read is
+interrupted or cut short: the answer is whole, or its status tells that it is not. One call is disturbed in each run,
+by the library that tests/sweep has for it."""
 import os
 import subprocess
 
@@ -12,7 +12,7 @@ WORDS = ["borders", "large", "0"]
 CUT = 6
 # What a call comes to, which calls there are, and whether the answer has to be whole then.
 WRITES = [("interrupt", [1], True), ("short", [1], True), ("nought", [1], False)]
-# The map has some 4 MB, so there are some hundred reads of it; the numbers are those of the first ones and of one in the middle.
+# The map has some 4 MB, so there are some hundred reads of it: these are the first ones and one in the middle.
 READS = [("interrupt", [1, 2, 250], True), ("short", [1, 2, 250], True)]
 
 

@@ -1,6 +1,6 @@
-"""The largest maps on each command: the map of 180 by 180 bent cells, held to an own reckoning of its 32,399 steps, and
-generated maps, held to what the other commands say of their listings. None of them is told that memory is wanting, and
-each answer comes in bounded time."""
+"""The largest maps on each command: the map of 180 by 180 bent cells, held to an own reckoning of its 32,399 steps,
+and generated maps, held to what the other commands say of their listings. None of them is told that memory is
+wanting, and each answer comes in bounded time."""
 import concurrent.futures
 import pathlib
 

@@ -1,11 +1,14 @@
-"""The map of 180 by 180 bent cells over HTTP: what the command line gives of it, windows of every width, its topology, which
-is read again, and an edit. No reply says that memory is wanting, and each comes in bounded time."""
+"""The map of 180 by 180 bent cells over HTTP: what the command line gives of it, windows of every width, its
+topology, which is read again, an edit, and a slow reader. No reply says that memory is wanting, and each comes in
+bounded time."""
 import pathlib
 import tempfile
+import time
 
-from lib import Server, arc_text, asked_once, bent_grid, listing
+from lib import SECONDS, Server, arc_text, asked_once, bent_grid, listing, received, reply, request
 from model import LARGE_SIDE, bounds_of, slice_of, window_in
 from slice_topologies import is_compact, is_read_again, rules_of_listing
+from slow import narrow
 
 LAST = LARGE_SIDE**2 - 1
 STEPS = [0, LAST // 2, LAST]
@@ -14,6 +17,9 @@ MIDDLE, MOST = 2 * LARGE_SIDE, 2147483648
 # From one unit to more than the whole map.
 WIDTHS = [2**power for power in range(11)]
 MOVED, TO = (0, 0), (-1, -2)
+# A slow reader takes his reply in so many pieces, with so many seconds before each. That is 16 seconds: after half of it
+# more is left than the system keeps for both ends.
+PIECES, PAUSE, ROOM = 160, 0.1, 65536
 
 
 def boxes():
@@ -22,9 +28,14 @@ def boxes():
     yield -MOST, -MOST, MOST, MOST
 
 
-def many_cells(tests):
+def made_map():
+    """The numbers of faces and arcs of the map, and its listing."""
     faces, count, arcs = bent_grid(LARGE_SIDE)
-    made = listing(faces, [arc_text(*arc) for arc in arcs], version=2)
+    return faces, count, listing(faces, [arc_text(*arc) for arc in arcs], version=2)
+
+
+def many_cells(tests):
+    faces, count, made = made_map()
     with tempfile.TemporaryDirectory() as folder:
         path = pathlib.Path(folder) / "map"
         path.write_bytes(made)
@@ -72,4 +83,22 @@ def an_edit(tests, server, info, before):
     tests.same("the edges that an edit of the large map has changed", sum(moved[key] != old.edges[key] for key in moved), 1)
 
 
-TESTS = [many_cells]
+def a_steady_slow_reader(tests):
+    """A client that takes a large reply little by little, for far longer than five seconds, gets all of it."""
+    with tempfile.TemporaryDirectory() as folder:
+        path = pathlib.Path(folder) / "map"
+        path.write_bytes(made_map()[2])
+        wanted = reply(200, "OK", 0, tests.text("packet", path, LAST, 0), close=True)
+        with Server(tests.executable, path, 1, 1) as server, narrow(server, ROOM) as one:
+            one.sendall(request("GET", f"/packet/{LAST}/0", b"", "Connection: close"))
+            begun, came = time.monotonic(), bytearray()
+            while len(came) < len(wanted) and (data := one.recv(ROOM)):
+                came += data
+                if len(came) * PIECES // len(wanted) > (len(came) - len(data)) * PIECES // len(wanted):
+                    time.sleep(PAUSE)
+            seconds = time.monotonic() - begun
+            tests.same("a large reply to a slow reader", (bytes(came), received(one)), (wanted, (b"", True)))
+            tests.within("the seconds that a slow reader takes", seconds, PIECES * PAUSE / 2, SECONDS)
+
+
+TESTS = [many_cells, a_steady_slow_reader]

@@ -1,8 +1,8 @@
-"""Small replies come at once. A server that leaves it to the system to gather bytes sends the second of two parts only when
-the first one is acknowledged, and a client's system waits for 40 milliseconds with that.
+"""Small replies come at once. A server that leaves it to the system to gather bytes sends the second of two parts only
+when the first one is acknowledged, and a client's system waits for 40 milliseconds with that.
 
-The times are measured by a process of its own, tests/http/prompt.py PORT, since in the one of the tests many threads want
-the interpreter. It prints the medians in milliseconds."""
+The times are measured by a process of its own, tests/http/prompt.py PORT, since in the one of the tests many threads
+want the interpreter. It prints the medians in milliseconds."""
 import json
 import pathlib
 import statistics
@@ -40,7 +40,8 @@ def median(port, sent, wanted):
 
 
 def small_replies(tests):
-    """The least of a few medians, so that a loaded machine passes: what waits for an acknowledgement waits each time."""
+    """The least of a few medians, so that a loaded machine passes: what waits for an acknowledgement waits each
+    time."""
     with Server(tests.executable, MAP, 1, 1) as server:
         found = {name: [] for name in ASKED}
         while len(found["/info"]) < TRIES and any(not some or min(some) > MOST for some in found.values()):

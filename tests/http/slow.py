@@ -1,6 +1,6 @@
-"""Clients that send nothing, stop in the middle, never read, or stop reading. After five seconds without a byte in either
-direction the server ends their connection, so that none of them holds a worker for long. Who goes on, however slowly, is
-heard and answered to the end."""
+"""Clients that send nothing, stop in the middle, never read, or stop reading. After five seconds without a byte in
+either direction the server ends their connection, so that none of them holds a worker for long. Who goes on, however
+slowly, is heard to the end."""
 import contextlib
 import pathlib
 import socket
@@ -8,8 +8,7 @@ import tempfile
 import threading
 import time
 
-from lib import SECONDS, TOP, Server, arc_text, asked_once, bent_grid, grid, listing, received, reply, request
-from model import LARGE_SIDE
+from lib import SECONDS, TOP, Server, arc_text, asked_once, grid, listing, received, reply, request
 
 MAP = TOP / "examples/two_squares.tgap"
 INFO = b"version 0 steps 1 faces 2 arcs 3 points 10\n"
@@ -17,9 +16,6 @@ INFO = b"version 0 steps 1 faces 2 arcs 3 points 10\n"
 # loaded machine adds some; what takes longer is measured once more.
 LEAST, MOST = 4.5, 10
 CELLS, MANY = 60, 200
-# A slow reader takes his reply in so many pieces, with so many seconds before each. That is 16 seconds: after half of it
-# more is left than the system keeps for both ends.
-PIECES, PAUSE, ROOM = 160, 0.1, 65536
 
 
 def silent(server):
@@ -84,7 +80,8 @@ def answered_after(server, begun):
 
 
 def in_time(measured):
-    """The seconds of a measurement that gives them first, and the rest of it; where they are too many, of a second one."""
+    """The seconds of a measurement that gives them first, and the rest of it; where they are too many, of a second
+    one."""
     seconds, *rest = measured()
     return (seconds, *rest) if seconds <= MOST else measured()
 
@@ -129,8 +126,8 @@ def a_client_that_never_reads(tests):
 
 
 def a_client_that_stops_reading(tests):
-    """A client that has taken a part of its replies and then takes no more loses its connection after the same time. What
-    came is a front of the replies."""
+    """A client that has taken a part of its replies and then takes no more loses its connection after the same time.
+    What came is a front of the replies."""
 
     def measured():
         with narrow(server) as slow:
@@ -179,25 +176,6 @@ def a_steady_slow_client(tests):
         tests.same("a head that comes byte by byte", received(one), (reply(200, "OK", 0, INFO, close=True), True))
 
 
-def a_steady_slow_reader(tests):
-    """A client that takes a large reply little by little, for far longer than five seconds, gets all of it."""
-    faces, _, arcs = bent_grid(LARGE_SIDE)
-    with tempfile.TemporaryDirectory() as folder:
-        path = pathlib.Path(folder) / "map"
-        path.write_bytes(listing(faces, [arc_text(*arc) for arc in arcs], version=2))
-        wanted = reply(200, "OK", 0, tests.text("packet", path, faces - 1, 0), close=True)
-        with Server(tests.executable, path, 1, 1) as server, narrow(server, ROOM) as one:
-            one.sendall(request("GET", f"/packet/{faces - 1}/0", b"", "Connection: close"))
-            begun, came = time.monotonic(), bytearray()
-            while len(came) < len(wanted) and (data := one.recv(ROOM)):
-                came += data
-                if len(came) * PIECES // len(wanted) > (len(came) - len(data)) * PIECES // len(wanted):
-                    time.sleep(PAUSE)
-            seconds = time.monotonic() - begun
-            tests.same("a large reply to a slow reader", (bytes(came), received(one)), (wanted, (b"", True)))
-            tests.within("the seconds that a slow reader takes", seconds, PIECES * PAUSE / 2, SECONDS)
-
-
 def a_client_that_sends_on(tests):
     """A client that goes on to send, little by little, after its head was refused holds the worker for no longer."""
     done = threading.Event()
@@ -220,5 +198,5 @@ def a_client_that_sends_on(tests):
 
 
 TESTS = [a_silent_client, a_client_that_is_silent_after_a_reply, a_client_that_stops_in_a_head, a_client_that_stops_in_a_body,
-         a_client_that_never_reads, a_client_that_stops_reading, as_many_as_workers, a_steady_slow_client, a_steady_slow_reader,
+         a_client_that_never_reads, a_client_that_stops_reading, as_many_as_workers, a_steady_slow_client,
          a_client_that_sends_on]

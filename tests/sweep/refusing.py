@@ -17,8 +17,8 @@ def make_library(folder):
 
 
 class Refusing:
-    """Runs the program in a folder that has the library, with one call of a kind refused; of those that move bytes it is
-    one of this name, where one is given."""
+    """Runs the program in a folder that has the library, with one call of a kind refused; of those that move bytes
+    it is one of this name, where one is given."""
 
     def __init__(self, executable, folder, kind, of=None):
         self.executable, self.folder, self.kind, self.of = executable, pathlib.Path(folder), kind, of
