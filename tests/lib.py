@@ -133,6 +133,13 @@ def free_port():
     raise OSError("no port is free")
 
 
+def connected(port):
+    """A connection to a port of this machine, whose bytes are sent at once."""
+    one = socket.create_connection(("127.0.0.1", port), SECONDS)
+    one.setsockopt(socket.IPPROTO_TCP, socket.TCP_NODELAY, 1)
+    return one
+
+
 class Server:
     """The program, serving a map until it is stopped by its own process id. `under` are words before its own."""
 
@@ -165,9 +172,7 @@ class Server:
         return http.client.HTTPConnection("127.0.0.1", self.port, timeout=seconds)
 
     def socket(self):
-        one = socket.create_connection(("127.0.0.1", self.port), SECONDS)
-        one.setsockopt(socket.IPPROTO_TCP, socket.TCP_NODELAY, 1)
-        return one
+        return connected(self.port)
 
 
 # ---- requests and replies

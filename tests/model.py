@@ -1,10 +1,15 @@
 """A map of some hundred steps, and an own reckoning of it by docs/rules.md, as plain as it can be: its history, its
-borders, the areas of its faces, and the windows of a slice. The program's answers are held to it."""
+borders, the areas of its faces, and the windows of a slice. The program's answers are held to it. A quicker reckoning of
+the history, which is held to the plain one, is for a map of very many steps."""
 import collections
+import heapq
 
 from lib import arc_text, bent_grid, listing
 
-SIDE = 20
+# Cells a side; of the large map they are as many as a map may have.
+SIDE, LARGE_SIDE = 20, 180
+# So many points a listing of version 1 may have.
+MOST_POINTS_1 = 131072
 WEIGHTS = [1, 3, 2]
 COMPATIBILITY = [[5, 1, 2], [1, 4, 3], [2, 2, 1]]
 STEPS = [0, 1, 2, 17, 100, 199, 250, 333, 398, 399]
@@ -24,9 +29,9 @@ def length(points):
 class Model:
     """A map of bent cells of three classes. Its history is reckoned step by step."""
 
-    def __init__(self, ratio):
+    def __init__(self, ratio, side=SIDE):
         self.ratio = ratio
-        self.count, _, arcs = bent_grid(SIDE)
+        self.count, _, arcs = bent_grid(side)
         self.arcs = list(arcs)
         self.class_of = {face: face * face % 7 % len(WEIGHTS) for face in range(1, self.count + 1)}
         self.area = collections.Counter()
@@ -34,6 +39,10 @@ class Model:
             self.area[left] += double_area(points)
             self.area[right] -= double_area(points)
         self.parent, self.steps = {}, []
+        self.merge_all()
+
+    def merge_all(self):
+        """All steps, up to the one at which one face is left."""
         # The faces at the sides of each arc, with the length of the arc, as they are now.
         self.sides = [(left, right, length(points)) for left, right, points in self.arcs]
         live = set(range(1, self.count + 1))
@@ -43,7 +52,8 @@ class Model:
     def listing(self):
         classes = [f"{weight} {' '.join(map(str, row))}" for weight, row in zip(WEIGHTS, COMPATIBILITY)]
         arcs = [arc_text(*arc) for arc in self.arcs]
-        return listing(self.count, arcs, ratio=self.ratio, classes=classes, class_of=self.class_of)
+        version = 1 if sum(len(points) for _, _, points in self.arcs) <= MOST_POINTS_1 else 2
+        return listing(self.count, arcs, ratio=self.ratio, classes=classes, class_of=self.class_of, version=version)
 
     def merge(self, live):
         """One step: the least important face goes into the neighbour that takes it best. All faces hang together, so
@@ -55,12 +65,17 @@ class Model:
                 shared[left + right - loser] += long
         fits = COMPATIBILITY[self.class_of[loser]]
         winner = max(shared, key=lambda face: (fits[self.class_of[face]] * shared[face], -face))
+        made = self.made_of(loser, winner)
+        self.sides = [tuple(made if face in (loser, winner) else face for face in sides) + (long,) for *sides, long in self.sides]
+        return live - {loser, winner} | {made}
+
+    def made_of(self, loser, winner):
+        """The number of the face that two become by the next step."""
         made = self.count + len(self.steps) + 1
         self.steps.append(Step(loser, self.class_of[loser], winner, self.class_of[winner]))
         self.parent[loser] = self.parent[winner] = made
         self.class_of[made], self.area[made] = self.class_of[winner], self.area[loser] + self.area[winner]
-        self.sides = [tuple(made if face in (loser, winner) else face for face in sides) + (long,) for *sides, long in self.sides]
-        return live - {loser, winner} | {made}
+        return made
 
     def ancestors(self, step):
         """What each face has become by a step. A face that is made has a greater number than what it is made of."""
@@ -109,6 +124,42 @@ class Model:
         return faults
 
 
+class QuickModel(Model):
+    """The same map, whose least important face is taken from a heap, and whose faces know their neighbours."""
+
+    def merge_all(self):
+        beside = collections.defaultdict(collections.Counter)
+        for left, right, points in self.arcs:
+            if 0 not in (left, right):
+                beside[left][right] += length(points)
+                beside[right][left] += length(points)
+        heap = [self.importance(face) for face in range(1, self.count + 1)]
+        heapq.heapify(heap)
+        while len(beside) > 1:
+            _, loser = heapq.heappop(heap)
+            if loser in beside:
+                heapq.heappush(heap, self.importance(self.join(loser, beside)))
+
+    def importance(self, face):
+        return self.area[face] * WEIGHTS[self.class_of[face]], face
+
+    def join(self, loser, beside):
+        """One step: the greater of two rows of neighbours takes in the other."""
+        fits = COMPATIBILITY[self.class_of[loser]]
+        winner = max(beside[loser], key=lambda face: (fits[self.class_of[face]] * beside[loser][face], -face))
+        made = self.made_of(loser, winner)
+        less, most = sorted([beside.pop(loser), beside.pop(winner)], key=len)
+        most.update(less)
+        for face in (loser, winner):
+            del most[face]
+        for face in most:
+            for old in (loser, winner):
+                beside[face].pop(old, None)
+            beside[face][made] = most[face]
+        beside[made] = most
+        return made
+
+
 def slice_of(text):
     """A slice or a window as its text tells it: its first line, the classes of its faces, and its edges by key, with
     the faces at their sides and their points."""
@@ -126,14 +177,21 @@ def slice_of(text):
 def window_of(text, box):
     """The window of a slice, from the texts of both: the edges whose bounding boxes touch the box, and the faces beside
     them."""
-    x0, y0, x1, y1 = box
     whole = slice_of(text)
+    return window_in(whole, bounds_of(whole), box)
 
-    def touches(points):
-        xs, ys = zip(*points)
-        return min(xs) <= x1 and max(xs) >= x0 and min(ys) <= y1 and max(ys) >= y0
 
-    edges = {key: edge for key, edge in whole.edges.items() if touches(edge[2])}
+def bounds_of(whole):
+    """The bounding boxes of the edges of a slice, by key."""
+    columns = {key: tuple(zip(*points)) for key, (_, _, points) in whole.edges.items()}
+    return {key: (min(xs), min(ys), max(xs), max(ys)) for key, (xs, ys) in columns.items()}
+
+
+def window_in(whole, bounds, box):
+    """The same, from what the text of the slice tells, and the bounding boxes of its edges."""
+    x0, y0, x1, y1 = box
+    touched = [key for key, (left, low, right, high) in bounds.items() if left <= x1 and right >= x0 and low <= y1 and high >= y0]
+    edges = {key: whole.edges[key] for key in touched}
     beside = {face for left, right, _ in edges.values() for face in (left, right)}
     faces = {face: number for face, number in whole.faces.items() if face in beside}
     lines = [f"window {whole.first.split()[1]} {x0} {y0} {x1} {y1}", f"faces {len(faces)}"]

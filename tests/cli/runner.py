@@ -8,13 +8,13 @@ from lib import SECONDS, TOP
 
 # The tools of the shell that tests/run uses; python3 is none of them.
 TOOLS = ["sh", "cat", "dirname", "grep", "head", "id", "mktemp", "mv", "rm", "sed", "tail", "tee", "timeout", "tr"]
-SUITES = ["cli", "tools", "http", "deploy", "launcher", "web"]
+SUITES = ["cli", "tools", "http", "deploy", "launcher", "web", "sweep_first", "growth"]
 LINE = "{} passed, {} failed, {} skipped"
 # Each case: what the suites print, with their statuses, and the closing line of all with the status.
 CASES = [
     ("no suite", {}, LINE.format(0, 0, 0), 0),
     ("one suite", {"cli": ("some words\n" + LINE.format(3, 0, 1), 0)}, LINE.format(3, 0, 1), 0),
-    ("suites of several rows", {name: (LINE.format(1, 0, 2), 0) for name in SUITES}, LINE.format(6, 0, 12), 0),
+    ("suites of several rows", {name: (LINE.format(1, 0, 2), 0) for name in SUITES}, LINE.format(len(SUITES), 0, 2 * len(SUITES)), 0),
     ("one of two with a test that failed", {"cli": (LINE.format(3, 2, 0), 1), "http": (LINE.format(5, 0, 0), 0)},
      LINE.format(8, 2, 0), 1),
     ("a test that failed, and yet the status 0", {"http": (LINE.format(3, 1, 0), 0)}, LINE.format(3, 1, 0), 1),

@@ -14,9 +14,10 @@ from lib import SECONDS, TOP, Server, Skipped, ask, asked_once, free_port
 
 MAP = TOP / "examples/two_squares.tgap"
 INFO = b"version 0 steps 1 faces 2 arcs 3 points 10\n"
-PASSED_OVER = ["ECONNABORTED", "EPROTO", "ENETDOWN", "EHOSTUNREACH", "EPERM", "EAGAIN", "EINTR"]
+PASSED_OVER = ["ECONNABORTED", "EPROTO", "ENETDOWN", "EHOSTUNREACH", "EPERM", "EAGAIN", "EINTR", "ENONET", "ENOPROTOOPT",
+               "EOPNOTSUPP", "ENETUNREACH", "ECONNRESET", "ETIMEDOUT", "EHOSTDOWN"]
 WAITED_OUT = ["EMFILE", "ENFILE", "ENOBUFS", "ENOMEM"]
-BROKEN = ["EBADF", "EINVAL"]
+BROKEN = ["EBADF", "EINVAL", "ENOTSOCK", "EFAULT", "EIO"]
 PORT_FAULT = 8
 # So long a worker that is there may let a client wait.
 WAIT = 30

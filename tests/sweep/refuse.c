@@ -1,7 +1,8 @@
 /* Refuses one call of a program that is run with this library preloaded: the call number REFUSE_CALL, from 1, of the kind
    REFUSE_KIND. `alloc`: malloc and realloc have no memory. `io`: open, read, write, recv and send fail. `short`: a read,
-   write, recv or send of several bytes moves one. `interrupt`: one of these is interrupted before it moved any. `thread`:
-   a thread is not made. When the call comes, the file REFUSE_TOLD is made. */
+   write, recv or send of several bytes moves one. `interrupt`: one of these is interrupted before it moved any. `nought`:
+   a write or send moves none, and tells no error. `thread`: a thread is not made. Where REFUSE_OF is set, calls of that
+   name alone are counted of those that move bytes. When the call comes, the file REFUSE_TOLD is made. */
 #define _GNU_SOURCE
 #include <dlfcn.h>
 #include <errno.h>
@@ -25,7 +26,7 @@ static ssize_t (*send_of)(int, const void *, size_t, int);
 static int (*open_of)(const char *, int, ...);
 static int (*create_of)(pthread_t *, const pthread_attr_t *, void *(*)(void *), void *);
 
-static const char *kind, *told;
+static const char *kind, *of, *told;
 static atomic_long left;
 
 __attribute__((constructor)) static void begin(void) {
@@ -36,6 +37,7 @@ __attribute__((constructor)) static void begin(void) {
     open_of = (int (*)(const char *, int, ...))dlsym(RTLD_NEXT, "open");
     create_of = (int (*)(pthread_t *, const pthread_attr_t *, void *(*)(void *), void *))dlsym(RTLD_NEXT, "pthread_create");
     told = getenv("REFUSE_TOLD");
+    of = getenv("REFUSE_OF");
     left = atol(getenv("REFUSE_CALL"));
     kind = getenv("REFUSE_KIND");
 }
@@ -49,24 +51,31 @@ static int is_refused(const char *this) {
 }
 
 /* What a call that would move bytes comes to: it fails, or moves at most so many. */
-static int moves(int broken, size_t *size) {
+static int moves(const char *name, int broken, size_t *size) {
+    if (of && strcmp(of, name) != 0) return 0;
     if (is_refused("io")) return errno = broken, -1;
     if (is_refused("interrupt")) return errno = EINTR, -1;
     if (*size > 1 && is_refused("short")) *size = 1;
     return 0;
 }
 
+/* The same of a call that gives bytes away, which may move none. */
+static int gives(const char *name, int broken, size_t *size) {
+    if (*size > 0 && (!of || strcmp(of, name) == 0) && is_refused("nought")) *size = 0;
+    return moves(name, broken, size);
+}
+
 void *malloc(size_t size) { return is_refused("alloc") ? (errno = ENOMEM, NULL) : __libc_malloc(size); }
 
 void *realloc(void *old, size_t size) { return is_refused("alloc") ? (errno = ENOMEM, NULL) : __libc_realloc(old, size); }
 
-ssize_t read(int file, void *to, size_t size) { return moves(EIO, &size) ? -1 : read_of(file, to, size); }
+ssize_t read(int file, void *to, size_t size) { return moves("read", EIO, &size) ? -1 : read_of(file, to, size); }
 
-ssize_t write(int file, const void *from, size_t size) { return moves(ENOSPC, &size) ? -1 : write_of(file, from, size); }
+ssize_t write(int file, const void *from, size_t size) { return gives("write", ENOSPC, &size) ? -1 : write_of(file, from, size); }
 
-ssize_t recv(int file, void *to, size_t size, int flags) { return moves(ECONNRESET, &size) ? -1 : recv_of(file, to, size, flags); }
+ssize_t recv(int file, void *to, size_t size, int flags) { return moves("recv", ECONNRESET, &size) ? -1 : recv_of(file, to, size, flags); }
 
-ssize_t send(int file, const void *from, size_t size, int flags) { return moves(EPIPE, &size) ? -1 : send_of(file, from, size, flags); }
+ssize_t send(int file, const void *from, size_t size, int flags) { return gives("send", EPIPE, &size) ? -1 : send_of(file, from, size, flags); }
 
 int open(const char *path, int flags, ...) {
     va_list more;
