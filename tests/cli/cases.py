@@ -79,6 +79,9 @@ CHECK = [
     ("check open_arc", 4, "refused 16 node 0 0 0 0 1 0\n"),
     ("check nested", 4, "refused 17 stack 10 1 1 0\n"),
     ("check inside_out", 4, "refused 17 stack 0 0 0 1\n"),
+    ("check touching_a_bend", 4, "refused 15 meets 0 2 100 100 20\n"),
+    ("check crossing_at_bends", 4, "refused 15 meets 0 2 250 250 50\n"),
+    ("check there_and_back", 4, "refused 15 meets 0 1 5 5 2\n"),
 ]
 
 SLICE = [
@@ -87,9 +90,6 @@ SLICE = [
     ("slice two_squares_ratio_0 1", 0, slice_at(1, [3], "0 3 0 7 10 10 0 10 0 0 10 0 20 0 20 10 10 10")),
     ("slice hole_with_face 0", 0, slice_at(0, [1, 2], "0 1 0 5 0 0 30 0 30 30 0 30 0 0", "1 2 1 5 10 10 20 10 20 20 10 20 10 10")),
     ("slice hole_with_face 1", 0, slice_at(1, [3], "0 3 0 5 0 0 30 0 30 30 0 30 0 0")),
-    ("slice four_squares 2", 0, slice_at(2, [5, 6], "0 5 0 5 0 10 0 0 10 0 20 0 20 10", "2 6 0 5 20 10 20 20 10 20 0 20 0 10",
-                                         "5 5 6 3 20 10 10 10 0 10")),
-    ("slice four_squares 3", 0, slice_at(3, [7], "0 7 0 9 20 10 20 20 10 20 0 20 0 10 0 0 10 0 20 0 20 10")),
     ("slice one_square 0", 0, slice_at(0, [1], "0 1 0 5 0 0 10 0 10 10 0 10 0 0")),
     ("slice corner 0", 0, slice_at(0, [1, 2], "0 1 0 5 10 10 0 10 0 0 10 0 10 10", "1 2 0 5 10 10 20 10 20 20 10 20 10 10")),
     ("slice two_squares 0", 0, slice_at(0, [1, 2], "0 1 0 4 10 10 0 10 0 0 10 0", "1 2 0 4 10 0 20 0 20 10 10 10", "2 1 2 2 10 0 10 10")),
@@ -132,24 +132,40 @@ BAD_LINES = [
     (1, b"tgap 02", "18 bad-line 1"),
     (1, b"tgap", "18 bad-line 1"),
     (1, b"tgap 1 2", "18 bad-line 1"),
+    (1, b"tgap 2 2", "18 bad-line 1"),
     (1, b"tgap 1\r", "18 bad-line 1"),
     (1, b"\xff\xfe", "18 bad-line 1"),
+    (2, b"transform 1 1 0", "18 bad-line 2"),
     (2, b"transform 1 1 0 2147483648", "18 bad-line 2"),
     (3, b"ratio 016", "18 bad-line 3"),
     (3, b"ratio 65536", "18 bad-line 3"),
+    (3, b"ratio  16", "18 bad-line 3"),
+    (4, b"classes 0", "18 bad-line 4"),
     (4, b"classes 257", "9 limit classes 257"),
+    (4, b"classes 99999999999999999999999999", "18 bad-line 4"),
     (5, b"class 0 0 1", "18 bad-line 5"),
+    (5, b"class 0 1 1001", "18 bad-line 5"),
+    (5, b"class 0 1 1 1", "18 bad-line 5"),
     (6, b"faces 32769", "9 limit faces 32769"),
+    (6, b"faces 4294967296", "18 bad-line 6"),
     (7, b"face  1 0", "18 bad-line 7"),
     (8, b"face 2 1", "18 bad-line 8"),
+    (8, b"face 3 0", "18 bad-line 8"),
     (9, b"arcs 65537", "9 limit arcs 65537"),
     (10, b"arc 1 1 4 10 10 0 10 0 0 10 0", "18 bad-line 10"),
+    (10, b"arc 1 3 4 10 10 0 10 0 0 10 0", "18 bad-line 10"),
+    (10, b"arc 1 0 4 10 10 0 10 0 10 10 0", "18 bad-line 10"),
+    (10, b"arc 1 0 4 10 10 0 10 0 0 +10 0", "18 bad-line 10"),
     (10, b"arc 1 0 131073", "9 limit points 131073"),
     (11, b"arc 2 0 131069 and more", "9 limit points 131073"),
     (10, b"arc 1 0 2 268435457 0 0 0", "18 bad-line 10"),
     (11, b"arc 2 0 4 10 0 10 0 20 10 10 10", "18 bad-line 11"),
+    (11, b"arc 2 0 4 10 0 20 0 20 10 10 10 ", "18 bad-line 11"),
     (12, b"arc 1 2 2 10 0 10 +10", "18 bad-line 12"),
+    (12, b"arc 1 0 1 10 0", "18 bad-line 12"),
     (13, b"end ", "18 bad-line 13"),
+    (13, b"end\nend", "18 bad-line 14"),
+    (13, b"", "18 bad-line 13"),
 ]
 
 # The same in the two squares of version 2: what is too much for version 1 alone is in form.
@@ -194,6 +210,12 @@ for version, bad in ((1, BAD_LINES), (2, BAD_LINES_2)):
     for number, (place, line, fault) in enumerate(bad):
         MAPS[f"bad_{version}_{number}"] = two_squares_with(place, line, version)
         FILES.append((f"bad_{version}_{number}", 4, f"refused {fault}\n"))
+# A listing that ends early is refused at the line in which it ends.
+CUTS = []
+for end in range(len(MAPS["two_squares"])):
+    front = MAPS["two_squares"][:end]
+    MAPS[f"cut_at_{end}"] = front
+    CUTS.append((f"check cut_at_{end}", 4, "refused 18 bad-line {}\n".format(front.count(b"\n") + 1)))
 ANY_FILE = [case for name, status, text in FILES for case in ((["check", name], status, text), (["borders", name, "0"], status, text), (["slice", name, "0"], status, text))]
 
 NO_COMMAND = [(words, 2, USAGE) for words in [
@@ -201,6 +223,8 @@ NO_COMMAND = [(words, 2, USAGE) for words in [
     "check two_squares land rules more", "slice two_squares 0 land", "slice two_squares 0 land rules more", "slice two_squares land rules 0", "borders two_squares 0 land rules",
     "slice", "slice two_squares_ratio_0", "slice two_squares_ratio_0 0 0", "slice two_squares_ratio_0 00", "slice 0 two_squares_ratio_0",
     "grid", "grid 0", "grid 148", "grid 01", "grid -1", "grid 1 1", "grid two_squares", "Grid 1", ["grid", ""], ["grid", "1 "], ["grid", "1", ""],
+    "serve", "serve two_squares 8080 2", "serve two_squares 8080 0 4", "serve two_squares 8080 17 4", "serve two_squares 8080 2 0", "serve two_squares 8080 2 65",
+    "serve two_squares 0 2 4", "serve two_squares 65536 2 4", "serve two_squares 8080 2 4 land", "Serve two_squares 8080 2 4",
     "Borders two_squares 1", "Check two_squares", "Slice two_squares_ratio_0 0", "borders two_squares 01", "borders two_squares -1", "borders two_squares +1",
     "borders two_squares 1.0", "borders two_squares 4294967296", "borders two_squares 99999999999999999999", "two_squares", "help", "--help",
     [""], ["check", "two_squares", ""], ["borders", "two_squares", ""], ["borders", "two_squares", " 1"], ["borders", "two_squares", "1\n"],
@@ -208,4 +232,4 @@ NO_COMMAND = [(words, 2, USAGE) for words in [
     [b"check", b"two_squares\xc3"], ["check", *["two_squares"] * 1000],
 ]]
 
-CASES = [*BORDERS, *CHECK, *SLICE, *GRID, *ANY_FILE, *NO_COMMAND]
+CASES = [*BORDERS, *CHECK, *SLICE, *GRID, *ANY_FILE, *CUTS, *NO_COMMAND]

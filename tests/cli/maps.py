@@ -65,6 +65,9 @@ MAPS = {
     "open_arc": listing(1, ["1 0 2 0 0 5 5"]),
     "nested": listing(2, [f"1 0 5 {LARGE_SQUARE}", f"2 0 5 {INNER_SQUARE}"]),
     "inside_out": listing(1, ["0 1 4 0 0 10 0 0 10 0 0"]),
+    "touching_a_bend": listing(2, ["1 0 3 0 0 5 5 10 10", "2 0 2 5 5 5 9"]),
+    "crossing_at_bends": listing(2, ["1 0 3 0 0 5 5 10 10", "2 0 3 0 10 5 5 10 0"]),
+    "there_and_back": listing(1, ["1 0 3 0 0 5 5 0 0"]),
     # files that are the listing of no base map
     "empty": b"",
     "blanks": b" " * 16777216,

@@ -64,6 +64,7 @@ def four_packet(first, last):
 
 
 CASES += [
+    *((f"slice four_squares {step}", 0, text) for step, text in enumerate(FOUR_SLICES)),
     ("packet two_squares 1 0", 0, TWO_PACKET),
     ("packet two_squares 1 1", 0, packet(1, 1)),
     ("packet two_squares 0 0", 0, packet(0, 0)),
@@ -129,6 +130,15 @@ for cut, line in [(TWO_PACKET[: -len("end\n")], 8), (TWO_PACKET[:-1], 8), (TWO_P
                   (changed(TWO_PACKET, "packet 1 0", "packet 0 1"), 1), (changed(TWO_PACKET, "step 1", "step 2"), 2),
                   (changed(TWO_PACKET, "piece 1 6 2 0", "piece 1 6 2 2"), 6), (packet(2, 0, *TWO_ROWS), 2)]:
     replayed(TWO_COARSE, cut, 9, f"unfit packet line {line}\n")
+
+for text, line in [("slice 00\nfaces 0\nedges 0\nend\n", 1), ("slice 0\nfaces 1\nface 0 0\nedges 0\nend\n", 3),
+                   ("slice 0\nfaces 4294967295\nface 1 0\nedges 0\nend\n", 4), ("slice 0\nfaces 0\nedges 1\nedge 0 1 0 4294967295 0 0\nend\n", 4),
+                   ("slice 0\nfaces 0\nedges 1\nedge 0 1 0 2 0 0 0 2147483649\nend\n", 4)]:
+    replayed(text, "", 9, f"unfit slice line {line}\n")
+for rows, line in [([], 2), (["step 1 1 4 2 5 3 1 0"], 3), (["step 1 1 4 2 5 3 1 0", "mend 0 4294967295 1", "put 1 0 10"], 5),
+                   (["step 1 1 4 2 5 3 1 0", "mend 0 1 0", "put 1 0"], 4), (["step 1 1 4 2 5 3 1 0", "mend 0 0 1", "piece 0 2 6 2"], 4),
+                   (["step 1 1 4 2 5 3 0 1", "edge 2 1 2 1 10 0"], 3), (["step 1 1 4 2 5 3 0 1", "edge 2 1 2 2 10 0 10 9 "], 3)]:
+    replayed(TWO_COARSE, packet(1, 0, *rows), 9, f"unfit packet line {line}\n")
 
 # ---- the order of loads, and words
 

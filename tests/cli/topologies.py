@@ -102,6 +102,9 @@ accepted(plain(polygon([0], [2]), polygon([2], [0]), polygon([], [0]), polygon()
 accepted(plain({"type": "Point", "coordinates": [1, 2]}, {"type": "GeometryCollection", "geometries": [{"type": "LineString", "arcs": "none"}, polygon([0])]}, {}), 1, 1, 5)
 accepted({**plain(), "objects": {"land": polygon([0])}}, 1, 1, 5)
 accepted(plain(), 0, 0, 0)
+# one of two objects, whose ring takes its only arc backwards
+slices({"type": "Topology", "objects": {"land": polygon([-1], kind=7), "two": {}}, "arcs": [[[0, 0], [0, 10], [10, 10], [10, 0], [0, 0]]]},
+       {**RULES, "classes": [["6", 1], ["7", 2]], "compat": [[1, 2], [3, 4]], "ratio": 0}, [1], "0 0 1 5 0 0 0 10 10 10 10 0 0 0")
 # classes: the first of a name, a number, the default for another, for none and for what is no name
 NAMES = {**RULES, "classes": [["a", 1], ["b", 1], ["a", 1], ["7", 1], ["-7", 1]], "default": 2, "compat": [[1] * 5] * 5}
 SIDE_BY_SIDE = [[[40 * n, 0], [40 * n + 30, 0], [40 * n + 30, 30], [40 * n, 0]] for n in range(8)]
@@ -110,7 +113,9 @@ slices(plain(polygon([0], kind="a"), polygon([1], kind="b"), polygon([2], kind=7
              polygon([6], sort="a"), {"type": "Polygon", "arcs": [[7]]}, arcs=SIDE_BY_SIDE), NAMES, [0, 1, 3, 4, 2, 2, 2, 2], *EDGES)
 
 # ---- what is refused, in the order in which it is told
-for text in (b"", b"[1,", b"\xff", json.dumps(SQUARES).encode()[:-1], json.dumps(SQUARES).encode() + b"x", b"[" * 128 + b"]" * 128, b"1e999"):
+for end in range(len(bytes_of(SQUARES))):
+    refused(bytes_of(SQUARES)[:end], "1 not-json")
+for text in (b"[1,", b"\xff", bytes_of(SQUARES) + b"x", b"[" * 128 + b"]" * 128, b"1e999"):
     refused(text, "1 not-json")
 for value in ([1], 7, "Topology", None):
     refused(bytes_of(value) if value is not None else b"null", "2 shape 1 0")

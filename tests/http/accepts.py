@@ -81,6 +81,14 @@ def a_broken_listener(tests):
             tests.same(f"a listener that is broken by {error}", (ended.returncode, ended.stdout), wanted)
 
 
+def a_taken_port(tests):
+    """Where somebody listens at the port already, the program ends and says so."""
+    with Server(tests.executable, MAP, 1, 1) as server:
+        ended = tests.run("serve", MAP, server.port, 2, 4)
+        tests.same("a port that is taken", (ended.returncode, ended.stdout), (PORT_FAULT, b"port fault\n"))
+        tests.same("who listens there goes on", asked_once(server, "GET", "/info"), (200, 0, INFO))
+
+
 def seconds_of_processor(process):
     """How long a process has run on a processor."""
     fields = pathlib.Path(f"/proc/{process}/stat").read_text(encoding="utf-8").rpartition(") ")[2].split()
@@ -119,4 +127,4 @@ def is_answered(server):
             return False
 
 
-TESTS = [failed_accepts, a_broken_listener, no_descriptors]
+TESTS = [failed_accepts, a_broken_listener, a_taken_port, no_descriptors]

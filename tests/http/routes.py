@@ -89,6 +89,7 @@ def edits(tests):
         tests.same("pin", ask(b, "POST", "/pin/1")[:3], (200, 1, b"pin 1\n"))
         moved = b"edge 0 3 0 6 10 10 0 10 0 0 20 0 24 10 10 10\n"
         tests.same("the moved vertex", moved in ask(b, "GET", "/slice/1")[2], True)
+        tests.same("its topology", ask(b, "GET", "/topo/0")[:3], (200, 1, TOPOLOGY.replace(b"[10,0],[0,10],[-10,0]]", b"[10,0],[4,10],[-14,0]]")))
         tests.same("full", ask(b, "POST", "/edit", b"move 20 0 20 1\n")[:3], (507, 1, b"versions full 2\n"))
         tests.same("behind", ask(b, "POST", "/pin/9")[:3], (409, 1, b"behind 1\n"))
         a.close()

@@ -1,13 +1,12 @@
-//! Tests of the commands: borders, checks, slices and packets of worked maps, lines of generated ones, words that are no command, and faults of the outside.
+//! Tests of the commands over files in memory: what each of them answers, faults of the outside, files that never fail, and
+//! real files and writers.
 #![tactic(auto)]
 
 #[cfg(test)]
-mod grids;
+mod answers;
 #[cfg(test)]
-mod outside;
+mod faults;
 #[cfg(test)]
-mod packets;
-#[cfg(test)]
-mod slices;
+mod real;
 #[cfg(test)]
 mod worked;

@@ -1,99 +1,55 @@
-//! Borders and checks of worked maps.
+//! The files of all commands, and what each command answers of them.
 
-use memory_runs::{
-    FOUR_SQUARES, HOLE_WITH_FACE, THREE_SQUARES, TWO_SQUARES, USAGE, answered_of_map,
-};
-use std::test::Fail;
+use memory_runs::{TWO_SQUARES, files_of};
+use plain_io::MemoryFiles;
+use std::alloc::Global;
+use tgap_model::{List, Memory};
 
-#[test]
-fn worked_maps(rt: HostRuntime) -> Result<(), Fail> {
-    let alloc = rt.alloc();
-    for (map, words, status, text) in [
-        (
-            TWO_SQUARES,
-            "borders map 0",
-            0,
-            "borders 0\nborder 0 1 0\nborder 1 2 0\nborder 2 1 2\nend\n",
-        ),
-        (
-            TWO_SQUARES,
-            "borders map 1",
-            0,
-            "borders 1\nborder 0 3 0\nborder 1 3 0\nend\n",
-        ),
-        (TWO_SQUARES, "borders map 2", 5, "step too high 1\n"),
-        (
-            TWO_SQUARES,
-            "borders map 4294967295",
-            5,
-            "step too high 1\n",
-        ),
-        (TWO_SQUARES, "borders none 0", 3, "load fault map\n"),
-        (
-            FOUR_SQUARES,
-            "borders map 2",
-            0,
-            "borders 2\nborder 0 5 0\nborder 1 5 0\nborder 2 6 0\nborder 3 6 0\nborder 5 5 6\nborder 7 6 5\nend\n",
-        ),
-        (
-            FOUR_SQUARES,
-            "borders map 3",
-            0,
-            "borders 3\nborder 0 7 0\nborder 1 7 0\nborder 2 7 0\nborder 3 7 0\nend\n",
-        ),
-        (
-            THREE_SQUARES,
-            "borders map 1",
-            0,
-            "borders 1\nborder 0 1 0\nborder 1 4 0\nborder 2 4 0\nborder 3 4 0\nborder 4 1 4\nend\n",
-        ),
-        (
-            THREE_SQUARES,
-            "borders map 2",
-            0,
-            "borders 2\nborder 0 5 0\nborder 1 5 0\nborder 2 5 0\nborder 3 5 0\nend\n",
-        ),
-        (THREE_SQUARES, "borders map 3", 5, "step too high 2\n"),
-        (
-            HOLE_WITH_FACE,
-            "borders map 1",
-            0,
-            "borders 1\nborder 0 3 0\nend\n",
-        ),
-        (
-            "tgap 1\ntransform 1 1 0 0\nratio 16\nclasses 1\nclass 0 1 1\nfaces 0\narcs 0\nend\n",
-            "borders map 0",
-            0,
-            "borders 0\nend\n",
-        ),
-        (TWO_SQUARES, "", 2, USAGE),
-        (TWO_SQUARES, "borders map", 2, USAGE),
-        (TWO_SQUARES, "borders map 1 2", 2, USAGE),
-        (TWO_SQUARES, "Borders map 1", 2, USAGE),
-        (TWO_SQUARES, "borders map 01", 2, USAGE),
-        (TWO_SQUARES, "borders map -1", 2, USAGE),
-        (TWO_SQUARES, "borders map 4294967296", 2, USAGE),
-        (TWO_SQUARES, "check map", 0, "ok faces 2 arcs 3 points 10\n"),
-        (
-            FOUR_SQUARES,
-            "check map",
-            0,
-            "ok faces 4 arcs 8 points 20\n",
-        ),
-        (
-            HOLE_WITH_FACE,
-            "check map",
-            0,
-            "ok faces 2 arcs 2 points 10\n",
-        ),
-        (TWO_SQUARES, "check none", 3, "load fault map\n"),
-        (TWO_SQUARES, "check", 2, USAGE),
-        (TWO_SQUARES, "check map 1", 2, USAGE),
-        (TWO_SQUARES, "Check map", 2, USAGE),
-    ] {
-        let (found, put) = answered_of_map(&rt, alloc, words, map.as_bytes())?;
-        assert_eq!(rt; found, status, "{words}");
-        assert_eq!(rt; put.as_slice(), text.as_bytes(), "{words}");
-    }
-    Ok(())
+pub const COARSE: &str =
+    "slice 1\nfaces 1\nface 3 0\nedges 1\nedge 0 3 0 6 10 10 0 10 0 0 20 0 20 10 10 10\nend\n";
+
+const FINE: &str =
+    "slice 0\nfaces 2\nface 1 0\nface 2 0\nedges 3\nedge 0 1 0 4 10 10 0 10 0 0 10 0\nedge 1 2 0 4 10 0 20 0 20 10 10 10\nedge 2 1 2 2 10 0 10 10\nend\n";
+
+const PACKET: &str =
+    "packet 1 0\nstep 1 1 0 2 0 3 1 1\nmend 0 1 2\nput 3 10 0\npiece 0 3 1 0\npiece 1 6 2 0\nedge 2 1 2 2 10 0 10 10\nend\n";
+
+/// The two squares as a topology, each of a kind of its own.
+const TOPOLOGY: &str =
+    "{\"type\":\"Topology\",\"objects\":{\"land\":{\"type\":\"GeometryCollection\",\"geometries\":[{\"type\":\"Polygon\",\"arcs\":[[0,2]],\"properties\":{\"kind\":\"field\"}},{\"type\":\"Polygon\",\"arcs\":[[1,-3]],\"properties\":{\"kind\":\"wood\"}}]}},\"arcs\":[[[10,10],[0,10],[0,0],[10,0]],[[10,0],[20,0],[20,10],[10,10]],[[10,0],[10,10]]]}";
+
+const RULES: &str =
+    "{\"property\":\"kind\",\"classes\":[[\"field\",1],[\"wood\",1]],\"default\":0,\"compat\":[[1,1],[1,1]],\"ratio\":16}";
+
+/// The words of each command, and what it answers where all files are there. The line of forty rows was counted by an
+/// independent program.
+pub const ANSWERS: &[(&str, &str)] = &[
+    (
+        "borders map 0",
+        "borders 0\nborder 0 1 0\nborder 1 2 0\nborder 2 1 2\nend\n",
+    ),
+    ("check map", "ok faces 2 arcs 3 points 10\n"),
+    ("slice map 1", COARSE),
+    (
+        "slice topology 1 land rules",
+        "slice 1\nfaces 1\nface 3 1\nedges 1\nedge 0 3 0 6 10 10 0 10 0 0 20 0 20 10 10 10\nend\n",
+    ),
+    ("packet map 1 0", PACKET),
+    ("replay coarse packet", FINE),
+    (
+        "grid 40",
+        "grid 40 faces 1600 arcs 3280 points 9840 steps 1599 removed 3546 edges 1 kept 6 replayed 3276 9836\n",
+    ),
+];
+
+/// The files of all commands. The listed loads fail.
+pub fn all_files(alloc: Global, failing: List<u64>) -> Result<MemoryFiles, Memory> {
+    let named = [
+        ("map", TWO_SQUARES.as_bytes()),
+        ("topology", TOPOLOGY.as_bytes()),
+        ("rules", RULES.as_bytes()),
+        ("coarse", COARSE.as_bytes()),
+        ("packet", PACKET.as_bytes()),
+    ];
+    files_of(alloc, &named, failing)
 }

@@ -1,47 +1,35 @@
 //! What a method and a target ask for.
 
 use http_face::{Allow, Route, route, routes};
+use std::alloc::Global;
 use std::test::Fail;
+use tgap_model::Memory;
 
-/// The routes of these methods and targets.
-#[test]
-fn paths(rt: HostRuntime) -> Result<(), Fail> {
-    let Ok(routes) = routes(rt.alloc()) else {
-        assert!(rt; false);
-        return Ok(());
-    };
-    let wrong = Route::WrongMethod(Allow::Get);
-    assert_eq!(rt; route(&routes, b"GET", b"/nothing"), Route::NoRoute);
-    assert_eq!(rt; route(&routes, b"DELETE", b"/info"), wrong);
-    assert_eq!(rt; route(&routes, b"GET", b"/slice/01"), Route::BadNumber);
-    assert_eq!(rt; route(&routes, b"GET", b"/slice/2"), Route::Slice(2));
-    assert_eq!(rt; route(&routes, b"GET", b"/packet/3/1"), Route::Packet(3, 1));
-    assert_eq!(rt; route(&routes, b"POST", b"/pin/9?"), Route::PinSeen(9));
-    Ok(())
+fn asked(alloc: Global, method: &[u8], target: &[u8]) -> Result<Route, Memory> {
+    let routes = routes(alloc)?;
+    Ok(route(&routes, method, target))
 }
 
-/// The route of a topology, and what is none.
 #[test]
-fn topologies(rt: HostRuntime) -> Result<(), Fail> {
-    let Ok(routes) = routes(rt.alloc()) else {
-        assert!(rt; false);
-        return Ok(());
-    };
-    assert_eq!(rt; route(&routes, b"GET", b"/topo/0"), Route::Topo(0));
-    assert_eq!(rt;
-        route(&routes, b"GET", b"/topo/4294967295"),
-        Route::Topo(4294967295)
-    );
-    assert_eq!(rt;
-        route(&routes, b"GET", b"/topo/4294967296"),
-        Route::BadNumber
-    );
-    assert_eq!(rt; route(&routes, b"GET", b"/topo/-1"), Route::BadNumber);
-    assert_eq!(rt;
-        route(&routes, b"POST", b"/topo/-1"),
-        Route::WrongMethod(Allow::Get)
-    );
-    assert_eq!(rt; route(&routes, b"GET", b"/topo/0/1"), Route::NoRoute);
-    assert_eq!(rt; route(&routes, b"GET", b"/topology/0"), Route::NoRoute);
+fn paths(rt: HostRuntime) -> Result<(), Fail> {
+    let rows: &[(&str, &str, Route)] = &[
+        ("GET", "/nothing", Route::NoRoute),
+        ("DELETE", "/info", Route::WrongMethod(Allow::Get)),
+        ("GET", "/slice/01", Route::BadNumber),
+        ("GET", "/slice/2", Route::Slice(2)),
+        ("GET", "/packet/3/1", Route::Packet(3, 1)),
+        ("POST", "/pin/9?", Route::PinSeen(9)),
+        ("GET", "/topo/0", Route::Topo(0)),
+        ("GET", "/topo/4294967295", Route::Topo(4294967295)),
+        ("GET", "/topo/4294967296", Route::BadNumber),
+        ("GET", "/topo/-1", Route::BadNumber),
+        ("POST", "/topo/-1", Route::WrongMethod(Allow::Get)),
+        ("GET", "/topo/0/1", Route::NoRoute),
+        ("GET", "/topology/0", Route::NoRoute),
+    ];
+    for (method, target, route) in rows {
+        let found = asked(rt.alloc(), method.as_bytes(), target.as_bytes())?;
+        assert_eq!(rt; found, *route, "{method} {target}");
+    }
     Ok(())
 }

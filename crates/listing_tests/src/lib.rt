@@ -1,7 +1,5 @@
-//! Tests of the commands over listings: lines that are not of the form, maps with a fault of their geometry, and long ones.
+//! Tests of listings: the base maps of listings and of a topology are written, and read again.
 #![tactic(auto)]
 
 #[cfg(test)]
-mod lines;
-#[cfg(test)]
-mod made;
+mod written;

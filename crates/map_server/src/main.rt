@@ -3,8 +3,6 @@
 #![tactic(auto)]
 
 mod run;
-#[cfg(test)]
-mod tests;
 
 use commands::Outcome;
 use plain_io::{HostFiles, HostSink, TcpHarbour};

@@ -1,51 +1,158 @@
 //! Links in memory: input step by step, pieces that wait for another link, calls that fail.
 
 use crate::doors::numbers;
-use plain_io::{Failed, FailingCalls, Flag, HeldLink, Link, MemoryLink};
+use plain_io::{FailingCalls, Flag, HeldLink, Link, MemoryLink};
+use std::alloc::Global;
 use std::test::Fail;
-use tgap_model::Text;
+use tgap_model::{Memory, Text};
+
+/// Takes from a link, and tells the bytes that came, or that the take failed.
+pub fn tell_take<L: Link>(link: &mut L, told: &mut Text) -> Result<(), Memory> {
+    let mut buf = [0u8; 8];
+    match link.take(&mut buf) {
+        Ok(count) => told.push_slice(&buf[..count])?,
+        Err(_) => told.push_slice(b"no take")?,
+    }
+    told.push_slice(b"|")
+}
+
+/// Puts to a link, and tells where the put failed.
+fn tell_put<L: Link>(link: &mut L, bytes: &[u8], told: &mut Text) -> Result<(), Memory> {
+    match link.put(bytes) {
+        Ok(()) => told.push_slice(b"put|"),
+        Err(_) => told.push_slice(b"no put|"),
+    }
+}
+
+/// What four takes from a link give.
+fn told_by_takes<L: Link>(alloc: Global, link: &mut L) -> Result<Text, Memory> {
+    let mut told = Text::new(alloc);
+    for _ in 0..4u64 {
+        tell_take(link, &mut told)?;
+    }
+    Ok(told)
+}
+
+/// What comes of four puts to a link.
+fn told_by_puts<L: Link>(alloc: Global, link: &mut L) -> Result<Text, Memory> {
+    let mut told = Text::new(alloc);
+    for bytes in [b"xyz".as_slice(), b"u", b"uv", b"w"] {
+        tell_put(link, bytes, &mut told)?;
+    }
+    Ok(told)
+}
+
+/// A link that gives three bytes at once and has room for four. Its second take and its second put fail.
+fn memory_link(alloc: Global) -> Result<MemoryLink, Memory> {
+    let failing = FailingCalls {
+        takes: numbers(alloc, &[1])?,
+        puts: numbers(alloc, &[1])?,
+    };
+    MemoryLink::new(alloc, Text::from_slice(alloc, b"abcde")?, 3, 4, failing)
+}
 
 #[test]
 fn a_link_gives_its_input_step_by_step(rt: HostRuntime) -> Result<(), Fail> {
-    let failing = FailingCalls {
-        takes: numbers(rt.alloc(), &[1])?,
-        puts: numbers(rt.alloc(), &[1])?,
-    };
-    let input = Text::from_slice(rt.alloc(), b"abcde")?;
-    let mut link = MemoryLink::new(rt.alloc(), input, 3, 4, failing)?;
-    let mut buf = [0u8; 8];
-    assert_eq!(rt; link.take(&mut buf)?, 3);
-    assert_eq!(rt; &buf[..3], b"abc".as_slice());
-    assert_eq!(rt; link.take(&mut buf), Err(Failed), "the take that is listed");
-    assert_eq!(rt; link.take(&mut buf)?, 2);
-    assert_eq!(rt; &buf[..2], b"de".as_slice());
-    assert_eq!(rt; link.take(&mut buf)?, 0);
-    link.put(b"xyz")?;
-    assert_eq!(rt; link.put(b"u"), Err(Failed), "the put that is listed");
-    assert_eq!(rt; link.put(b"uv"), Err(Failed), "no room");
-    link.put(b"w")?;
-    assert_eq!(rt; link.bytes(), b"xyzw".as_slice());
+    let mut link = memory_link(rt.alloc())?;
+    let told = told_by_takes(rt.alloc(), &mut link)?;
+    assert_eq!(rt; told.as_slice(), b"abc|no take|de||".as_slice());
     Ok(())
+}
+
+/// The second put is listed, and for the third one there is no room.
+#[test]
+fn a_link_tells_of_puts_that_fail(rt: HostRuntime) -> Result<(), Fail> {
+    let mut link = memory_link(rt.alloc())?;
+    let told = told_by_puts(rt.alloc(), &mut link)?;
+    assert_eq!(rt; told.as_slice(), b"put|no put|no put|put|".as_slice());
+    Ok(())
+}
+
+/// What a link keeps of four puts.
+fn kept_of_puts(alloc: Global) -> Result<Text, Memory> {
+    let mut link = memory_link(alloc)?;
+    told_by_puts(alloc, &mut link)?;
+    Text::from_slice(alloc, link.bytes())
+}
+
+#[test]
+fn a_link_keeps_what_is_put(rt: HostRuntime) -> Result<(), Fail> {
+    assert_eq!(rt; kept_of_puts(rt.alloc())?.as_slice(), b"xyzw".as_slice());
+    Ok(())
+}
+
+/// A link with room for eight bytes whose next put raises this flag.
+fn raising_link(alloc: Global, flag: Flag) -> Result<HeldLink, Memory> {
+    let mut link = HeldLink::new(alloc, 8)?;
+    link.add_flag(flag)?;
+    Ok(link)
+}
+
+/// A link whose last piece waits for this flag.
+fn waiting_link(alloc: Global, flag: Flag) -> Result<HeldLink, Memory> {
+    let mut link = HeldLink::new(alloc, 8)?;
+    link.add_piece(b"ab", None)?;
+    link.add_piece(b"", None)?;
+    link.add_piece(b"cde", Some(flag))?;
+    Ok(link)
+}
+
+/// What a take from the second link, a put to the first one and two more takes give.
+fn told_by_two<L: Link>(alloc: Global, first: &mut L, second: &mut L) -> Result<Text, Memory> {
+    let mut told = Text::new(alloc);
+    tell_take(second, &mut told)?;
+    tell_put(first, b"x", &mut told)?;
+    tell_take(second, &mut told)?;
+    tell_take(second, &mut told)?;
+    Ok(told)
+}
+
+/// The same, where the last piece of the second link waits for a put to the first one.
+fn told_by_held_links(alloc: Global) -> Result<Text, Memory> {
+    let flag = Flag::new(alloc)?;
+    let mut first = raising_link(alloc, flag.share()?)?;
+    let mut second = waiting_link(alloc, flag)?;
+    told_by_two(alloc, &mut first, &mut second)
 }
 
 #[test]
 fn a_piece_waits_for_the_put_of_another_link(rt: HostRuntime) -> Result<(), Fail> {
-    let mut first = HeldLink::new(rt.alloc(), 8)?;
-    let mut second = HeldLink::new(rt.alloc(), 8)?;
-    let flag = Flag::new(rt.alloc())?;
-    first.add_flag(flag.share()?)?;
-    second.add_piece(b"ab", None)?;
-    second.add_piece(b"", None)?;
-    second.add_piece(b"cde", Some(flag))?;
-    let mut buf = [0u8; 8];
-    assert_eq!(rt; second.take(&mut buf)?, 2, "one piece");
-    first.put(b"x")?;
-    assert_eq!(rt; second.take(&mut buf)?, 3, "the next one");
-    assert_eq!(rt; second.take(&mut buf)?, 0);
-    assert_eq!(rt; first.bytes(), b"x".as_slice());
-    assert_eq!(rt; first.put(b"12345678"), Err(Failed), "no room");
-    let never = Flag::new(rt.alloc())?;
-    first.add_piece(b"f", Some(never))?;
-    assert_eq!(rt; first.take(&mut buf), Err(Failed), "nobody raises the flag");
+    let told = told_by_held_links(rt.alloc())?;
+    assert_eq!(rt; told.as_slice(), b"ab|put|cde||".as_slice());
+    Ok(())
+}
+
+/// What comes of two puts to a link that has no room for the second one, and what it keeps.
+fn told_by_full_link(alloc: Global, link: &mut HeldLink) -> Result<Text, Memory> {
+    let mut told = Text::new(alloc);
+    tell_put(link, b"x", &mut told)?;
+    tell_put(link, b"12345678", &mut told)?;
+    told.push_slice(link.bytes())?;
+    Ok(told)
+}
+
+/// The same of a link with room for eight bytes.
+fn told_by_link_of_eight(alloc: Global) -> Result<Text, Memory> {
+    let mut link = HeldLink::new(alloc, 8)?;
+    told_by_full_link(alloc, &mut link)
+}
+
+#[test]
+fn a_held_link_has_room_for_so_many_bytes(rt: HostRuntime) -> Result<(), Fail> {
+    let told = told_by_link_of_eight(rt.alloc())?;
+    assert_eq!(rt; told.as_slice(), b"put|no put|x".as_slice());
+    Ok(())
+}
+
+/// What a take gives whose piece waits for a flag that nobody raises.
+fn told_by_waiting_take(alloc: Global) -> Result<Text, Memory> {
+    let mut link = waiting_link(alloc, Flag::new(alloc)?)?;
+    told_by_takes(alloc, &mut link)
+}
+
+#[test]
+fn a_piece_whose_flag_nobody_raises_fails(rt: HostRuntime) -> Result<(), Fail> {
+    let told = told_by_waiting_take(rt.alloc())?;
+    assert_eq!(rt; told.as_slice(), b"ab|no take|no take|no take|".as_slice());
     Ok(())
 }

@@ -1,8 +1,7 @@
-//! Tests of the command that serves a map, over harbours in memory.
+//! Tests of the command that serves a map, over harbours in memory: doors that are there or fail, and links of which a call
+//! fails. What clients get over the network is tested in tests/http.
 #![tactic(auto)]
 
-#[cfg(test)]
-mod again;
 #[cfg(test)]
 mod doors;
 #[cfg(test)]

@@ -1,189 +1,153 @@
-//! Rows of requests on one link: in takes of any size, and where a call fails, one after the other.
+//! A row of requests on one link, of which each call fails in turn.
 
-use crate::links::{INFO, INFO_TEXT, exchange, none, reply};
-use plain_io::EndKind;
+ghost use Rattle.std.specs.Prelude.{◌<◌};
+
+use crate::links::{INFO, exchange, none};
+use plain_io::{EndKind, FailingCalls};
 use std::alloc::Global;
+use std::sync::Wait;
 use std::test::Fail;
-use tgap_model::{List, Memory};
+use std::thread::Threads;
+use tgap_model::{Memory, Text};
 
 /// The two squares as a topology.
-pub const TOPOLOGY: &str =
+const TOPOLOGY: &str =
     "{\"arcs\":[[[10,10],[-10,0],[0,-10],[10,0]],[[10,0],[10,0],[0,10],[-10,0]],[[10,0],[0,10]]],\"objects\":{\"map\":{\"geometries\":[{\"arcs\":[[0,2]],\"properties\":{\"class\":0,\"face\":1},\"type\":\"Polygon\"},{\"arcs\":[[1,-3]],\"properties\":{\"class\":0,\"face\":2},\"type\":\"Polygon\"}],\"type\":\"GeometryCollection\"}},\"transform\":{\"scale\":[1,1],\"translate\":[0,0]},\"type\":\"Topology\"}";
 
-/// So many bytes of a head whose header line has no end.
-fn endless(alloc: Global, length: usize) -> Result<Vec<u8>, Memory> {
-    let mut head = Vec::from_slice(alloc, b"GET /info HTTP/1.1\r\nA: ")?;
-    for _ in head.len()..length {
-        head.push(b'b')?;
-    }
-    Ok(head)
+/// Requests, each with the status and the body of its reply.
+const SIX: &[(&str, &str, &str)] = &[
+    (
+        "GET /info",
+        "200 OK",
+        "version 0 steps 1 faces 2 arcs 3 points 10\n",
+    ),
+    ("GET /topo/0", "200 OK", TOPOLOGY),
+    ("GET /slice/2", "400 Bad Request", "step too high 1\n"),
+    ("GET /slice/01", "400 Bad Request", "bad number\n"),
+    ("GET /nothing", "404 Not Found", "no route\n"),
+    ("POST /pin/9", "409 Conflict", "behind 0\n"),
+];
+
+/// A request that is whole.
+fn request(alloc: Global, line: &str) -> Result<String, Memory> {
+    Ok(format!(in alloc; "{line} HTTP/1.1\r\nHost: t\r\n\r\n")?)
 }
 
-/// The bytes of the last reply of a connection that the server ends.
-fn last_reply(alloc: Global, status: &str, body: &str) -> Result<String, Memory> {
+/// The bytes of a reply.
+fn reply(alloc: Global, status: &str, body: &str) -> Result<String, Memory> {
     Ok(format!(in alloc;
-        "HTTP/1.1 {status}\r\nContent-Type: text/plain\r\nTgap-Version: 0\r\nConnection: close\r\nContent-Length: {}\r\n\r\n{body}",
+        "HTTP/1.1 {status}\r\nContent-Type: text/plain\r\nTgap-Version: 0\r\nContent-Length: {}\r\n\r\n{body}",
         body.len()
     )?)
 }
 
-/// A request that is whole.
-pub fn request(alloc: Global, line: &str) -> Result<String, Memory> {
-    Ok(format!(in alloc; "{line} HTTP/1.1\r\nHost: t\r\n\r\n")?)
-}
-
-/// Six requests, and the reply to each.
-fn six(alloc: Global) -> Result<[(String, String); 6], Memory> {
-    Ok([
-        (
-            request(alloc, "GET /info")?,
-            reply(alloc, "200 OK", 0, INFO_TEXT)?,
-        ),
-        (
-            request(alloc, "GET /topo/0")?,
-            reply(alloc, "200 OK", 0, TOPOLOGY)?,
-        ),
-        (
-            request(alloc, "GET /slice/2")?,
-            reply(alloc, "400 Bad Request", 0, "step too high 1\n")?,
-        ),
-        (
-            request(alloc, "GET /slice/01")?,
-            reply(alloc, "400 Bad Request", 0, "bad number\n")?,
-        ),
-        (
-            request(alloc, "GET /nothing")?,
-            reply(alloc, "404 Not Found", 0, "no route\n")?,
-        ),
-        (
-            request(alloc, "POST /pin/9")?,
-            reply(alloc, "409 Conflict", 0, "behind 0\n")?,
-        ),
-    ])
-}
-
-/// All requests in a row, and all replies.
-fn rows_of(alloc: Global, six: &[(String, String); 6]) -> Result<(String, String), Memory> {
+/// All requests in a row.
+fn requests(alloc: Global) -> Result<String, Memory> {
     let mut sent = String::new(alloc);
-    let mut wanted = String::new(alloc);
-    for (request, reply) in six {
-        sent.push_str(request)?;
-        wanted.push_str(reply)?;
+    for (line, _, _) in SIX {
+        sent.push_str(request(alloc, line)?.as_str())?;
     }
-    Ok((sent, wanted))
-}
-
-#[test]
-fn each_byte_apart(rt: HostRuntime) -> Result<(), Fail> {
-    let alloc = rt.alloc();
-    let (sent, wanted) = rows_of(alloc, &six(alloc)?)?;
-    let wrong =
-        "HTTP/1.1 405 Method Not Allowed\r\nContent-Type: text/plain\r\nTgap-Version: 0\r\nAllow: GET\r\nContent-Length: 13\r\n\r\nwrong method\n";
-    let bad = last_reply(alloc, "400 Bad Request", "bad request\n")?;
-    let long = last_reply(alloc, "413 Content Too Large", "too long\n")?;
-    for (sent, wanted, how) in [
-        (sent.as_bytes(), wanted.as_str(), EndKind::Closed),
-        (
-            b"DELETE /info HTTP/1.1\r\n\r\n".as_slice(),
-            wrong,
-            EndKind::Closed,
-        ),
-        (
-            b"GET\n/ HTTP/1.1".as_slice(),
-            bad.as_str(),
-            EndKind::BadHead,
-        ),
-        (
-            b"POST /edit HTTP/1.1\r\nContent-Length: 1048577\r\n\r\n".as_slice(),
-            long.as_str(),
-            EndKind::BadHead,
-        ),
-    ] {
-        for step in [1, 1000] {
-            let (put, found) = exchange(&rt, alloc, sent, step, none(alloc))?;
-            assert_eq!(rt; (put.as_slice(), found), (wanted.as_bytes(), how));
-        }
-    }
-    Ok(())
-}
-
-#[test]
-fn heads_that_are_too_long(rt: HostRuntime) -> Result<(), Fail> {
-    let alloc = rt.alloc();
-    let bad = last_reply(alloc, "400 Bad Request", "bad request\n")?;
-    let mut many = String::from_str(alloc, "GET /info HTTP/1.1\r\n")?;
-    for _ in 0..65u64 {
-        many.push_str("A: b\r\n")?;
-    }
-    many.push_str("\r\n")?;
-    let longest = endless(alloc, 8192)?;
-    for sent in [many.as_bytes(), longest.as_slice()] {
-        let (put, how) = exchange(&rt, alloc, sent, 1000, none(alloc))?;
-        assert_eq!(rt; (put.as_slice(), how), (bad.as_bytes(), EndKind::BadHead));
-    }
-    // One byte less may still become a head.
-    let shorter = endless(alloc, 8191)?;
-    let (put, how) = exchange(&rt, alloc, shorter.as_slice(), 1000, none(alloc))?;
-    assert_eq!(rt; (put.len(), how), (0, EndKind::CutShort));
-    Ok(())
+    Ok(sent)
 }
 
 /// The replies to the requests that are whole within so many bytes.
-fn replies_within(
-    alloc: Global,
-    six: &[(String, String); 6],
-    size: usize,
-) -> Result<String, Memory> {
+fn replies_within(alloc: Global, size: usize) -> Result<String, Memory> {
     let mut wanted = String::new(alloc);
     let mut end = 0usize;
-    for (request, reply) in six {
-        end = end.saturating_add(request.len());
+    for (line, status, body) in SIX {
+        end = end.saturating_add(request(alloc, line)?.len());
         if end <= size {
-            wanted.push_str(reply)?;
+            wanted.push_str(reply(alloc, status, body)?.as_str())?;
         }
     }
     Ok(wanted)
 }
 
+/// What a client gets that sends all requests, where the listed calls fail, and how its connection ends.
+fn exchange_all<R: Threads + Wait + Sync>(
+    rt: &R,
+    alloc: Global,
+    step: usize,
+    failing: FailingCalls,
+) -> Result<(Text, EndKind), Fail>
+    requires { 0 < step }
+{
+    let sent = requests(alloc)?;
+    exchange(rt, alloc, sent.as_bytes(), step, failing)
+}
+
+fn failing_take(alloc: Global, take: u64) -> Result<FailingCalls, Memory> {
+    let mut failing = none(alloc);
+    failing.takes.push(take)?;
+    Ok(failing)
+}
+
+fn failing_put(alloc: Global, put: u64) -> Result<FailingCalls, Memory> {
+    let mut failing = none(alloc);
+    failing.puts.push(put)?;
+    Ok(failing)
+}
+
+/// Whether a client whose take of this number fails gets the replies to what came before.
+fn is_right_where_a_take_fails<R: Threads + Wait + Sync>(
+    rt: &R,
+    alloc: Global,
+    take: usize,
+    how: EndKind,
+) -> Result<bool, Fail> {
+    let failing = failing_take(alloc, take as u64)?;
+    let (put, found) = exchange_all(rt, alloc, INFO.len(), failing)?;
+    let wanted = replies_within(alloc, take.saturating_mul(INFO.len()))?;
+    Ok(put.as_slice() == wanted.as_bytes() && found == how)
+}
+
+/// The last take finds the end of the input, and no other one follows.
 #[test]
 fn each_take_that_fails(rt: HostRuntime) -> Result<(), Fail> {
-    let alloc = rt.alloc();
-    let six = six(alloc)?;
-    let (sent, wanted) = rows_of(alloc, &six)?;
-    let step = INFO.len();
-    // The last take finds the end of the input, and no other one follows.
-    let takes = sent.len().div_ceil(step).saturating_add(1);
-    for n in 0..takes.saturating_add(1) {
-        let mut failing = none(alloc);
-        failing.takes.push(n as u64)?;
-        let found = exchange(&rt, alloc, sent.as_bytes(), step, failing)?;
-        let told = replies_within(alloc, &six, n.saturating_mul(step))?;
-        let (wanted, how) = if n < takes {
-            (told.as_bytes(), EndKind::ReadFault)
-        } else {
-            (wanted.as_bytes(), EndKind::Closed)
-        };
-        assert_eq!(rt; (found.0.as_slice(), found.1), (wanted, how));
+    let takes = requests(rt.alloc())?
+        .len()
+        .div_ceil(INFO.len())
+        .saturating_add(1);
+    for take in 0..takes {
+        assert!(rt;
+            is_right_where_a_take_fails(&rt, rt.alloc(), take, EndKind::ReadFault)?,
+            "{take}"
+        );
     }
+    assert!(rt; is_right_where_a_take_fails(&rt, rt.alloc(), takes, EndKind::Closed)?);
     Ok(())
 }
 
+/// Whether what came is a front of the replies, and whether it is all of them.
+fn is_front_and_all(alloc: Global, came: &[u8]) -> Result<(bool, bool), Memory> {
+    let wanted = replies_within(alloc, usize::MAX)?;
+    Ok((
+        wanted.as_bytes().starts_with(came),
+        came == wanted.as_bytes(),
+    ))
+}
+
+/// What a client gets whose put of this number fails: how its connection ends, whether a front of the replies came, and
+/// whether all of them did.
+fn told_where_a_put_fails<R: Threads + Wait + Sync>(
+    rt: &R,
+    alloc: Global,
+    put: u64,
+) -> Result<(EndKind, bool, bool), Fail> {
+    let failing = failing_put(alloc, put)?;
+    let (came, how) = exchange_all(rt, alloc, 1000, failing)?;
+    let (is_front, is_all) = is_front_and_all(alloc, came.as_slice())?;
+    Ok((how, is_front, is_all))
+}
+
+/// Each reply is one put.
 #[test]
 fn each_put_that_fails(rt: HostRuntime) -> Result<(), Fail> {
-    let alloc = rt.alloc();
-    let (sent, wanted) = rows_of(alloc, &six(alloc)?)?;
-    // Each reply is one put.
-    for n in 0..7u64 {
-        let mut failing = none(alloc);
-        failing.puts.push(n)?;
-        let (put, how) = exchange(&rt, alloc, sent.as_bytes(), 1000, failing)?;
-        if n < 6 {
-            assert_eq!(rt; how, EndKind::WriteFault);
-            assert!(rt; wanted.as_bytes().starts_with(put.as_slice()));
-            assert!(rt; put.len() < wanted.len());
-        } else {
-            assert_eq!(rt; (put.as_slice(), how), (wanted.as_bytes(), EndKind::Closed));
-        }
+    for put in 0..6u64 {
+        let told = told_where_a_put_fails(&rt, rt.alloc(), put)?;
+        assert_eq!(rt; told, (EndKind::WriteFault, true, false));
     }
+    let told = told_where_a_put_fails(&rt, rt.alloc(), 6)?;
+    assert_eq!(rt; told, (EndKind::Closed, true, true));
     Ok(())
 }

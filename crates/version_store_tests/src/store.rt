@@ -45,75 +45,92 @@ pub fn version(alloc: Global, number: u64) -> Result<Arc<Numbered>, Memory>
     Ok(Arc::new(alloc, Numbered { number, base })?)
 }
 
-/// What came of the calls, in their order.
-#[derive(Drop)]
-struct Outcomes {
-    free: Result<(), PublishFail>,
-    published: Result<u64, PublishFail>,
-    older: Result<(), PublishFail>,
-    stale: Result<u64, PublishFail>,
-    pinned: u64,
-    full: Result<u64, PublishFail>,
-    no_room: Result<(), PublishFail>,
-    newest: u64,
-    untold: u64,
+const STALE: PublishFail = PublishFail::Stale { newest: 1 };
+
+const FULL: PublishFail = PublishFail::VersionsFull { limit: 2 };
+
+/// Whether a seat publishes from the first version, and then may not do so again.
+fn publishes_once<N: StoreName, R: Wait>(
+    rt: &R,
+    alloc: Global,
+    press: &mut Press<Numbered, N>,
+    seat: &mut Seat<Numbered, N>,
+) -> Result<bool, Memory> {
+    let next = version(alloc, 1)?;
+    let free = press.ready(seat, 0);
+    let published = press.publish(rt, alloc, seat, 0, next);
+    let older = press.ready(seat, 0);
+    Ok(free == Ok(()) && published == Ok(1) && older == Err(STALE))
 }
 
-fn row<N: StoreName, R: Wait>(
+/// Whether a seat that publishes from the first version is told that it is not the newest.
+fn is_stale<N: StoreName, R: Wait>(
+    rt: &R,
+    alloc: Global,
+    press: &mut Press<Numbered, N>,
+    seat: &mut Seat<Numbered, N>,
+) -> Result<bool, Memory> {
+    let next = version(alloc, 1)?;
+    Ok(press.publish(rt, alloc, seat, 0, next) == Err(STALE))
+}
+
+/// Whether a seat that pins the second version is told that there may be no third one.
+fn is_full<N: StoreName, R: Wait>(
+    rt: &R,
+    alloc: Global,
+    press: &mut Press<Numbered, N>,
+    seat: &mut Seat<Numbered, N>,
+) -> Result<bool, Memory> {
+    let pinned = seat.pin(alloc)?.number;
+    let next = version(alloc, pinned + 1)?;
+    let published = press.publish(rt, alloc, seat, pinned, next);
+    let again = seat.pin(alloc)?.number;
+    let ready = press.ready(seat, again);
+    Ok(pinned == 1 && published == Err(FULL) && ready == Err(FULL))
+}
+
+/// Whether three seats of a store of two versions are told what is right, one after the other. The last of them has done
+/// nothing before it pins: a pin without a step would give 0.
+fn are_told<N: StoreName, R: Wait>(
+    rt: &R,
+    alloc: Global,
+    press: &mut Press<Numbered, N>,
+    seats: &mut [Seat<Numbered, N>],
+) -> Result<bool, Fail> {
+    let [first, second, last] = seats else {
+        return Err("there are three seats".into());
+    };
+    Ok(
+        publishes_once(rt, alloc, press, first)?
+            && is_stale(rt, alloc, press, second)?
+            && is_full(rt, alloc, press, second)?
+            && press.newest(alloc, first)? == 1
+            && last.pin(alloc)?.number == 1,
+    )
+}
+
+/// The same for the seats of a store, which are gathered then.
+fn are_told_and_gathered<N: StoreName, R: Wait>(
     rt: &R,
     alloc: Global,
     store: Fresh<Numbered>,
-) -> Result<Outcomes, Fail>
+) -> Result<bool, Fail>
     requires store { fresh_store store ≡ N.store }
     requires limit { fresh_limit store ≡ N.limit }
 {
     let (mut press, mut seats) = store.open::<N, R>(rt, alloc)?;
-    let mut untold = seats.pop().ok_or("a seat")?;
-    let mut second = seats.pop().ok_or("a seat")?;
-    let mut first = seats.pop().ok_or("a seat")?;
-    let free = press.ready(&mut first, 0);
-    let published = press.publish(rt, alloc, &mut first, 0, version(alloc, 1)?);
-    let older = press.ready(&mut first, 0);
-    let stale = press.publish(rt, alloc, &mut second, 0, version(alloc, 1)?);
-    let pinned = second.pin(alloc)?.number;
-    let next = version(alloc, pinned + 1)?;
-    let full = press.publish(rt, alloc, &mut second, pinned, next);
-    let again = second.pin(alloc)?.number;
-    let no_room = press.ready(&mut second, again);
-    let newest = press.newest(alloc, &mut first)?;
-    let pin = untold.pin(alloc)?;
-    let untold_number = pin.number;
-    press.gather(untold);
-    press.gather(second);
+    let is_right = are_told(rt, alloc, &mut press, seats.as_mut_slice())?;
+    for seat in seats {
+        press.gather(seat);
+    }
     press.end(rt);
-    Ok(Outcomes {
-        free,
-        published,
-        older,
-        stale,
-        pinned,
-        full,
-        no_room,
-        newest,
-        untold: untold_number,
-    })
+    Ok(is_right)
 }
 
 #[test]
 fn three_seats_on_one_thread(rt: HostRuntime) -> Result<(), Fail> {
-    let alloc = rt.alloc();
-    let store = start(alloc, version(alloc, 0)?, 2, 3)?;
-    let row = row::<Brand, HostRuntime>(&rt, alloc, store)?;
-    assert_eq!(rt; row.free, Ok(()));
-    assert_eq!(rt; row.published, Ok(1));
-    assert_eq!(rt; row.older, Err(PublishFail::Stale { newest: 1 }));
-    assert_eq!(rt; row.stale, Err(PublishFail::Stale { newest: 1 }));
-    assert_eq!(rt; row.pinned, 1);
-    assert_eq!(rt; row.full, Err(PublishFail::VersionsFull { limit: 2 }));
-    assert_eq!(rt; row.no_room, Err(PublishFail::VersionsFull { limit: 2 }));
-    assert_eq!(rt; row.newest, 1);
-    // A pin without a step would give 0.
-    assert_eq!(rt; row.untold, 1);
+    let store = start(rt.alloc(), version(rt.alloc(), 0)?, 2, 3)?;
+    assert!(rt; are_told_and_gathered::<Brand, HostRuntime>(&rt, rt.alloc(), store)?);
     Ok(())
 }
 

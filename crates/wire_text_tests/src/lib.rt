@@ -1,5 +1,5 @@
-//! Tests of `wire_text` over its public calls: each fault and each text beside its bytes, and the texts that are read
-//! again or refused.
+//! Tests of `wire_text` over its public calls: each text beside its bytes, and the texts that are read again. Those that are
+//! refused are rows of tests/cli.
 #![tactic(auto)]
 
 #[cfg(test)]

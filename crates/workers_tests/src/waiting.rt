@@ -7,7 +7,7 @@ use std::alloc::Global;
 use std::sync::Wait;
 use std::test::Fail;
 use std::thread::Threads;
-use tgap_model::{List, Memory};
+use tgap_model::{List, Memory, Text};
 use workers::{Attend, PostOf, ServeEnd, serve_posts};
 
 /// Puts back what it takes, until there is no more.
@@ -63,41 +63,68 @@ fn give_back<L: Link>(link: &mut L) -> EndKind {
     EndKind::Spent
 }
 
-/// A post whose door gives one link.
-fn post(alloc: Global, link: HeldLink) -> Result<PostOf<SureDoor<HeldLink>, Echo>, Memory>
+/// A door that gives one link.
+fn door(alloc: Global, link: HeldLink) -> Result<SureDoor<HeldLink>, Memory>
     requires { IsNew (⟦<HeldLink as Link>⟧.taken link) (⟦<HeldLink as Link>⟧.told link) (⟦<HeldLink as Link>⟧.take_faults link) (⟦<HeldLink as Link>⟧.put_faults link) (⟦<HeldLink as Link>⟧.ended link) }
 {
     let mut links = List::new(alloc);
     links.push(link)?;
-    Ok(PostOf {
-        door: SureDoor::new(alloc, links)?,
+    SureDoor::new(alloc, links)
+}
+
+/// A door whose link gives `late` when this flag is raised.
+fn waiting_door(alloc: Global, flag: Flag) -> Result<SureDoor<HeldLink>, Memory> {
+    let mut link = HeldLink::new(alloc, 8)?;
+    link.add_piece(b"late", Some(flag))?;
+    door(alloc, link)
+}
+
+/// A door whose link gives `soon`, and raises this flag by the put that follows.
+fn ready_door(alloc: Global, flag: Flag) -> Result<SureDoor<HeldLink>, Memory> {
+    let mut link = HeldLink::new(alloc, 8)?;
+    link.add_piece(b"soon", None)?;
+    link.add_flag(flag)?;
+    door(alloc, link)
+}
+
+type Post = PostOf<SureDoor<HeldLink>, Echo>;
+
+/// Two posts, of which the first waits for a put of the second.
+fn two_posts(alloc: Global) -> Result<Vec<Post>, Memory> {
+    let flag = Flag::new(alloc)?;
+    let waiting = waiting_door(alloc, flag.share()?)?;
+    let ready = ready_door(alloc, flag)?;
+    let mut posts = Vec::new(alloc);
+    posts.push(PostOf {
+        door: waiting,
         seat: Echo,
-    })
+    })?;
+    posts.push(PostOf {
+        door: ready,
+        seat: Echo,
+    })?;
+    Ok(posts)
+}
+
+/// What was put to the links of these posts, each of which has ended in good order.
+fn put_to_all(alloc: Global, posts: &[Post]) -> Result<Text, Memory> {
+    let mut put = Text::new(alloc);
+    for post in posts {
+        for (link, end) in post.door.handed_back() {
+            if end.how == EndKind::Closed {
+                put.push_slice(link.bytes())?;
+            }
+        }
+    }
+    Ok(put)
 }
 
 #[test]
 fn a_worker_that_waits_holds_up_no_other(rt: HostRuntime) -> Result<(), Fail> {
-    let alloc = rt.alloc();
-    let flag = Flag::new(alloc)?;
-    let mut waiting = HeldLink::new(alloc, 8)?;
-    waiting.add_piece(b"late", Some(flag.share()?))?;
-    let mut ready = HeldLink::new(alloc, 8)?;
-    ready.add_piece(b"soon", None)?;
-    ready.add_flag(flag)?;
-    let mut posts = Vec::new(alloc);
-    posts.push(post(alloc, waiting)?)?;
-    posts.push(post(alloc, ready)?)?;
-    assert_eq!(rt;
-        serve_posts(&rt, &alloc, posts.as_mut_slice()),
-        ServeEnd::Closed
-    );
-    let mut replies = Vec::new(alloc);
-    for post in posts {
-        for (link, end) in post.door.handed_back() {
-            assert_eq!(rt; end.how, EndKind::Closed);
-            replies.extend_from_slice(link.bytes())?;
-        }
-    }
-    assert_eq!(rt; replies.as_slice(), b"latesoon".as_slice());
+    let mut posts = two_posts(rt.alloc())?;
+    let end = serve_posts(&rt, &rt.alloc(), posts.as_mut_slice());
+    assert_eq!(rt; end, ServeEnd::Closed);
+    let put = put_to_all(rt.alloc(), posts.as_slice())?;
+    assert_eq!(rt; put.as_slice(), b"latesoon".as_slice());
     Ok(())
 }

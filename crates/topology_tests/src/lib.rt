@@ -1,5 +1,0 @@
-//! Tests of the commands over topologies with their rules.
-#![tactic(auto)]
-
-#[cfg(test)]
-mod topologies;
