@@ -24,24 +24,6 @@ fn tell_put<L: Link>(link: &mut L, bytes: &[u8], told: &mut Text) -> Result<(), 
     }
 }
 
-/// What four takes from a link give.
-fn told_by_takes<L: Link>(alloc: Global, link: &mut L) -> Result<Text, Memory> {
-    let mut told = Text::new(alloc);
-    for _ in 0..4u64 {
-        tell_take(link, &mut told)?;
-    }
-    Ok(told)
-}
-
-/// What comes of four puts to a link.
-fn told_by_puts<L: Link>(alloc: Global, link: &mut L) -> Result<Text, Memory> {
-    let mut told = Text::new(alloc);
-    for bytes in [b"xyz".as_slice(), b"u", b"uv", b"w"] {
-        tell_put(link, bytes, &mut told)?;
-    }
-    Ok(told)
-}
-
 /// A link that gives three bytes at once and has room for four. Its second take and its second put fail.
 fn memory_link(alloc: Global) -> Result<MemoryLink, Memory> {
     let failing = FailingCalls {
@@ -51,33 +33,28 @@ fn memory_link(alloc: Global) -> Result<MemoryLink, Memory> {
     MemoryLink::new(alloc, Text::from_slice(alloc, b"abcde")?, 3, 4, failing)
 }
 
-#[test]
-fn a_link_gives_its_input_step_by_step(rt: HostRuntime) -> Result<(), Fail> {
-    let mut link = memory_link(rt.alloc())?;
-    let told = told_by_takes(rt.alloc(), &mut link)?;
-    assert_eq!(rt; told.as_slice(), b"abc|no take|de||".as_slice());
-    Ok(())
+/// What four takes from a link and four puts to it give, and what it keeps.
+fn told_by_link(alloc: Global, link: &mut MemoryLink) -> Result<Text, Memory> {
+    let mut told = Text::new(alloc);
+    for _ in 0..4u64 {
+        tell_take(link, &mut told)?;
+    }
+    for bytes in [b"xyz".as_slice(), b"u", b"uv", b"w"] {
+        tell_put(link, bytes, &mut told)?;
+    }
+    told.push_slice(link.bytes())?;
+    Ok(told)
 }
 
 /// The second put is listed, and for the third one there is no room.
 #[test]
-fn a_link_tells_of_puts_that_fail(rt: HostRuntime) -> Result<(), Fail> {
+fn a_link_gives_its_input_step_by_step_and_keeps_what_is_put(rt: HostRuntime) -> Result<(), Fail> {
     let mut link = memory_link(rt.alloc())?;
-    let told = told_by_puts(rt.alloc(), &mut link)?;
-    assert_eq!(rt; told.as_slice(), b"put|no put|no put|put|".as_slice());
-    Ok(())
-}
-
-/// What a link keeps of four puts.
-fn kept_of_puts(alloc: Global) -> Result<Text, Memory> {
-    let mut link = memory_link(alloc)?;
-    told_by_puts(alloc, &mut link)?;
-    Text::from_slice(alloc, link.bytes())
-}
-
-#[test]
-fn a_link_keeps_what_is_put(rt: HostRuntime) -> Result<(), Fail> {
-    assert_eq!(rt; kept_of_puts(rt.alloc())?.as_slice(), b"xyzw".as_slice());
+    let told = told_by_link(rt.alloc(), &mut link)?;
+    assert_eq!(rt;
+        told.as_slice(),
+        b"abc|no take|de||put|no put|no put|put|xyzw".as_slice()
+    );
     Ok(())
 }
 
@@ -97,13 +74,16 @@ fn waiting_link(alloc: Global, flag: Flag) -> Result<HeldLink, Memory> {
     Ok(link)
 }
 
-/// What a take from the second link, a put to the first one and two more takes give.
-fn told_by_two<L: Link>(alloc: Global, first: &mut L, second: &mut L) -> Result<Text, Memory> {
+/// What a take from the second link, a put to the first one and two more takes give; and what comes of a put for which the
+/// first one has no room, and what it keeps.
+fn told_by_two(alloc: Global, first: &mut HeldLink, second: &mut HeldLink) -> Result<Text, Memory> {
     let mut told = Text::new(alloc);
     tell_take(second, &mut told)?;
     tell_put(first, b"x", &mut told)?;
     tell_take(second, &mut told)?;
     tell_take(second, &mut told)?;
+    tell_put(first, b"12345678", &mut told)?;
+    told.push_slice(first.bytes())?;
     Ok(told)
 }
 
@@ -118,41 +98,22 @@ fn told_by_held_links(alloc: Global) -> Result<Text, Memory> {
 #[test]
 fn a_piece_waits_for_the_put_of_another_link(rt: HostRuntime) -> Result<(), Fail> {
     let told = told_by_held_links(rt.alloc())?;
-    assert_eq!(rt; told.as_slice(), b"ab|put|cde||".as_slice());
+    assert_eq!(rt; told.as_slice(), b"ab|put|cde||no put|x".as_slice());
     Ok(())
 }
 
-/// What comes of two puts to a link that has no room for the second one, and what it keeps.
-fn told_by_full_link(alloc: Global, link: &mut HeldLink) -> Result<Text, Memory> {
-    let mut told = Text::new(alloc);
-    tell_put(link, b"x", &mut told)?;
-    tell_put(link, b"12345678", &mut told)?;
-    told.push_slice(link.bytes())?;
-    Ok(told)
-}
-
-/// The same of a link with room for eight bytes.
-fn told_by_link_of_eight(alloc: Global) -> Result<Text, Memory> {
-    let mut link = HeldLink::new(alloc, 8)?;
-    told_by_full_link(alloc, &mut link)
-}
-
-#[test]
-fn a_held_link_has_room_for_so_many_bytes(rt: HostRuntime) -> Result<(), Fail> {
-    let told = told_by_link_of_eight(rt.alloc())?;
-    assert_eq!(rt; told.as_slice(), b"put|no put|x".as_slice());
-    Ok(())
-}
-
-/// What a take gives whose piece waits for a flag that nobody raises.
-fn told_by_waiting_take(alloc: Global) -> Result<Text, Memory> {
+/// What two takes give, of which the second waits for a flag that nobody raises.
+fn told_by_waiting_link(alloc: Global) -> Result<Text, Memory> {
     let mut link = waiting_link(alloc, Flag::new(alloc)?)?;
-    told_by_takes(alloc, &mut link)
+    let mut told = Text::new(alloc);
+    tell_take(&mut link, &mut told)?;
+    tell_take(&mut link, &mut told)?;
+    Ok(told)
 }
 
 #[test]
 fn a_piece_whose_flag_nobody_raises_fails(rt: HostRuntime) -> Result<(), Fail> {
-    let told = told_by_waiting_take(rt.alloc())?;
-    assert_eq!(rt; told.as_slice(), b"ab|no take|no take|no take|".as_slice());
+    let told = told_by_waiting_link(rt.alloc())?;
+    assert_eq!(rt; told.as_slice(), b"ab|no take|".as_slice());
     Ok(())
 }
