@@ -1,6 +1,7 @@
 //! Histories of three squares in a row, of classes 0, 1 and 2, by tables with barriers, worked out by hand.
 use face_merge::history;
 use std::alloc::Global;
+use std::process::Abort;
 use std::test::Fail;
 use tgap_model::{Base, BaseArc, List, Memory, MergeStep, Point, Rules, Transform};
 
@@ -40,13 +41,19 @@ fn arcs_of_squares(alloc: Global) -> Result<List<BaseArc>, Memory> {
     Ok(arcs)
 }
 
-/// The squares, by a table of compatibilities. All are equally important.
-fn squares(alloc: Global, compat: &[u32]) -> Result<Option<Base>, Memory> {
-    let rules = Rules {
+/// The rules of three equally important classes, by a table of compatibilities.
+fn rules_by(alloc: Global, compat: &[u32]) -> Result<Rules, Memory> {
+    let weights = Vec::from_slice(alloc, &[1, 1, 1])?;
+    let compat = Vec::from_slice(alloc, compat)?;
+    Ok(Rules {
         ratio: 0,
-        weights: List::from(Vec::from_slice(alloc, &[1, 1, 1])?),
-        compat: List::from(Vec::from_slice(alloc, compat)?),
-    };
+        weights: List::from(weights),
+        compat: List::from(compat),
+    })
+}
+
+/// The squares, by a table of compatibilities.
+fn squares(alloc: Global, compat: &[u32]) -> Result<Option<Base>, Memory> {
     let transform = Transform {
         sx: 1,
         sy: 1,
@@ -54,50 +61,66 @@ fn squares(alloc: Global, compat: &[u32]) -> Result<Option<Base>, Memory> {
         ty: 0,
     };
     let classes = List::from(Vec::from_slice(alloc, &[0, 1, 2])?);
-    Ok(Base::new(transform, rules, classes, arcs_of_squares(alloc)?))
+    let arcs = arcs_of_squares(alloc)?;
+    Ok(Base::new(transform, rules_by(alloc, compat)?, classes, arcs))
 }
 
-fn step(loser: u32, winner: u32, made: u32) -> MergeStep {
-    MergeStep {
-        loser,
-        winner,
-        made,
+/// The history of the squares, by a table of compatibilities.
+fn history_by(alloc: Global, compat: &[u32]) -> Result<List<MergeStep>, Memory> {
+    match squares(alloc, compat)? {
+        Some(base) => history(alloc, &base),
+        None => Err(Memory),
     }
+}
+
+/// The steps of these rows: the loser, the winner and the face that is made.
+fn steps_of(alloc: Global, rows: &[(u32, u32, u32)]) -> Result<List<MergeStep>, Memory> {
+    let mut steps = List::new(alloc);
+    for (loser, winner, made) in rows {
+        steps.push(MergeStep {
+            loser: *loser,
+            winner: *winner,
+            made: *made,
+        })?;
+    }
+    Ok(steps)
+}
+
+/// Compares the history of the squares by a table of compatibilities with the steps of these rows.
+fn assert_history(
+    rt: &impl Abort,
+    alloc: Global,
+    compat: &[u32],
+    rows: &[(u32, u32, u32)],
+) -> Result<(), Memory> {
+    let found = history_by(alloc, compat)?;
+    let expected = steps_of(alloc, rows)?;
+    assert_eq!(rt; found.as_slice(), expected.as_slice(), "by {compat:?}");
+    Ok(())
 }
 
 #[test]
 fn barriers_between_squares(rt: HostRuntime) -> Result<(), Fail> {
-    let alloc = rt.alloc();
-    for (compat, steps) in [
+    let cases: [([u32; 9], &[(u32, u32, u32)]); 8] = [
         // no barrier: 1 loses first, by its number, and 3 is less than the face of 1 and 2
-        (
-            [1, 1, 1, 1, 1, 1, 1, 1, 1],
-            vec![in alloc; step(1, 2, 4), step(3, 4, 5)]?,
-        ),
+        ([1, 1, 1, 1, 1, 1, 1, 1, 1], &[(1, 2, 4), (3, 4, 5)]),
         // no class suits another: the history ends at once
-        ([5, 0, 0, 0, 5, 0, 0, 0, 5], Vec::new(alloc)),
+        ([5, 0, 0, 0, 5, 0, 0, 0, 5], &[]),
         // 1 may go nowhere, so 2 loses, though its number is the greater
-        ([0, 0, 0, 1, 0, 0, 0, 0, 0], vec![in alloc; step(2, 1, 4)]?),
+        ([0, 0, 0, 1, 0, 0, 0, 0, 0], &[(2, 1, 4)]),
         // the same table across its diagonal: 1 goes to 2
-        ([0, 1, 0, 0, 0, 0, 0, 0, 0], vec![in alloc; step(1, 2, 4)]?),
+        ([0, 1, 0, 0, 0, 0, 0, 0, 0], &[(1, 2, 4)]),
         // 2 would go to 1 rather than to 3 by its number, but only 3 is permitted
-        ([0, 0, 0, 0, 0, 1, 0, 0, 0], vec![in alloc; step(2, 3, 4)]?),
+        ([0, 0, 0, 0, 0, 1, 0, 0, 0], &[(2, 3, 4)]),
         // 3 does not go to 2, but it goes to what 2 becomes
-        (
-            [0, 0, 0, 1, 0, 0, 1, 0, 0],
-            vec![in alloc; step(2, 1, 4), step(3, 4, 5)]?,
-        ),
+        ([0, 0, 0, 1, 0, 0, 1, 0, 0], &[(2, 1, 4), (3, 4, 5)]),
         // 3 would go to 2, but not to what 2 becomes
-        ([0, 0, 0, 1, 0, 0, 0, 1, 0], vec![in alloc; step(2, 1, 4)]?),
+        ([0, 0, 0, 1, 0, 0, 0, 1, 0], &[(2, 1, 4)]),
         // the new face goes to 3 by the class of its winner, and 3 goes nowhere
-        (
-            [0, 0, 1, 1, 0, 0, 0, 0, 0],
-            vec![in alloc; step(2, 1, 4), step(4, 3, 5)]?,
-        ),
-    ] {
-        let base = squares(alloc, &compat)?.ok_or("no map")?;
-        let found = history(alloc, &base)?;
-        assert_eq!(rt; found.as_slice(), steps.as_slice());
+        ([0, 0, 1, 1, 0, 0, 0, 0, 0], &[(2, 1, 4), (4, 3, 5)]),
+    ];
+    for (compat, rows) in cases {
+        assert_history(&rt, rt.alloc(), &compat, rows)?;
     }
     Ok(())
 }

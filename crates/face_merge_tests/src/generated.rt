@@ -120,10 +120,12 @@ fn classes(alloc: Global) -> Result<List<u32>, Memory> {
 /// steps a neighbour of the loser comes to have a permitted neighbour, or has none any more.
 fn rules(alloc: Global) -> Result<Rules, Memory> {
     let compat = [0, 1, 0, 1, 1, 0, 1, 0, 0, 0, 4, 1, 1, 0, 0, 0];
+    let weights = Vec::from_slice(alloc, &[1, 2, 3, 4])?;
+    let compat = Vec::from_slice(alloc, &compat)?;
     Ok(Rules {
         ratio: 16,
-        weights: List::from(Vec::from_slice(alloc, &[1, 2, 3, 4])?),
-        compat: List::from(Vec::from_slice(alloc, &compat)?),
+        weights: List::from(weights),
+        compat: List::from(compat),
     })
 }
 
@@ -135,5 +137,7 @@ pub fn generated(alloc: Global) -> Result<Option<Base>, Memory> {
         tx: 0,
         ty: 0,
     };
-    Ok(Base::new(transform, rules(alloc)?, classes(alloc)?, arcs(alloc)?))
+    let arcs = arcs(alloc)?;
+    let classes = classes(alloc)?;
+    Ok(Base::new(transform, rules(alloc)?, classes, arcs))
 }

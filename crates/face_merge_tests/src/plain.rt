@@ -58,6 +58,17 @@ fn neighbour(arc: &Sided, face: u32) -> u32 {
 }
 
 impl<'a> Plain<'a> {
+    /// The map before its first step.
+    fn of(alloc: Global, base: &'a Base) -> Result<Plain<'a>, Memory> {
+        let classes = Vec::from_slice(alloc, base.classes().as_slice())?;
+        let arcs = labelled(alloc, base)?;
+        Ok(Plain {
+            base,
+            classes,
+            arcs,
+        })
+    }
+
     fn class(&self, face: u32) -> u32 {
         number_at(&self.classes, (face as usize).wrapping_sub(1))
     }
@@ -190,6 +201,16 @@ impl<'a> Plain<'a> {
         self.arcs = arcs;
         Ok(())
     }
+
+    /// Makes the next step and puts it at the end of those before it. Whether there is one.
+    fn advance(&mut self, alloc: Global, steps: &mut List<MergeStep>) -> Result<bool, Memory> {
+        let Some(step) = self.next(alloc)? else {
+            return Ok(false);
+        };
+        self.take(alloc, &step)?;
+        steps.push(step)?;
+        Ok(true)
+    }
 }
 
 /// The one of two faces that loses first. Face 0 is none.
@@ -253,18 +274,12 @@ fn labelled(alloc: Global, base: &Base) -> Result<Vec<Sided>, Memory> {
 
 /// The merge history of a map.
 pub fn plain_history(alloc: Global, base: &Base) -> Result<List<MergeStep>, Memory> {
-    let mut map = Plain {
-        base,
-        classes: Vec::from_slice(alloc, base.classes().as_slice())?,
-        arcs: labelled(alloc, base)?,
-    };
+    let mut map = Plain::of(alloc, base)?;
     let mut steps = List::new(alloc);
     for _step in 0..base.classes().len() {
-        let Some(step) = map.next(alloc)? else {
-            return Ok(steps);
-        };
-        map.take(alloc, &step)?;
-        steps.push(step)?;
+        if !map.advance(alloc, &mut steps)? {
+            break;
+        }
     }
     Ok(steps)
 }

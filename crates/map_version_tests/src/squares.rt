@@ -25,25 +25,46 @@ pub fn column(alloc: Global, n: u32) -> Result<Vec<(i64, i64)>, Memory> {
     Ok(points)
 }
 
+/// The arcs round the squares, and the one between them through these points.
+fn arcs_of_squares(alloc: Global, between: &[(i64, i64)]) -> Result<List<BaseArc>, Memory> {
+    let mut arcs = List::new(alloc);
+    for (left, right, points) in [
+        (1, 0, [(10, 10), (0, 10), (0, 0), (10, 0)].as_slice()),
+        (2, 0, [(10, 0), (20, 0), (20, 10), (10, 10)].as_slice()),
+        (1, 2, between),
+    ] {
+        arcs.push(arc(alloc, left, right, points)?)?;
+    }
+    Ok(arcs)
+}
+
+/// The rules of two classes, in which all are equal.
+fn equal_rules(alloc: Global) -> Result<Rules, Memory> {
+    let weights = Vec::from_slice(alloc, &[1, 1])?;
+    let compat = Vec::from_slice(alloc, &[1, 1, 1, 1])?;
+    Ok(Rules {
+        ratio: 0,
+        weights: List::from(weights),
+        compat: List::from(compat),
+    })
+}
+
 /// Two squares side by side, with the arc between them through these points.
 pub fn squares(alloc: Global, between: &[(i64, i64)]) -> Result<Option<Base>, Memory> {
-    let mut arcs = List::new(alloc);
-    arcs.push(arc(alloc, 1, 0, &[(10, 10), (0, 10), (0, 0), (10, 0)])?)?;
-    arcs.push(arc(alloc, 2, 0, &[(10, 0), (20, 0), (20, 10), (10, 10)])?)?;
-    arcs.push(arc(alloc, 1, 2, between)?)?;
     let transform = Transform {
         sx: 1,
         sy: 1,
         tx: 0,
         ty: 0,
     };
-    let rules = Rules {
-        ratio: 0,
-        weights: List::from(vec![in alloc; 1u32, 1u32]?),
-        compat: List::from(vec![in alloc; 1u32, 1u32, 1u32, 1u32]?),
-    };
-    let classes = List::from(vec![in alloc; 0u32, 1u32]?);
-    Ok(Base::new(transform, rules, classes, arcs))
+    let classes = List::from(Vec::from_slice(alloc, &[0, 1])?);
+    let arcs = arcs_of_squares(alloc, between)?;
+    Ok(Base::new(transform, equal_rules(alloc)?, classes, arcs))
+}
+
+/// The map in a box, so that who holds it holds one part: the proof of its moves is short then.
+pub fn boxed(alloc: Global, base: Base) -> Result<Box<Base>, Memory> {
+    Ok(Box::new(alloc, base)?)
 }
 
 /// The points of an arc of a map; none where there is no such arc.

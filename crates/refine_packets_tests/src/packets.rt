@@ -3,7 +3,8 @@
 use crate::maps::{FOUR_SQUARES, built_map};
 use crate::numbers::numbers_of;
 use refine_packets::{PacketFail, packet};
-use std::alloc::Global;
+use std::alloc::{AllocError, Global};
+use std::process::Abort;
 use std::test::Fail;
 use std::thread::Threads;
 use tgap_model::Packet;
@@ -21,10 +22,9 @@ fn packet_of<R: Threads + Sync>(
     }
 }
 
-#[test]
-fn three_steps(rt: HostRuntime) -> Result<(), Fail> {
-    let alloc = rt.alloc();
-    let whole = packet_of(&rt, alloc, 3, 0).ok().ok_or("no packet")?;
+/// Compares the numbers of the packet from step 3 to step 0.
+fn assert_three_steps(rt: &impl Abort, alloc: Global, packet: &Packet) -> Result<(), AllocError> {
+    let numbers = numbers_of(alloc, packet)?;
     let expected = [
         3, 0, // from, to
         3, 5, 0, 6, 0, 7, 1, 1, // step 3
@@ -39,6 +39,14 @@ fn three_steps(rt: HostRuntime) -> Result<(), Fail> {
         7, 0, 1, 7, 1, 1, 0, //
         4, 1, 2, 2, 10, 0, 10, 10, // the edge that ended
     ];
-    assert_eq!(rt; numbers_of(alloc, &whole)?.as_slice(), expected.as_slice());
+    assert_eq!(rt; numbers.as_slice(), expected.as_slice());
     Ok(())
+}
+
+#[test]
+fn three_steps(rt: HostRuntime) -> Result<(), Fail> {
+    match packet_of(&rt, rt.alloc(), 3, 0) {
+        Ok(packet) => Ok(assert_three_steps(&rt, rt.alloc(), &packet)?),
+        Err(_) => Err(Fail::new("no packet")),
+    }
 }

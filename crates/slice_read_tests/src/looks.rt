@@ -9,6 +9,7 @@ use std::alloc::Global;
 use std::marker::Brand;
 use std::sync::ledger::{Blank, Ledger};
 use std::test::Fail;
+use std::thread::Threads;
 use tgap_build::Built;
 use tgap_model::{Base, Memory, Steps};
 
@@ -25,6 +26,17 @@ fn four_squares(alloc: Global) -> Result<Option<Base>, Memory> {
         (3, 1, [(0, 10), (10, 10)].as_slice()),
     ];
     map_of(alloc, &[0, 0, 0, 0], rows.as_slice())
+}
+
+/// What is built of the four squares.
+fn built_four_squares<R: Threads + Sync>(
+    rt: &R,
+    alloc: Global,
+) -> Result<Option<Box<Built>>, Memory> {
+    match four_squares(alloc)? {
+        Some(base) => built_map(rt, alloc, base),
+        None => Ok(None),
+    }
 }
 
 /// Whether the last slice has one edge and its step is below this number of leaves. Then it was read with one look at least
@@ -62,11 +74,19 @@ fn has_one_edge_from_zero<L: Ledger>(
     has_one_edge(alloc, built, levels, leaves, &mut steps)
 }
 
+/// What is built of a generated map of forty rows.
+fn built_forty_rows<R: Threads + Sync>(
+    rt: &R,
+    alloc: Global,
+) -> Result<Option<Box<Built>>, Memory> {
+    let base = grid_map(alloc, 40)?;
+    built_map(rt, alloc, base)
+}
+
 /// The map has 12 edges in all and 3 steps, for which a tree with 2 levels below its root is enough: one look to four.
 #[test]
 fn the_last_slice_of_four_squares(rt: HostRuntime) -> Result<(), Fail> {
-    let base = four_squares(rt.alloc())?.ok_or("no map")?;
-    let built = built_map(&rt, rt.alloc(), base)?.ok_or("no map")?;
+    let built = built_four_squares(&rt, rt.alloc())?.ok_or("no map")?;
     assert_eq!(rt; (built.forest().count(), built.steps()), (12, 3));
     let one = has_one_edge_from_zero::<Brand>(rt.alloc(), &built, 2, 4, Blank::new(1));
     assert!(rt; one.ok().ok_or("no slice")?);
@@ -76,8 +96,7 @@ fn the_last_slice_of_four_squares(rt: HostRuntime) -> Result<(), Fail> {
 /// The map has 1599 steps, for which it takes 11 levels below the root: one look to thirteen.
 #[test]
 fn the_last_slice_of_forty_rows(rt: HostRuntime) -> Result<(), Fail> {
-    let base = grid_map(rt.alloc(), 40)?;
-    let built = built_map(&rt, rt.alloc(), base)?.ok_or("no map")?;
+    let built = built_forty_rows(&rt, rt.alloc())?.ok_or("no map")?;
     assert_eq!(rt; built.steps(), 1599);
     let one = has_one_edge_from_zero::<Brand>(rt.alloc(), &built, 11, 2048, Blank::new(1));
     assert!(rt; one.ok().ok_or("no slice")?);

@@ -31,13 +31,19 @@ fn arcs_of(alloc: Global, rows: &[Row<'_>]) -> Result<List<BaseArc>, Memory> {
     Ok(arcs)
 }
 
+/// The rules of one class.
+fn rules_of_one_class(alloc: Global) -> Result<Rules, Memory> {
+    let weights = Vec::from_slice(alloc, &[1])?;
+    let compat = Vec::from_slice(alloc, &[1])?;
+    Ok(Rules {
+        ratio: 0,
+        weights: List::from(weights),
+        compat: List::from(compat),
+    })
+}
+
 /// The map of these arcs, with faces of these classes, of which there is one alone.
 pub fn map_of(alloc: Global, classes: &[u32], rows: &[Row<'_>]) -> Result<Option<Base>, Memory> {
-    let rules = Rules {
-        ratio: 0,
-        weights: List::from(Vec::from_slice(alloc, &[1])?),
-        compat: List::from(Vec::from_slice(alloc, &[1])?),
-    };
     let transform = Transform {
         sx: 1,
         sy: 1,
@@ -45,7 +51,8 @@ pub fn map_of(alloc: Global, classes: &[u32], rows: &[Row<'_>]) -> Result<Option
         ty: 0,
     };
     let classes = List::from(Vec::from_slice(alloc, classes)?);
-    Ok(Base::new(transform, rules, classes, arcs_of(alloc, rows)?))
+    let arcs = arcs_of(alloc, rows)?;
+    Ok(Base::new(transform, rules_of_one_class(alloc)?, classes, arcs))
 }
 
 /// The map, checked.
@@ -61,14 +68,14 @@ pub fn checked_map<R: Threads + Sync>(
     }
 }
 
-/// What is built of the map.
+/// What is built of the map. It stands in a box, so that who holds it holds one part: the proof of its moves is short then.
 pub fn built_map<R: Threads + Sync>(
     rt: &R,
     alloc: Global,
     base: Base,
-) -> Result<Option<Built>, Memory> {
-    let Some(checked) = checked_map(rt, alloc, base)? else {
-        return Ok(None);
-    };
-    Ok(Some(build(rt, alloc, checked)?))
+) -> Result<Option<Box<Built>>, Memory> {
+    match checked_map(rt, alloc, base)? {
+        Some(checked) => Ok(Some(Box::new(alloc, build(rt, alloc, checked)?)?)),
+        None => Ok(None),
+    }
 }

@@ -1,10 +1,10 @@
 //! Two squares side by side, 10 wide and 10 high, and what is built of them.
 
 use crate::maps::{Row, built_map, checked_map, map_of};
-use slice_read::{ReadFail, window_at};
 use std::alloc::Global;
 use std::thread::Threads;
-use tgap_model::{Base, Checked, Edge, Memory, Slice, Window};
+use tgap_build::Built;
+use tgap_model::{Base, Checked, Edge, Memory};
 
 const LEFT: [(i64, i64); 4] = [(10, 10), (0, 10), (0, 0), (10, 0)];
 
@@ -26,27 +26,24 @@ fn two_squares(alloc: Global) -> Result<Option<Base>, Memory> {
 pub fn checked_squares<R: Threads + Sync>(
     rt: &R,
     alloc: Global,
-) -> Result<Option<Checked>, Memory> {
+) -> Result<Option<Box<Checked>>, Memory> {
     let Some(base) = two_squares(alloc)? else {
         return Ok(None);
     };
-    checked_map(rt, alloc, base)
+    match checked_map(rt, alloc, base)? {
+        Some(checked) => Ok(Some(Box::new(alloc, checked)?)),
+        None => Ok(None),
+    }
 }
 
-/// The window of their slice at step 0 from 12 to 30 in x and from 2 to 4 in y.
-pub fn window_of_squares<R: Threads + Sync>(rt: &R, alloc: Global) -> Result<Slice, ReadFail> {
-    let area = Window {
-        x0: 12,
-        y0: 2,
-        x1: 30,
-        y1: 4,
-    };
-    let Some(base) = two_squares(alloc)? else {
-        return Err(ReadFail::Memory);
-    };
-    match built_map(rt, alloc, base) {
-        Ok(Some(built)) => window_at(alloc, &built, 0, area),
-        _ => Err(ReadFail::Memory),
+/// What is built of the squares.
+pub fn built_squares<R: Threads + Sync>(
+    rt: &R,
+    alloc: Global,
+) -> Result<Option<Box<Built>>, Memory> {
+    match two_squares(alloc)? {
+        Some(base) => built_map(rt, alloc, base),
+        None => Ok(None),
     }
 }
 
