@@ -85,13 +85,6 @@ fn a_put_that_fails(rt: HostRuntime) -> Result<(), Fail> {
 }
 
 #[test]
-fn a_sink_that_is_full(rt: HostRuntime) -> Result<(), Fail> {
-    let mut out = MemorySink::new(rt.alloc(), 5, List::new(rt.alloc()))?;
-    assert_eq!(rt; status_at(&rt, rt.alloc(), "borders map 1", &mut out)?, 6);
-    Ok(())
-}
-
-#[test]
 fn a_sink_that_never_fails(rt: HostRuntime) -> Result<(), Fail> {
     assert_eq!(rt;
         status_at(&rt, rt.alloc(), "borders none 1", &mut SureSink)?,

@@ -1,12 +1,10 @@
-//! Tests of the commands over files in memory: what each of them answers, faults of the outside, files that never fail, and
-//! real files and writers.
+//! Tests of the commands over files in memory: what each of them answers, loads and puts that fail, and files and sinks that
+//! never do. Over real files and a real output they are tested in tests/cli.
 #![tactic(auto)]
 
 #[cfg(test)]
 mod answers;
 #[cfg(test)]
 mod faults;
-#[cfg(test)]
-mod real;
 #[cfg(test)]
 mod worked;
