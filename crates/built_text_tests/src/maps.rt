@@ -42,6 +42,17 @@ fn arcs_of(alloc: Global, rows: &[Row]) -> Result<List<BaseArc>, Memory> {
     Ok(arcs)
 }
 
+/// The rules of one class.
+fn rules_of(alloc: Global, ratio: u32) -> Result<Rules, Memory> {
+    let weights = Vec::from_slice(alloc, &[1])?;
+    let compat = Vec::from_slice(alloc, &[1])?;
+    Ok(Rules {
+        ratio,
+        weights: List::from(weights),
+        compat: List::from(compat),
+    })
+}
+
 /// The map with these arcs, whose faces are all of class 0.
 fn base_of(
     alloc: Global,
@@ -49,11 +60,6 @@ fn base_of(
     classes: &[u32],
     rows: &[Row],
 ) -> Result<Option<Base>, Memory> {
-    let rules = Rules {
-        ratio,
-        weights: List::from(Vec::from_slice(alloc, &[1])?),
-        compat: List::from(Vec::from_slice(alloc, &[1])?),
-    };
     let transform = Transform {
         sx: 1,
         sy: 1,
@@ -61,7 +67,8 @@ fn base_of(
         ty: 0,
     };
     let classes = List::from(Vec::from_slice(alloc, classes)?);
-    Ok(Base::new(transform, rules, classes, arcs_of(alloc, rows)?))
+    let arcs = arcs_of(alloc, rows)?;
+    Ok(Base::new(transform, rules_of(alloc, ratio)?, classes, arcs))
 }
 
 /// The map, checked.
@@ -77,19 +84,20 @@ fn checked_map<R: Threads + Sync>(
     }
 }
 
-/// What is built of the map with these arcs.
+/// What is built of the map with these arcs. It stands in a box, so that who holds it holds one part: the proof of its moves is
+/// short then.
 pub fn built_map<R: Threads + Sync>(
     rt: &R,
     alloc: Global,
     ratio: u32,
     classes: &[u32],
     rows: &[Row],
-) -> Result<Option<Built>, Memory> {
+) -> Result<Option<Box<Built>>, Memory> {
     let Some(base) = base_of(alloc, ratio, classes, rows)? else {
         return Ok(None);
     };
-    let Some(checked) = checked_map(rt, alloc, base)? else {
-        return Ok(None);
-    };
-    Ok(Some(build(rt, alloc, checked)?))
+    match checked_map(rt, alloc, base)? {
+        Some(checked) => Ok(Some(Box::new(alloc, build(rt, alloc, checked)?)?)),
+        None => Ok(None),
+    }
 }
