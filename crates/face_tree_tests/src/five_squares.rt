@@ -1,6 +1,6 @@
 //! The tree of five squares in a row.
 
-ghost use Rattle.std.specs.Prelude.{◌≡◌, length, IfOk, IfSome};
+ghost use Rattle.std.specs.Prelude.{◌≡◌, length, IfOk};
 
 use face_merge::history;
 use face_tree::FaceTree;
@@ -50,13 +50,19 @@ fn arcs_of_squares(alloc: Global) -> Result<List<BaseArc>, Memory> {
     Ok(arcs)
 }
 
-/// The squares. Those of class 0 are twice as important as those of class 1.
-fn five_squares(alloc: Global) -> Result<Option<Base>, Memory> {
-    let rules = Rules {
+/// The rules of two classes, of which the first is twice as important as the second.
+fn rules(alloc: Global) -> Result<Rules, Memory> {
+    let weights = Vec::from_slice(alloc, &[2, 1])?;
+    let compat = Vec::from_slice(alloc, &[1, 1, 1, 1])?;
+    Ok(Rules {
         ratio: 0,
-        weights: List::from(Vec::from_slice(alloc, &[2, 1])?),
-        compat: List::from(Vec::from_slice(alloc, &[1, 1, 1, 1])?),
-    };
+        weights: List::from(weights),
+        compat: List::from(compat),
+    })
+}
+
+/// The squares.
+fn five_squares(alloc: Global) -> Result<Option<Base>, Memory> {
     let transform = Transform {
         sx: 1,
         sy: 1,
@@ -64,27 +70,37 @@ fn five_squares(alloc: Global) -> Result<Option<Base>, Memory> {
         ty: 0,
     };
     let classes = List::from(Vec::from_slice(alloc, &[0, 1, 0, 0, 1])?);
-    Ok(Base::new(transform, rules, classes, arcs_of_squares(alloc)?))
+    let arcs = arcs_of_squares(alloc)?;
+    Ok(Base::new(transform, rules(alloc)?, classes, arcs))
 }
 
-/// Their tree, if it has 5 faces of the base map and 4 steps: 2 into 1 is 6, 5 into 4 is 7, 3 into 6 is 8, 7 into 8 is 9.
-fn tree_of_squares(alloc: Global) -> Result<Option<FaceTree>, Memory>
-    ensures { IfOk result (λ found. IfSome found (λ tree. (tree.faces ≡ 5) × (length tree.steps ≡ 4))) }
+/// The tree of a map, if it has 5 faces of the map and 4 steps. It stands in a box, so that who holds it holds one part: the proof
+/// of its moves is short then.
+fn tree_of(alloc: Global, base: &Base) -> Result<Box<FaceTree>, Memory>
+    ensures { IfOk result (λ tree. (tree.value.faces ≡ 5) × (length tree.value.steps ≡ 4)) }
 {
-    let Some(base) = five_squares(alloc)? else {
-        return Ok(None);
-    };
-    let tree = FaceTree::of(alloc, &base, &history(alloc, &base)?)?;
+    let steps = history(alloc, base)?;
+    let tree = Box::new(alloc, FaceTree::of(alloc, base, &steps)?)?;
     if base.classes().len() == 5 && tree.steps() == 4 {
-        Ok(Some(tree))
+        Ok(tree)
     } else {
-        Ok(None)
+        Err(Memory)
+    }
+}
+
+/// The tree of the squares: 2 into 1 is 6, 5 into 4 is 7, 3 into 6 is 8, 7 into 8 is 9.
+fn tree_of_squares(alloc: Global) -> Result<Box<FaceTree>, Memory>
+    ensures { IfOk result (λ tree. (tree.value.faces ≡ 5) × (length tree.value.steps ≡ 4)) }
+{
+    match five_squares(alloc)? {
+        Some(base) => tree_of(alloc, &base),
+        None => Err(Memory),
     }
 }
 
 #[test]
 fn parents(rt: HostRuntime) -> Result<(), Fail> {
-    let tree = tree_of_squares(rt.alloc())?.ok_or("no tree")?;
+    let tree = tree_of_squares(rt.alloc())?;
     let parents = [6, 6, 8, 7, 7, 8, 9, 9];
     for face in 1..9 {
         assert_eq!(rt; tree.parent(face), Some(parents[face as usize - 1]));
@@ -95,7 +111,7 @@ fn parents(rt: HostRuntime) -> Result<(), Fail> {
 
 #[test]
 fn ranges(rt: HostRuntime) -> Result<(), Fail> {
-    let tree = tree_of_squares(rt.alloc())?.ok_or("no tree")?;
+    let tree = tree_of_squares(rt.alloc())?;
     let ranges = [
         (0, 1),
         (0, 1),
@@ -115,7 +131,7 @@ fn ranges(rt: HostRuntime) -> Result<(), Fail> {
 
 #[test]
 fn classes(rt: HostRuntime) -> Result<(), Fail> {
-    let tree = tree_of_squares(rt.alloc())?.ok_or("no tree")?;
+    let tree = tree_of_squares(rt.alloc())?;
     let classes = [0, 1, 0, 0, 1, 0, 0, 0, 0];
     for face in 1..10 {
         assert_eq!(rt; tree.class(face), classes[face as usize - 1]);
@@ -126,11 +142,9 @@ fn classes(rt: HostRuntime) -> Result<(), Fail> {
 #[test]
 fn labels(rt: HostRuntime) -> Result<(), Fail> {
     let alloc = rt.alloc();
-    let tree = tree_of_squares(alloc)?.ok_or("no tree")?;
-    assert_eq!(rt;
-        tree.labels_at(alloc, 2)?.as_slice(),
-        [0, 6, 6, 3, 7, 7].as_slice()
-    );
+    let tree = tree_of_squares(alloc)?;
+    let labels = tree.labels_at(alloc, 2)?;
+    assert_eq!(rt; labels.as_slice(), [0, 6, 6, 3, 7, 7].as_slice());
     let ancestors = [0, 8, 8, 8, 7, 7, 8, 7, 8];
     for face in 0..9 {
         assert_eq!(rt; tree.ancestor(face, 3), ancestors[face as usize]);
