@@ -1,6 +1,8 @@
 //! Rows of numbers, beside the lists that they have to be.
+
 use linked_row::Links;
 use std::alloc::Global;
+use std::process::Abort;
 use std::test::Fail;
 use tgap_model::Memory;
 
@@ -85,7 +87,7 @@ fn count_of(links: &Links) -> u32 {
 }
 
 /// A change of a row.
-#[derive(Drop)]
+#[derive(Clone, Copy)]
 enum Change {
     /// Below a node a number comes in.
     In(u32, u32),
@@ -94,10 +96,10 @@ enum Change {
 }
 
 /// Makes one change.
-fn apply(links: &mut Links, step: &Change) {
-    match step {
-        Change::In(upper, number) => put(links, *upper, *number),
-        Change::Out(number) => take_out(links, *number),
+fn apply(links: &mut Links, change: Change) {
+    match change {
+        Change::In(upper, number) => put(links, upper, number),
+        Change::Out(number) => take_out(links, number),
     }
 }
 
@@ -106,26 +108,41 @@ fn next_chance(chance: u32) -> u32 {
     chance.wrapping_mul(1_664_525).wrapping_add(1_013_904_223)
 }
 
+/// Compares a row with the list that it has to be: from the first number down, from the last one up, and by their count.
+fn assert_numbers(
+    rt: &impl Abort,
+    alloc: Global,
+    links: &Links,
+    expected: &[u32],
+) -> Result<(), Memory> {
+    let down = numbers_down(alloc, links)?;
+    assert_eq!(rt; down.as_slice(), expected);
+    let up = numbers_up(alloc, links)?;
+    let turned = reversed(alloc, expected)?;
+    assert_eq!(rt; up.as_slice(), turned.as_slice());
+    assert_eq!(rt; count_of(links) as usize, expected.len());
+    Ok(())
+}
+
+/// Compares what stands beside the end of a row without numbers.
+fn assert_end(rt: &impl Abort, links: &Links, end: u32) {
+    assert_eq!(rt; links.end(), end);
+    assert_eq!(rt; (below(links, end), above(links, end)), (end, end));
+    assert_eq!(rt; links.last_above(0), end);
+}
+
 #[test]
 fn an_empty_row_has_its_end_alone(rt: HostRuntime) -> Result<(), Fail> {
-    let alloc = rt.alloc();
     for count in [0, 1, 4, 1000] {
-        let links = Links::of(alloc, count)?;
-        assert_eq!(rt; links.end(), count);
-        assert_eq!(rt; below(&links, count), count);
-        assert_eq!(rt; above(&links, count), count);
-        assert_eq!(rt; count_of(&links), 0);
-        assert_eq!(rt; links.last_above(0), count);
-        assert!(rt; numbers_down(alloc, &links)?.is_empty());
-        assert!(rt; numbers_up(alloc, &links)?.is_empty());
+        let links = Links::of(rt.alloc(), count)?;
+        assert_end(&rt, &links, count);
+        assert_numbers(&rt, rt.alloc(), &links, &[])?;
     }
     Ok(())
 }
 
 #[test]
 fn numbers_come_in_and_go_out(rt: HostRuntime) -> Result<(), Fail> {
-    let alloc = rt.alloc();
-    let mut links = Links::of(alloc, 6)?;
     let steps: [(Change, &[u32]); 12] = [
         (Change::In(6, 3), &[3]),
         (Change::Out(3), &[]),
@@ -142,12 +159,10 @@ fn numbers_come_in_and_go_out(rt: HostRuntime) -> Result<(), Fail> {
         (Change::In(6, 5), &[5]),
         (Change::In(6, 2), &[2, 5]),
     ];
-    for (step, expected) in &steps {
-        apply(&mut links, step);
-        assert_eq!(rt; numbers_down(alloc, &links)?.as_slice(), *expected);
-        let turned = reversed(alloc, expected)?;
-        assert_eq!(rt; numbers_up(alloc, &links)?.as_slice(), turned.as_slice());
-        assert_eq!(rt; count_of(&links) as usize, expected.len());
+    let mut links = Links::of(rt.alloc(), 6)?;
+    for (change, expected) in steps {
+        apply(&mut links, change);
+        assert_numbers(&rt, rt.alloc(), &links, expected)?;
     }
     Ok(())
 }
@@ -168,33 +183,42 @@ fn a_number_that_left_keeps_what_stood_above_it(rt: HostRuntime) -> Result<(), F
     Ok(())
 }
 
+/// Takes a number out of a row and of the list of its numbers, or puts it into both where it is in neither, at a place by chance.
+fn change_both(
+    links: &mut Links,
+    plain: &mut Vec<u32>,
+    number: u32,
+    chance: u32,
+) -> Result<(), Memory> {
+    match plain.iter().position(|other| *other == number) {
+        Some(place) => {
+            take_out(links, number);
+            plain.remove(place);
+        }
+        None => {
+            let place = chance as usize % (plain.len() + 1);
+            let upper = if place == 0 {
+                links.end()
+            } else {
+                plain[place - 1]
+            };
+            put(links, upper, number);
+            plain.insert(place, number)?;
+        }
+    }
+    Ok(())
+}
+
 #[test]
 fn a_long_run_of_changes_leaves_what_a_plain_list_has(rt: HostRuntime) -> Result<(), Fail> {
-    let alloc = rt.alloc();
-    let count = 40u32;
-    let mut links = Links::of(alloc, count)?;
-    let mut plain: Vec<u32> = Vec::new(alloc);
+    let mut links = Links::of(rt.alloc(), 40)?;
+    let mut plain: Vec<u32> = Vec::new(rt.alloc());
     let mut chance = 1u32;
     for _ in 0..1000 {
-        chance = next_chance(chance);
-        let number = (chance >> 8) % count;
-        chance = next_chance(chance);
-        match plain.iter().position(|other| *other == number) {
-            Some(place) => {
-                take_out(&mut links, number);
-                plain.remove(place);
-            }
-            None => {
-                let place = (chance >> 8) as usize % (plain.len() + 1);
-                let upper = if place == 0 { count } else { plain[place - 1] };
-                put(&mut links, upper, number);
-                plain.insert(place, number)?;
-            }
-        }
-        assert_eq!(rt; numbers_down(alloc, &links)?.as_slice(), plain.as_slice());
-        let turned = reversed(alloc, &plain)?;
-        assert_eq!(rt; numbers_up(alloc, &links)?.as_slice(), turned.as_slice());
-        assert_eq!(rt; count_of(&links) as usize, plain.len());
+        let first = next_chance(chance);
+        chance = next_chance(first);
+        change_both(&mut links, &mut plain, (first >> 8) % 40, chance >> 8)?;
+        assert_numbers(&rt, rt.alloc(), &links, &plain)?;
     }
     Ok(())
 }
