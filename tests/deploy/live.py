@@ -79,11 +79,11 @@ def connections_to(port):
     return sum(row[2].endswith(f":{port:04X}") and row[3] == "01" for row in rows)
 
 
-def edited(connection):
-    """The answer to an edit. For a moment after the reply to an edit the front server still counts its editor, and tells
-    the next one to try again."""
+def patient(ask):
+    """The answer to who asks again where he is told to. The front server lets three texts at a time go to one address, and
+    all clients have one here; and for a moment after the reply to an edit it still counts its editor."""
     for _ in range(3):
-        answer = answer_of(connection, "POST", "/map/edit", OWN_BATCH, PASSWORD, close=False)
+        answer = ask()
         if answer.status != 503:
             break
         time.sleep(0.1)
@@ -98,9 +98,9 @@ def crowd(tests, program, front):
         connection, told = front.client(), []
         for _ in range(2):
             for path in ["/map/info", "/map/slice/0", "/map/packet/48/0", "/map/window/0/0/0/50000/50000"]:
-                told.append(timed(lambda path=path: answer_of(connection, "GET", path, close=False)))
+                told.append(timed(lambda path=path: patient(lambda: answer_of(connection, "GET", path, close=False))))
             with turn:
-                told.append(timed(lambda: edited(connection)))
+                told.append(timed(lambda: patient(lambda: answer_of(connection, "POST", "/map/edit", OWN_BATCH, PASSWORD, close=False))))
         # It stays while the others read, as a browser's would.
         return connection, told
 
