@@ -14,7 +14,7 @@ use tgap_model::{Edge, FaceRow, List, Memory, Or, Point, Slice, Text, Transform}
 use topo_write::{FlatRing, topo_of};
 
 /// An edge of a slice, with the points toward which it leaves its first and its last point in the base map.
-#[derive(Drop)]
+#[derive(Clone, Copy)]
 pub struct Line<'a> {
     pub key: u32,
     pub left: u32,
@@ -126,8 +126,8 @@ fn rows_of(alloc: Global, faces: &[u32]) -> Result<List<FaceRow>, Memory> {
 
 /// What is told of the slice with these edges and faces.
 pub fn told(alloc: Global, lines: &[Line], faces: &[u32]) -> Result<Text, Or<FlatRing>> {
-    let Edges { edges, ends } = edges_of(alloc, lines)?;
     let faces = rows_of(alloc, faces)?;
+    let Edges { edges, ends } = edges_of(alloc, lines)?;
     let slice = Slice {
         step: 0,
         faces,

@@ -222,7 +222,6 @@ fn flat_of(alloc: Global, lines: &[Line], faces: &[u32]) -> (u32, u32) {
 
 #[test]
 fn faces_that_are_no_polygons(rt: HostRuntime) -> Result<(), Fail> {
-    let alloc = rt.alloc();
     // The edges of face 2 lie on one another, and face 3, after it, has two rings, one of area 0.
     let lines = [
         ring(0, 3, 0, &WIDE),
@@ -248,12 +247,21 @@ fn faces_that_are_no_polygons(rt: HostRuntime) -> Result<(), Fail> {
             toward: [(99, 0), (99, 1)],
         },
     ];
-    assert_eq!(rt; flat_of(alloc, &lines, &[2, 3]), (2, 5));
-    assert_eq!(rt; flat_of(alloc, &lines, &[3]), (3, 8));
-    // The only rings of face 1 go round it clockwise.
+    assert_eq!(rt; flat_of(rt.alloc(), &lines, &[2, 3]), (2, 5));
+    assert_eq!(rt; flat_of(rt.alloc(), &lines, &[3]), (3, 8));
+    Ok(())
+}
+
+// The only rings of face 1 go round it clockwise.
+#[test]
+fn a_face_whose_rings_are_all_clockwise(rt: HostRuntime) -> Result<(), Fail> {
     let lines = [ring(2, 0, 1, &WIDE), ring(4, 0, 1, &BESIDE)];
-    assert_eq!(rt; flat_of(alloc, &lines, &[1]), (1, 2));
-    // A ring of area 0 is told before one that comes first.
+    assert_eq!(rt; flat_of(rt.alloc(), &lines, &[1]), (1, 2));
+    Ok(())
+}
+
+#[test]
+fn a_ring_of_area_0_is_told_before_one_that_comes_first(rt: HostRuntime) -> Result<(), Fail> {
     let lines = [
         ring(2, 0, 1, &WIDE),
         Line {
@@ -264,6 +272,6 @@ fn faces_that_are_no_polygons(rt: HostRuntime) -> Result<(), Fail> {
             toward: [(70, 0), (70, 1)],
         },
     ];
-    assert_eq!(rt; flat_of(alloc, &lines, &[1]), (1, 4));
+    assert_eq!(rt; flat_of(rt.alloc(), &lines, &[1]), (1, 4));
     Ok(())
 }
