@@ -3,6 +3,7 @@
 use crate::labelled::{segments_of, shown};
 use planar_sweep::Shown;
 use std::alloc::Global;
+use std::process::Abort;
 use std::test::Fail;
 use tgap_model::{LabelledSegment, Memory};
 
@@ -35,27 +36,46 @@ fn labelled(
     Ok(segments)
 }
 
+/// Compares what a sweep shows of the faces of squares, which are apart.
+fn assert_faces(
+    rt: &impl Abort,
+    alloc: Global,
+    corners: &[(i64, i64, i64)],
+    faces: &[(u32, u32)],
+    agree: bool,
+) -> Result<(), Memory> {
+    let segments = labelled(alloc, corners, faces)?;
+    let found = shown(alloc, &segments)?;
+    assert_eq!(rt; found, Some(Shown { apart: true, agree }));
+    Ok(())
+}
+
+/// The corners of squares, and their sides.
+type Corners = &'static [(i64, i64, i64)];
+
+const ONE: Corners = &[(0, 0, 9)];
+
+const INSIDE: Corners = &[(0, 0, 9), (3, 3, 3)];
+
+const BESIDE: Corners = &[(0, 0, 9), (20, 3, 3), (20, 8, 3)];
+
+/// Squares, the faces at the left and at the right of each one's border, and whether they agree.
+const FACES: &[(Corners, &[(u32, u32)], bool)] = &[
+    (&[], &[], true),
+    (ONE, &[(1, 0)], true),
+    (ONE, &[(1, 2)], false),
+    (ONE, &[(0, 1)], false),
+    (INSIDE, &[(1, 0), (2, 1)], true),
+    (INSIDE, &[(1, 0), (2, 0)], false),
+    (INSIDE, &[(1, 0), (1, 2)], false),
+    (BESIDE, &[(1, 0), (2, 0), (3, 0)], true),
+    (BESIDE, &[(1, 0), (2, 3), (3, 0)], false),
+];
+
 #[test]
 fn faces_agree_down_each_line_or_not(rt: HostRuntime) -> Result<(), Fail> {
-    let alloc = rt.alloc();
-    let one: &[(i64, i64, i64)] = &[(0, 0, 9)];
-    let inside: &[(i64, i64, i64)] = &[(0, 0, 9), (3, 3, 3)];
-    let beside: &[(i64, i64, i64)] = &[(0, 0, 9), (20, 3, 3), (20, 8, 3)];
-    let cases: [(&[(i64, i64, i64)], &[(u32, u32)], bool); 9] = [
-        (&[], &[], true),
-        (one, &[(1, 0)], true),
-        (one, &[(1, 2)], false),
-        (one, &[(0, 1)], false),
-        (inside, &[(1, 0), (2, 1)], true),
-        (inside, &[(1, 0), (2, 0)], false),
-        (inside, &[(1, 0), (1, 2)], false),
-        (beside, &[(1, 0), (2, 0), (3, 0)], true),
-        (beside, &[(1, 0), (2, 3), (3, 0)], false),
-    ];
-    for (corners, faces, agree) in cases {
-        let segments = labelled(alloc, corners, faces)?;
-        let found = shown(alloc, &segments)?;
-        assert_eq!(rt; found, Some(Shown { apart: true, agree }));
+    for (corners, faces, agree) in FACES {
+        assert_faces(&rt, rt.alloc(), corners, faces, *agree)?;
     }
     Ok(())
 }
