@@ -146,7 +146,7 @@ fn an_empty_row_has_its_end_alone(rt: HostRuntime) -> Result<(), Fail> {
 }
 
 /// Changes of a row for six numbers, and what it has after each.
-const STEPS: [(Change, &[u32]); 12] = [
+const STEPS: &[(Change, &[u32])] = &[
     (Change::In(6, 3), &[3]),
     (Change::Out(3), &[]),
     (Change::In(6, 3), &[3]),
@@ -167,7 +167,7 @@ const STEPS: [(Change, &[u32]); 12] = [
 fn numbers_come_in_and_go_out(rt: HostRuntime) -> Result<(), Fail> {
     let mut links = Links::of(rt.alloc(), 6)?;
     for (change, expected) in STEPS {
-        apply(&mut links, change);
+        apply(&mut links, *change);
         assert_numbers(&rt, rt.alloc(), &links, expected)?;
     }
     Ok(())

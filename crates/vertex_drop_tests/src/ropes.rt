@@ -7,6 +7,7 @@ ghost use Rattle.point_rope.specs.Held.{IsNearPoint};
 use crate::table::OneRope;
 use point_rope::RopeEdge;
 use std::alloc::Global;
+use std::process::Abort;
 use std::test::Fail;
 use tgap_model::{Edge, List, Memory, Point, Removal};
 
@@ -59,7 +60,8 @@ fn removed(
     loser_area: i128,
 ) -> Result<List<Removal>, Memory> {
     let edge = saw_edge(alloc, count, flat)?;
-    let table = OneRope::new(RopeEdge::of(alloc, edge)?);
+    // In a box it is one part of what is held here, so that the proof of its moves is short.
+    let table = Box::new(alloc, OneRope::new(RopeEdge::of(alloc, edge)?))?;
     table.swept(alloc, 9, loser_area, 1, 5)
 }
 
@@ -78,31 +80,41 @@ fn tips(alloc: Global, flat: &[u16]) -> Result<Vec<Removal>, Memory> {
     Ok(removals)
 }
 
+/// Compares what is removed of a saw with so many points, some of whose teeth are flat.
+fn assert_removed(
+    rt: &impl Abort,
+    alloc: Global,
+    count: u16,
+    flat: &[u16],
+    loser_area: i128,
+    gone: &[u16],
+) -> Result<(), Memory> {
+    let removals = removed(alloc, count, flat, loser_area)?;
+    let expected = tips(alloc, gone)?;
+    assert_eq!(rt;
+        removals.as_slice(),
+        expected.as_slice(),
+        "at {count} {loser_area}"
+    );
+    Ok(())
+}
+
+/// How many points a saw has, which of its teeth are flat, the area of the loser, and which points go. The triangle of a flat tooth
+/// has twice the area 2, that of one beside it 11, and any other one 20.
+const SAWS: &[(u16, &[u16], i128, &[u16])] = &[
+    (1600, &[255, 512, 1201], 2, &[255, 512, 1201]),
+    (1600, &[255, 512, 1201], 1, &[]),
+    (1600, &[], 19, &[]),
+    (1600, &[1, 1598], 10, &[1, 1598]),
+    (1600, &[0, 1599], 10, &[]),
+    (64, &[63], 10, &[]),
+    (65, &[63], 10, &[63]),
+];
+
 #[test]
 fn flat_teeth_of_a_long_saw(rt: HostRuntime) -> Result<(), Fail> {
-    let alloc = rt.alloc();
-    // The triangle of a flat tooth has twice the area 2, that of one beside it 11, and any other one 20.
-    for (count, flat, loser_area, gone) in [
-        (
-            1600,
-            [255, 512, 1201].as_slice(),
-            2,
-            [255, 512, 1201].as_slice(),
-        ),
-        (1600, [255, 512, 1201].as_slice(), 1, [].as_slice()),
-        (1600, [].as_slice(), 19, [].as_slice()),
-        (1600, [1, 1598].as_slice(), 10, [1, 1598].as_slice()),
-        (1600, [0, 1599].as_slice(), 10, [].as_slice()),
-        (64, [63].as_slice(), 10, [].as_slice()),
-        (65, [63].as_slice(), 10, [63].as_slice()),
-    ] {
-        let removals = removed(alloc, count, flat, loser_area)?;
-        let expected = tips(alloc, gone)?;
-        assert_eq!(rt;
-            removals.as_slice(),
-            expected.as_slice(),
-            "at {count} {loser_area}"
-        );
+    for (count, flat, loser_area, gone) in SAWS {
+        assert_removed(&rt, rt.alloc(), *count, flat, *loser_area, gone)?;
     }
     Ok(())
 }

@@ -64,72 +64,72 @@ fn live_of(alloc: Global, first: Edge, second: Edge) -> Result<Live, Memory>
     Live::of(alloc, &edges)
 }
 
-/// What step 5 removes of two edges, of which the first has face `left` at its left and the second face 2. The step
-/// makes face 9.
-fn removed(
-    alloc: Global,
-    left: u32,
-    first: &[(u8, u8)],
-    second: &[(u8, u8)],
-    ratio: u32,
-    loser_area: i128,
-) -> Result<List<Removal>, Memory> {
-    let one = edge_of(alloc, 0, left, first)?;
-    let other = edge_of(alloc, 1, 2, second)?;
-    let live = live_of(alloc, one, other)?;
+/// Two edges and a step that may sweep them: the face at the left of the first edge, its points, those of the second edge, which has
+/// face 2 at its left, the ratio, and the area of the loser. The step makes face 9.
+type Case = (u32, &'static [(u8, u8)], &'static [(u8, u8)], u32, i128);
+
+/// The two edges, live. They stand in a box, so that who holds them holds one part: the proof of its moves is short then.
+fn live_edges(alloc: Global, case: Case) -> Result<Box<Live>, Memory> {
+    let (left, first, second, _, _) = case;
+    let first = edge_of(alloc, 0, left, first)?;
+    let second = edge_of(alloc, 1, 2, second)?;
+    Ok(Box::new(alloc, live_of(alloc, first, second)?)?)
+}
+
+/// What step 5 removes of the edges.
+fn removed(alloc: Global, case: Case) -> Result<List<Removal>, Memory> {
+    let (_, _, _, ratio, loser_area) = case;
+    let live = live_edges(alloc, case)?;
     sweep(alloc, &live, 9, loser_area, ratio, 5)
 }
 
 /// The same, by the keys of the edges with a small corner.
-fn removed_by_keys(
-    alloc: Global,
-    left: u32,
-    first: &[(u8, u8)],
-    second: &[(u8, u8)],
-    ratio: u32,
-    loser_area: i128,
-) -> Result<List<Removal>, Memory> {
-    let one = edge_of(alloc, 0, left, first)?;
-    let other = edge_of(alloc, 1, 2, second)?;
-    let live = live_of(alloc, one, other)?;
+fn removed_by_keys(alloc: Global, case: Case) -> Result<List<Removal>, Memory> {
+    let (_, _, _, ratio, loser_area) = case;
+    let live = live_edges(alloc, case)?;
     swept_by_keys(alloc, &live, 9, loser_area, ratio, 5)
 }
 
+/// How many points the step removes, and whether it removes the same ones by the keys.
+fn count_removed(alloc: Global, case: Case) -> Result<(usize, bool), Memory> {
+    let removals = removed(alloc, case)?;
+    let by_keys = removed_by_keys(alloc, case)?;
+    let same = by_keys.as_slice() == removals.as_slice();
+    Ok((removals.len(), same))
+}
+
+/// Edges and steps, and how many points each step removes.
+const CASES: &[(Case, usize)] = &[
+    // The triangle has twice the area 100.
+    ((9, &SPIKE, &FAR_RING, 1, 100), 1),
+    ((9, &SPIKE, &FAR_RING, 1, 99), 0),
+    ((9, &SPIKE, &FAR_RING, 2, 200), 1),
+    ((9, &SPIKE, &FAR_RING, 2, 199), 0),
+    // A ring in the triangle keeps the vertex.
+    ((9, &SPIKE, &RING, 1, 100), 0),
+    // The edge does not border the new face.
+    ((8, &SPIKE, &FAR_RING, 1, 100), 0),
+    // Points on one line go whatever the area is, but with ratio 0 nothing goes.
+    ((9, &STRAIGHT, &FAR_RING, 1, 0), 2),
+    ((9, &STRAIGHT, &FAR_RING, 0, 1000), 0),
+    // A ring of three points stays, unless they are on one line.
+    ((9, &RING, &FAR_RING, 1, 1000), 0),
+    ((9, &FLAT_RING, &FAR_RING, 1, 0), 2),
+];
+
 #[test]
 fn vertices_of_one_edge(rt: HostRuntime) -> Result<(), Fail> {
-    let alloc = rt.alloc();
-    for (left, first, second, ratio, loser_area, count) in [
-        // The triangle has twice the area 100.
-        (9, SPIKE.as_slice(), FAR_RING.as_slice(), 1, 100, 1),
-        (9, SPIKE.as_slice(), FAR_RING.as_slice(), 1, 99, 0),
-        (9, SPIKE.as_slice(), FAR_RING.as_slice(), 2, 200, 1),
-        (9, SPIKE.as_slice(), FAR_RING.as_slice(), 2, 199, 0),
-        // A ring in the triangle keeps the vertex.
-        (9, SPIKE.as_slice(), RING.as_slice(), 1, 100, 0),
-        // The edge does not border the new face.
-        (8, SPIKE.as_slice(), FAR_RING.as_slice(), 1, 100, 0),
-        // Points on one line go whatever the area is, but with ratio 0 nothing goes.
-        (9, STRAIGHT.as_slice(), FAR_RING.as_slice(), 1, 0, 2),
-        (9, STRAIGHT.as_slice(), FAR_RING.as_slice(), 0, 1000, 0),
-        // A ring of three points stays, unless they are on one line.
-        (9, RING.as_slice(), FAR_RING.as_slice(), 1, 1000, 0),
-        (9, FLAT_RING.as_slice(), FAR_RING.as_slice(), 1, 0, 2),
-    ] {
-        let removals = removed(alloc, left, first, second, ratio, loser_area)?;
-        assert_eq!(rt; removals.len(), count, "at {left} {ratio} {loser_area}");
-        let by_keys = removed_by_keys(alloc, left, first, second, ratio, loser_area)?;
-        assert_eq!(rt;
-            by_keys.as_slice(),
-            removals.as_slice(),
-            "at {left} {ratio} {loser_area}"
-        );
+    for (case, count) in CASES {
+        let (left, _, _, ratio, loser_area) = *case;
+        let found = count_removed(rt.alloc(), *case)?;
+        assert_eq!(rt; found, (*count, true), "at {left} {ratio} {loser_area}");
     }
     Ok(())
 }
 
 #[test]
 fn points_on_one_line(rt: HostRuntime) -> Result<(), Fail> {
-    let removals = removed(rt.alloc(), 9, &STRAIGHT, &FAR_RING, 1, 0)?;
+    let removals = removed(rt.alloc(), (9, &STRAIGHT, &FAR_RING, 1, 0))?;
     let expected = [
         Removal {
             point: Point { x: 5, y: 20 },
