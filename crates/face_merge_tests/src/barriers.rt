@@ -99,28 +99,30 @@ fn assert_history(
     Ok(())
 }
 
+/// Tables of compatibilities, and the steps that each makes: the loser, the winner and the face that is made.
+const HISTORIES: &[([u32; 9], &[(u32, u32, u32)])] = &[
+    // no barrier: 1 loses first, by its number, and 3 is less than the face of 1 and 2
+    ([1, 1, 1, 1, 1, 1, 1, 1, 1], &[(1, 2, 4), (3, 4, 5)]),
+    // no class suits another: the history ends at once
+    ([5, 0, 0, 0, 5, 0, 0, 0, 5], &[]),
+    // 1 may go nowhere, so 2 loses, though its number is the greater
+    ([0, 0, 0, 1, 0, 0, 0, 0, 0], &[(2, 1, 4)]),
+    // the same table across its diagonal: 1 goes to 2
+    ([0, 1, 0, 0, 0, 0, 0, 0, 0], &[(1, 2, 4)]),
+    // 2 would go to 1 rather than to 3 by its number, but only 3 is permitted
+    ([0, 0, 0, 0, 0, 1, 0, 0, 0], &[(2, 3, 4)]),
+    // 3 does not go to 2, but it goes to what 2 becomes
+    ([0, 0, 0, 1, 0, 0, 1, 0, 0], &[(2, 1, 4), (3, 4, 5)]),
+    // 3 would go to 2, but not to what 2 becomes
+    ([0, 0, 0, 1, 0, 0, 0, 1, 0], &[(2, 1, 4)]),
+    // the new face goes to 3 by the class of its winner, and 3 goes nowhere
+    ([0, 0, 1, 1, 0, 0, 0, 0, 0], &[(2, 1, 4), (4, 3, 5)]),
+];
+
 #[test]
 fn barriers_between_squares(rt: HostRuntime) -> Result<(), Fail> {
-    let cases: [([u32; 9], &[(u32, u32, u32)]); 8] = [
-        // no barrier: 1 loses first, by its number, and 3 is less than the face of 1 and 2
-        ([1, 1, 1, 1, 1, 1, 1, 1, 1], &[(1, 2, 4), (3, 4, 5)]),
-        // no class suits another: the history ends at once
-        ([5, 0, 0, 0, 5, 0, 0, 0, 5], &[]),
-        // 1 may go nowhere, so 2 loses, though its number is the greater
-        ([0, 0, 0, 1, 0, 0, 0, 0, 0], &[(2, 1, 4)]),
-        // the same table across its diagonal: 1 goes to 2
-        ([0, 1, 0, 0, 0, 0, 0, 0, 0], &[(1, 2, 4)]),
-        // 2 would go to 1 rather than to 3 by its number, but only 3 is permitted
-        ([0, 0, 0, 0, 0, 1, 0, 0, 0], &[(2, 3, 4)]),
-        // 3 does not go to 2, but it goes to what 2 becomes
-        ([0, 0, 0, 1, 0, 0, 1, 0, 0], &[(2, 1, 4), (3, 4, 5)]),
-        // 3 would go to 2, but not to what 2 becomes
-        ([0, 0, 0, 1, 0, 0, 0, 1, 0], &[(2, 1, 4)]),
-        // the new face goes to 3 by the class of its winner, and 3 goes nowhere
-        ([0, 0, 1, 1, 0, 0, 0, 0, 0], &[(2, 1, 4), (4, 3, 5)]),
-    ];
-    for (compat, rows) in cases {
-        assert_history(&rt, rt.alloc(), &compat, rows)?;
+    for (compat, rows) in HISTORIES {
+        assert_history(&rt, rt.alloc(), compat, rows)?;
     }
     Ok(())
 }

@@ -124,47 +124,64 @@ fn assert_numbers(
     Ok(())
 }
 
-/// Compares what stands beside the end of a row without numbers.
-fn assert_end(rt: &impl Abort, links: &Links, end: u32) {
-    assert_eq!(rt; links.end(), end);
-    assert_eq!(rt; (below(links, end), above(links, end)), (end, end));
-    assert_eq!(rt; links.last_above(0), end);
+/// The end of a row, what stands below it and above it, and what stood above the number 0.
+fn ends_of(links: &Links) -> [u32; 4] {
+    let end = links.end();
+    [
+        end,
+        below(links, end),
+        above(links, end),
+        links.last_above(0),
+    ]
 }
 
 #[test]
 fn an_empty_row_has_its_end_alone(rt: HostRuntime) -> Result<(), Fail> {
     for count in [0, 1, 4, 1000] {
         let links = Links::of(rt.alloc(), count)?;
-        assert_end(&rt, &links, count);
+        assert_eq!(rt; ends_of(&links), [count; 4]);
         assert_numbers(&rt, rt.alloc(), &links, &[])?;
     }
     Ok(())
 }
 
+/// Changes of a row for six numbers, and what it has after each.
+const STEPS: &[(Change, &[u32])] = &[
+    (Change::In(6, 3), &[3]),
+    (Change::Out(3), &[]),
+    (Change::In(6, 3), &[3]),
+    // first, last and in the middle
+    (Change::In(6, 0), &[0, 3]),
+    (Change::In(3, 5), &[0, 3, 5]),
+    (Change::In(0, 2), &[0, 2, 3, 5]),
+    // of the middle, the first, the last and the only one
+    (Change::Out(2), &[0, 3, 5]),
+    (Change::Out(0), &[3, 5]),
+    (Change::Out(5), &[3]),
+    (Change::Out(3), &[]),
+    (Change::In(6, 5), &[5]),
+    (Change::In(6, 2), &[2, 5]),
+];
+
 #[test]
 fn numbers_come_in_and_go_out(rt: HostRuntime) -> Result<(), Fail> {
-    let steps: [(Change, &[u32]); 12] = [
-        (Change::In(6, 3), &[3]),
-        (Change::Out(3), &[]),
-        (Change::In(6, 3), &[3]),
-        // first, last and in the middle
-        (Change::In(6, 0), &[0, 3]),
-        (Change::In(3, 5), &[0, 3, 5]),
-        (Change::In(0, 2), &[0, 2, 3, 5]),
-        // of the middle, the first, the last and the only one
-        (Change::Out(2), &[0, 3, 5]),
-        (Change::Out(0), &[3, 5]),
-        (Change::Out(5), &[3]),
-        (Change::Out(3), &[]),
-        (Change::In(6, 5), &[5]),
-        (Change::In(6, 2), &[2, 5]),
-    ];
     let mut links = Links::of(rt.alloc(), 6)?;
-    for (change, expected) in steps {
-        apply(&mut links, change);
+    for (change, expected) in STEPS {
+        apply(&mut links, *change);
         assert_numbers(&rt, rt.alloc(), &links, expected)?;
     }
     Ok(())
+}
+
+/// What stood above the numbers 0, 1 and 2; 0 for one that the row cannot have.
+fn hints_of(links: &Links) -> [u32; 3] {
+    let mut hints = [0; 3];
+    for number in 0..3 {
+        if number <= links.end() {
+            hints[number as usize] = links.last_above(number);
+        }
+    }
+    hints
 }
 
 #[test]
@@ -174,12 +191,7 @@ fn a_number_that_left_keeps_what_stood_above_it(rt: HostRuntime) -> Result<(), F
     put(&mut links, 2, 1);
     take_out(&mut links, 1);
     take_out(&mut links, 2);
-    let hints: [(u32, u32); 3] = [(0, 4), (1, 2), (2, 4)];
-    for (number, hint) in hints {
-        if number <= links.end() {
-            assert_eq!(rt; links.last_above(number), hint, "at {number}");
-        }
-    }
+    assert_eq!(rt; hints_of(&links), [4, 2, 4]);
     Ok(())
 }
 

@@ -131,22 +131,24 @@ fn a_map_keeps_the_arcs_that_a_later_batch_changes(rt: HostRuntime) -> Result<()
     Ok(assert_both_kept(&rt, rt.alloc(), &first)?)
 }
 
-/// Compares the first fault of each of these batches.
+/// Batches, and the line and the cause of the first fault of each.
+const FAULTS: &[(&[u8], (u32, u8))] = &[
+    (b"", (0, 0)),
+    (b"move 5 5 6 6\n", (1, 3)),
+    (b"move 20 10 24 10", (1, 1)),
+    (b"class 1 1\nclass 3 0\n", (2, 2)),
+    (b"move 20 10 0 0\n", (1, 4)),
+    (b"add 0 0 20 0 5 5\n", (1, 5)),
+    (b"drop 10 0\n", (1, 6)),
+    (b"class 1 -0\n", (1, 1)),
+    (b"move 20 10 2147483649 10\n", (1, 1)),
+    (b"drop 0 0\ndrop 0 0\n", (2, 3)),
+];
+
+/// Compares the first fault of each batch.
 fn assert_faults(rt: &impl Abort, alloc: Global, base: &Base) -> Result<(), Memory> {
-    let cases: [(&[u8], (u32, u8)); 10] = [
-        (b"", (0, 0)),
-        (b"move 5 5 6 6\n", (1, 3)),
-        (b"move 20 10 24 10", (1, 1)),
-        (b"class 1 1\nclass 3 0\n", (2, 2)),
-        (b"move 20 10 0 0\n", (1, 4)),
-        (b"add 0 0 20 0 5 5\n", (1, 5)),
-        (b"drop 10 0\n", (1, 6)),
-        (b"class 1 -0\n", (1, 1)),
-        (b"move 20 10 2147483649 10\n", (1, 1)),
-        (b"drop 0 0\ndrop 0 0\n", (2, 3)),
-    ];
-    for (batch, fault) in cases {
-        assert_eq!(rt; fault_of(alloc, base, batch)?, fault);
+    for (batch, fault) in FAULTS {
+        assert_eq!(rt; fault_of(alloc, base, batch)?, *fault);
     }
     Ok(())
 }

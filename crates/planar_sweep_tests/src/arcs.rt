@@ -13,7 +13,7 @@ const M: i64 = MAX_COORDINATE;
 type Rows = &'static [(u32, i64, i64)];
 
 /// Arcs that meet only at their ends, by name.
-const APART: [(&str, Rows); 19] = [
+const APART: &[(&str, Rows)] = &[
     ("none", &[]),
     ("one", &[(0, 0, 0), (0, 3, 4)]),
     (
@@ -170,7 +170,7 @@ const APART: [(&str, Rows); 19] = [
 ];
 
 /// Arcs that meet elsewhere, by name.
-const MEETING: [(&str, Rows); 18] = [
+const MEETING: &[(&str, Rows)] = &[
     (
         "two that cross",
         &[(0, 0, 0), (0, 10, 10), (1, 0, 10), (1, 10, 0)],
@@ -305,7 +305,7 @@ fn turned_segments_of(
 }
 
 /// Arcs by name, and whether they are apart.
-const TURNED: [(&str, Rows, bool); 5] = [
+const TURNED: &[(&str, Rows, bool)] = &[
     ("two segments", &[(0, 0, 0), (0, 5, 5), (0, 10, 0)], true),
     (
         "a ring",
@@ -353,7 +353,7 @@ fn assert_turned(
 #[test]
 fn the_order_of_the_list_does_not_tell(rt: HostRuntime) -> Result<(), Fail> {
     for (name, rows, expected) in TURNED {
-        assert_turned(&rt, rt.alloc(), name, rows, expected)?;
+        assert_turned(&rt, rt.alloc(), name, rows, *expected)?;
     }
     Ok(())
 }

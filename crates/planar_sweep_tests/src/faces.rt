@@ -60,7 +60,7 @@ const INSIDE: Corners = &[(0, 0, 9), (3, 3, 3)];
 const BESIDE: Corners = &[(0, 0, 9), (20, 3, 3), (20, 8, 3)];
 
 /// Squares, the faces at the left and at the right of each one's border, and whether they agree.
-const FACES: [(Corners, &[(u32, u32)], bool); 9] = [
+const FACES: &[(Corners, &[(u32, u32)], bool)] = &[
     (&[], &[], true),
     (ONE, &[(1, 0)], true),
     (ONE, &[(1, 2)], false),
@@ -75,7 +75,7 @@ const FACES: [(Corners, &[(u32, u32)], bool); 9] = [
 #[test]
 fn faces_agree_down_each_line_or_not(rt: HostRuntime) -> Result<(), Fail> {
     for (corners, faces, agree) in FACES {
-        assert_faces(&rt, rt.alloc(), corners, faces, agree)?;
+        assert_faces(&rt, rt.alloc(), corners, faces, *agree)?;
     }
     Ok(())
 }

@@ -99,20 +99,22 @@ fn assert_removed(
     Ok(())
 }
 
+/// How many points a saw has, which of its teeth are flat, the area of the loser, and which points go. The triangle of a flat tooth
+/// has twice the area 2, that of one beside it 11, and any other one 20.
+const SAWS: &[(u16, &[u16], i128, &[u16])] = &[
+    (1600, &[255, 512, 1201], 2, &[255, 512, 1201]),
+    (1600, &[255, 512, 1201], 1, &[]),
+    (1600, &[], 19, &[]),
+    (1600, &[1, 1598], 10, &[1, 1598]),
+    (1600, &[0, 1599], 10, &[]),
+    (64, &[63], 10, &[]),
+    (65, &[63], 10, &[63]),
+];
+
 #[test]
 fn flat_teeth_of_a_long_saw(rt: HostRuntime) -> Result<(), Fail> {
-    // The triangle of a flat tooth has twice the area 2, that of one beside it 11, and any other one 20.
-    let cases: [(u16, &[u16], i128, &[u16]); 7] = [
-        (1600, &[255, 512, 1201], 2, &[255, 512, 1201]),
-        (1600, &[255, 512, 1201], 1, &[]),
-        (1600, &[], 19, &[]),
-        (1600, &[1, 1598], 10, &[1, 1598]),
-        (1600, &[0, 1599], 10, &[]),
-        (64, &[63], 10, &[]),
-        (65, &[63], 10, &[63]),
-    ];
-    for (count, flat, loser_area, gone) in cases {
-        assert_removed(&rt, rt.alloc(), count, flat, loser_area, gone)?;
+    for (count, flat, loser_area, gone) in SAWS {
+        assert_removed(&rt, rt.alloc(), *count, flat, *loser_area, gone)?;
     }
     Ok(())
 }
