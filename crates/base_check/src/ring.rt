@@ -9,7 +9,7 @@ use tgap_model::{MapFault, Point};
 /// Two spokes of a node, the second next to the first counter-clockwise, of which the first one's left face is not the
 /// second one's right face. The spokes are numbered counter-clockwise from 0, the first the one least turned from the
 /// direction of positive x.
-#[derive(Clone, Copy, Debug, PartialEq, Eq)]
+#[derive(Clone, Copy, PartialEq, Eq)]
 pub struct NodeGap {
     pub node: Point,
     pub spoke: u32,

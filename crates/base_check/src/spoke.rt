@@ -6,7 +6,7 @@ ghost use Rattle.tgap_model.specs.Base.{in_limits};
 use tgap_model::Point;
 
 /// An arc's way out of a node: the point toward which it first goes, and the faces at its left and right on that way.
-#[derive(Clone, Copy, Debug)]
+#[derive(Clone, Copy)]
 pub struct NodeSpoke {
     pub node: Point,
     pub toward: Point,

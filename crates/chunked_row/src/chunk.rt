@@ -12,7 +12,7 @@ use tgap_model::Memory;
 pub const FULL: usize = 1024;
 
 /// Some numbers in a row. Contracts see the list of the numbers.
-#[derive(Debug, Drop)]
+#[derive(Drop)]
 pub struct Chunk {
     numbers: Vec<u32>,
 }

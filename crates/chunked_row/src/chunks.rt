@@ -13,7 +13,7 @@ use tgap_model::Memory;
 
 /// Some chunks. Contracts see the list of the chunks. The starts lie side by side in memory: a place is searched among
 /// them, and where a number comes or goes, those behind it are moved in about the time in which it is moved in its chunk.
-#[derive(Debug, Drop)]
+#[derive(Drop)]
 pub struct Chunks {
     chunks: Vec<Chunk>,
     starts: Vec<usize>,

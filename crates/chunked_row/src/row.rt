@@ -11,7 +11,7 @@ use std::marker::Model;
 use tgap_model::Memory;
 
 /// A row of numbers. Contracts see the list of the numbers.
-#[derive(Debug, Drop)]
+#[derive(Drop)]
 pub struct Row {
     alloc: Global,
     chunks: Chunks,

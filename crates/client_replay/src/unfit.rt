@@ -11,7 +11,7 @@
 ///    when its puts are made; no piece has another side than the loser or the winner.
 /// 6. The ended edges stand by ascending key, each between loser and winner.
 /// 7. Once the step is undone, no two edges have one key.
-#[derive(Clone, Copy, Debug, PartialEq, Eq)]
+#[derive(Clone, Copy, PartialEq, Eq)]
 pub struct Unfit {
     pub step: u32,
     pub rule: u8,

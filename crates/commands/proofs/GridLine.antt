@@ -37,7 +37,7 @@ use Rattle.client_replay.proofs.Form.{slice_parts}
 use Rattle.client_replay.proofs.Replays.{own_step}
 use Rattle.generator.specs.GridMap.{grid_base}
 use Rattle.commands.specs.declared.outcome.Outcome.{Outcome}
-use Rattle.commands.specs.declared.outcome.Outcome.TheVariants.{Done, Usage}
+use Rattle.commands.specs.declared.outcome.Outcome.TheVariants.{Done, Usage, LoadFault, Refused, StepTooHigh, NotCoarser, OutOfMemory, PortFault, Unfit}
 use Rattle.commands.specs.Outcomes.{refusal}
 use Rattle.plain_io.specs.declared.files.Which.{Which}
 use Rattle.plain_io.specs.Loads.{Told}
@@ -45,7 +45,7 @@ use Rattle.commands.specs.Command as spec
 use Rattle.commands.specs.Commands.{command}
 use Rattle.commands.specs.Answers.{Answers, AnswersCommand, IsEither, outcome_from}
 use Rattle.commands.specs.Slice.{IsSliceOf}
-use Rattle.commands.specs.Grid.{IsLineOf, IsWayBack, SaysGrid, counts_text, grid_outcome, grid_text, line_of, point_count, put_count}
+use Rattle.commands.specs.Grid.{IsLineOf, IsWayBack, SaysGrid, SaysLine, counts_text, grid_outcome, grid_text, line_of, point_count, put_count}
 use Rattle.commands.proofs.Says.{refused_is}
 use Rattle.commands.proofs.SliceForm.{slice_form}
 use Rattle.commands.proofs.PacketForm.{packet_form}
@@ -156,28 +156,42 @@ line_is rows m text h =
 
 -- ---- what comes of the command
 
--- a generated map is not refused
-pub grid_checked : (rows : ℕ) (m : BaseMap) → m ≡ grid_base rows → IsPartition (base_segments m) → (e : Or MapFault) (r : Result (List ℕ) Outcome) → IsErrAnd r (λ o. o ≡ refusal e)
+-- a planar partition is not refused
+pub line_checked : (rows : ℕ) (m : BaseMap) → IsPartition (base_segments m) → (e : Or MapFault) (r : Result (List ℕ) Outcome) → IsErrAnd r (λ o. o ≡ refusal e)
     → (let told : Or MapFault → Result BaseMap (Or MapFault) = λ x. Err x in
     ((fault : MapFault) → told e ≡ told (Fault fault) → map_fault m ≡ Some fault)
     × ((fault : MapFault) → told e ≡ told (Fault fault) → IsShownBy (base_segments m) fault)
     × ((fault : MapFault) → told e ≡ told (Fault fault) → ¬ (IsPartition (base_segments m))))
-    → IsEither (SaysGrid rows) (grid_outcome rows) (outcome_from r)
-grid_checked rows m is planar e r same h = elim (refused_is m e r same h) [
+    → IsEither (SaysLine rows m) (Done (line_of rows m)) (outcome_from r)
+line_checked rows m planar e r same h = elim (refused_is m e r same h) [
   | inl memory ↦ inl memory
   | inr refused ↦ absurd (refused.3.0 planar)
 ]
 
-pub grid_done : (rows : ℕ) (m : BaseMap) (text : List ℕ) → m ≡ grid_base rows → IsPartition (base_segments m) → length m.classes ≡ rows * rows
-    → length m.arcs ≡ 2 * ((rows + 1) * rows) → count_points m.arcs ≡ 6 * ((rows + 1) * rows) → IsLineOf rows m text
-    → IsEither (SaysGrid rows) (grid_outcome rows) (Done text)
-grid_done rows m text is planar faces arcs points line =
+-- the line of a map
+pub line_done : (rows : ℕ) (m : BaseMap) (text : List ℕ) → IsLineOf rows m text → IsEither (SaysLine rows m) (Done (line_of rows m)) (Done text)
+line_done rows m text line = inr (line, ap Done (line_is rows m text line), tt)
+
+-- the line of the generated map
+pub grid_done : (rows : ℕ) (m : BaseMap) (o : Outcome) → m ≡ grid_base rows → IsPartition (base_segments m) → length m.classes ≡ rows * rows
+    → length m.arcs ≡ 2 * ((rows + 1) * rows) → count_points m.arcs ≡ 6 * ((rows + 1) * rows) → IsEither (SaysLine rows m) (Done (line_of rows m)) o
+    → IsEither (SaysGrid rows) (grid_outcome rows) o
+grid_done rows m o is planar faces arcs points (inl memory) = inl memory
+grid_done rows m (Done text) is planar faces arcs points (inr h) =
     inr (
       subst (λ (b : BaseMap). IsPartition (base_segments b) × (length b.classes ≡ rows * rows) × (length b.arcs ≡ 2 * ((rows + 1) * rows))
-          × (count_points b.arcs ≡ 6 * ((rows + 1) * rows)) × IsLineOf rows b text) is (planar, faces, arcs, points, line),
-      ap Done (line_is rows m text line) ∙ ap (λ (b : BaseMap). Done (line_of rows b)) is,
+          × (count_points b.arcs ≡ 6 * ((rows + 1) * rows)) × IsLineOf rows b text) is (planar, faces, arcs, points, h.0),
+      h.1 ∙ ap (λ (b : BaseMap). Done (line_of rows b)) is,
       tt,
     )
+grid_done rows m Usage is planar faces arcs points (inr h) = absurd h.0
+grid_done rows m (LoadFault which) is planar faces arcs points (inr h) = absurd h.0
+grid_done rows m (Refused fault) is planar faces arcs points (inr h) = absurd h.0
+grid_done rows m (StepTooHigh last) is planar faces arcs points (inr h) = absurd h.0
+grid_done rows m (NotCoarser from to) is planar faces arcs points (inr h) = absurd h.0
+grid_done rows m OutOfMemory is planar faces arcs points (inr h) = absurd h.0
+grid_done rows m PortFault is planar faces arcs points (inr h) = absurd h.0
+grid_done rows m (Unfit misfit) is planar faces arcs points (inr h) = absurd h.0
 
 -- it is what the words ask for
 pub grid_answers : (words : List (List ℕ)) (told : Which → List ℕ → Told) (rose : Which → Type 0) (rows : ℕ) (o : Outcome) → Some (spec.Grid rows) ≡ command words

@@ -12,7 +12,7 @@ use Rattle.tgap_model.specs.declared.topology.RawMap.{RawMap}
 use Rattle.map_forms.specs.RulesFile.{rules_of}
 use Rattle.topology_forms.specs.Topology.{topology}
 use Rattle.topology_forms.specs.Rings.{based, topology_base}
-use Rattle.plain_io.specs.Faults.{Rose}
+use Rattle.tgap_model.specs.Faults.{Rose}
 use Rattle.plain_io.specs.declared.files.Which.{Which}
 use Rattle.plain_io.specs.declared.files.Which.TheVariants.{Map, Rules, Slice, Packet}
 use Rattle.plain_io.specs.Loads.{Told, Untold, Missing, Holds, OfFile, OthersStay}

@@ -18,6 +18,9 @@ use Rattle.wire_text.specs.SliceTexts.{packet_text, slice_text}
 use Rattle.wire_text.specs.SliceReading.{IsPacketText}
 use Rattle.face_merge.proofs.Steps.{history_is}
 use Rattle.record_laws.specs.PacketLaws.{each_fits}
+use Rattle.record_laws.proofs.PacketSteps.{packets_fit_by, packets_lead_by, packets_join}
+use Rattle.record_laws.proofs.Fits.{records_fit}
+use Rattle.record_laws.proofs.UndoStep.{undo_goes_back}
 use Rattle.refine_packets.specs.declared.fail.PacketFail.{PacketFail}
 use Rattle.refine_packets.specs.declared.fail.PacketFail.TheVariants as fail
 use Rattle.commands.specs.declared.outcome.Outcome.{Outcome}
@@ -95,38 +98,38 @@ pub same_step : (m : BaseMap) (from to : ℕ) (p : Packet) → p ≡ packet_of (
 unfolding slice packet_of
 same_step m from to p is = ap (λ (q : Packet). q.from) (sym is)
 
--- the packet between two steps of the history
-pub packet_done : (m : BaseMap) (from to : ℕ) (p : Packet) (text : List ℕ) → is_base m ≡ true → IsPartition (base_segments m) → to ≤ from → from ≤ length (history_of m)
-    → p ≡ packet_of (merged m) from to → each_fits (slice m from) p.steps ≡ true → replayed (slice m from) p ≡ slice m to
-    → ((middle : ℕ) → to ≤ middle → middle ≤ from → p.steps ≡ (packet_of (merged m) from middle).steps ++ (packet_of (merged m) middle to).steps)
-    → text ≡ packet_text p → IsEither (SaysPacketOf from to m) (packet_of_outcome from to m) (Done text)
-packet_done m from to p text base planar low last is fits leads joins e =
+-- the text of the packet between two steps of the history
+pub packet_done : (m : BaseMap) (from to : ℕ) (text : List ℕ) → is_base m ≡ true → IsPartition (base_segments m) → to ≤ from → from ≤ length (history_of m)
+    → text ≡ packet_text (packet_of (merged m) from to) → IsEither (SaysPacketOf from to m) (packet_of_outcome from to m) (Done text)
+packet_done m from to text base planar low last e =
+    let p = packet_of (merged m) from to in
     let high = nat_lt (length (history_of m)) from in
-    let spelled : IsPacketText text p = record { form = ap is_packet_row is ∙ packet_form m base planar from to low last; spelled = e } in
+    let spelled : IsPacketText text p = record { form = packet_form m base planar from to low last; spelled = e } in
+    let fits : each_fits (slice m from) p.steps ≡ true = packets_fit_by records_fit undo_goes_back m base planar from to low last in
+    let leads : replayed (slice m from) p ≡ slice m to = packets_lead_by records_fit undo_goes_back m base planar from to low last in
     let packet : IsPacketOf m from to text = record {
       packet = p;
-      exact = is;
+      exact = refl;
       spelled = spelled;
       fits = fits;
       leads = leads;
-      joins = joins;
+      joins = λ middle down up. packets_join (merged m) from middle to down up;
       replays = texts_replay (slice m from) (slice m to) p (slice_text (slice m from)) text
-          (record { form = slice_form m base planar from last; spelled = refl }) spelled (same_step m from to p is) fits leads;
+          (record { form = slice_form m base planar from last; spelled = refl }) spelled (same_step m from to p refl) fits leads;
     } in
     inr (
       (history_is m, low, last, packet),
-      ap Done (e ∙ ap packet_text is)
-          ∙ sym (by_steps m from to ∙ ap (λ (b : Bool). by_tests from to m b high) (le-ltb from to low) ∙ ap (by_tests from to m false) (le-ltb _ from last)),
+      ap Done e ∙ sym (by_steps m from to ∙ ap (λ (b : Bool). by_tests from to m b high) (le-ltb from to low) ∙ ap (by_tests from to m false) (le-ltb _ from last)),
       tt,
     )
 
--- two steps between which there is a packet
-pub steps_within : (m : BaseMap) (from to : ℕ) (p : Packet)
-    → (let told : Result Packet PacketFail → Result Packet PacketFail = λ r. r in (told (Ok p) ≡ told (Err fail.NotCoarser)) ↔ (from < to))
-    → (let told : Result Packet PacketFail → Result Packet PacketFail = λ r. r in
-    (steps : ℕ) → told (Ok p) ≡ told (Err (fail.StepTooHigh steps)) ↔ ((to ≤ from) × (length (history_of m) < from) × (steps ≡ length (history_of m))))
+-- two steps between which there is the text of a packet
+pub steps_within : (m : BaseMap) (from to : ℕ) (text : List ℕ)
+    → (let told : Result (List ℕ) PacketFail → Result (List ℕ) PacketFail = λ r. r in (told (Ok text) ≡ told (Err fail.NotCoarser)) ↔ (from < to))
+    → (let told : Result (List ℕ) PacketFail → Result (List ℕ) PacketFail = λ r. r in
+    (steps : ℕ) → told (Ok text) ≡ told (Err (fail.StepTooHigh steps)) ↔ ((to ≤ from) × (length (history_of m) < from) × (steps ≡ length (history_of m))))
     → (to ≤ from) × (from ≤ length (history_of m))
-steps_within m from to p coarser high = elim (cases_lt from to) [
+steps_within m from to text coarser high = elim (cases_lt from to) [
   | inl less ↦ (let clash = coarser.1 less in absurd cc)
   | inr low ↦ (
     low,
@@ -139,8 +142,8 @@ steps_within m from to p coarser high = elim (cases_lt from to) [
 
 -- what comes where there is no packet
 pub packet_refused : (m : BaseMap) (from to : ℕ) (e : PacketFail) (o : Outcome) → o ≡ packet_refusal from to e
-    → (let told : PacketFail → Result Packet PacketFail = λ x. Err x in (told e ≡ told fail.NotCoarser) ↔ (from < to))
-    → (let told : PacketFail → Result Packet PacketFail = λ x. Err x in
+    → (let told : PacketFail → Result (List ℕ) PacketFail = λ x. Err x in (told e ≡ told fail.NotCoarser) ↔ (from < to))
+    → (let told : PacketFail → Result (List ℕ) PacketFail = λ x. Err x in
     (steps : ℕ) → told e ≡ told (fail.StepTooHigh steps) ↔ ((to ≤ from) × (length (history_of m) < from) × (steps ≡ length (history_of m))))
     → IsEither (SaysPacketOf from to m) (packet_of_outcome from to m) o
 packet_refused m from to fail.NotCoarser o same coarser high =

@@ -1,13 +1,12 @@
 -- What comes of a base map, command by command, as its definition says it and computes it.
-use Rattle.std.proofs.Common.{◌≡◌, ℕ, ◌≤◌, ◌<◌, ◌↔◌, ◌⊎◌, inl, inr, List, length, take, Some, None, Result, Ok, Err, refl, sym, ap, ◌∙◌, le-ltb, lt-ltb, subst, nat_lt, if◌then◌else◌}
+use Rattle.std.proofs.Common.{◌≡◌, ℕ, true, ◌≤◌, ◌<◌, ◌↔◌, ◌⊎◌, inl, inr, List, length, take, Some, None, Result, Ok, Err, refl, sym, ap, ◌∙◌, le-ltb, lt-ltb, subst, nat_lt, if◌then◌else◌}
 use Rattle.std.proofs.lemmas.Bool.{cases_lt}
 use Rattle.std.specs.Result.{IsErrAnd}
 use Rattle.tgap_model.specs.declared.merge.MergeStep.{MergeStep}
-use Rattle.tgap_model.specs.declared.slice.Slice.{Slice}
 use Rattle.tgap_model.specs.declared.failure.Or.{Or}
 use Rattle.tgap_model.specs.declared.failure.Or.TheVariants.{Fault, Memory}
 use Rattle.tgap_model.specs.declared.fault.MapFault.{MapFault}
-use Rattle.tgap_model.specs.Base.{BaseMap}
+use Rattle.tgap_model.specs.Base.{BaseMap, is_base}
 use Rattle.commands.specs.Border.{border_by}
 use Rattle.tgap_model.specs.History.{IsHistory, label_after, history_of}
 use Rattle.tgap_model.specs.Partition.{IsPartition, base_segments, map_fault}
@@ -18,6 +17,7 @@ use Rattle.wire_text.specs.SliceTexts.{slice_text}
 use Rattle.face_merge.proofs.Steps.{history_is}
 use Rattle.slice_read.specs.declared.fail.ReadFail.{ReadFail}
 use Rattle.slice_read.specs.declared.fail.ReadFail.TheVariants as fail
+use Rattle.slice_read.proofs.Slices.{relation, planar_edges, partition, adjacent, unions}
 use Rattle.commands.specs.declared.outcome.Outcome.{Outcome}
 use Rattle.commands.specs.declared.outcome.Outcome.TheVariants.{Done, Usage, LoadFault, Refused, StepTooHigh, NotCoarser, OutOfMemory, PortFault, Unfit}
 use Rattle.commands.specs.Outcomes.{IsOfFiles, refusal, read_refusal}
@@ -110,32 +110,42 @@ by_step : (m : BaseMap) (k : ℕ)
 unfolding slice_of_outcome
 by_step m k = refl
 
--- a step of which there is a slice is not above the last one
-step_within : (m : BaseMap) (k : ℕ) (s : Slice)
-    → (let told : Result Slice ReadFail → Result Slice ReadFail = λ r. r in
-    (steps : ℕ) → told (Ok s) ≡ told (Err (fail.StepTooHigh steps)) ↔ ((length (history_of m) < k) × (steps ≡ length (history_of m))))
+-- a step of which there is a text is not above the last one
+step_within : (m : BaseMap) (k : ℕ) (text : List ℕ)
+    → (let told : Result (List ℕ) ReadFail → Result (List ℕ) ReadFail = λ r. r in
+    (steps : ℕ) → told (Ok text) ≡ told (Err (fail.StepTooHigh steps)) ↔ ((length (history_of m) < k) × (steps ≡ length (history_of m))))
     → k ≤ length (history_of m)
-step_within m k s high = elim (cases_lt (length (history_of m)) k) [
+step_within m k text high = elim (cases_lt (length (history_of m)) k) [
   | inr within ↦ within
   | inl above ↦
       let clash = (high (length (history_of m))).1 (above, refl) in
       absurd cc
 ]
 
--- the slice of what was built of a map
-pub slice_done : (m built : BaseMap) (k : ℕ) (s : Slice) (text : List ℕ) → built ≡ m → IsSliceOf built k s
-    → (let told : Result Slice ReadFail → Result Slice ReadFail = λ r. r in
-    (steps : ℕ) → told (Ok s) ≡ told (Err (fail.StepTooHigh steps)) ↔ ((length (history_of built) < k) × (steps ≡ length (history_of built))))
-    → text ≡ slice_text s → IsEither (SaysSliceOf k m) (slice_of_outcome k m) (Done text)
-slice_done m built k s text same is high e =
-    let within : k ≤ length (history_of m) = subst (λ (b : BaseMap). k ≤ length (history_of b)) same (step_within built k s high) in
-    let here : IsSliceOf m k s = subst (λ (b : BaseMap). IsSliceOf b k s) same is in
-    let done : Done text ≡ slice_of_outcome k m = ap Done (e ∙ ap slice_text here.exact) ∙ sym (by_step m k ∙ by_not_less (length (history_of m)) k _ _ within) in
-    inr ((history_is m, within, (s, here, e)), done, tt)
+-- the slice of a planar partition after a step that its history has
+slice_holds : (m : BaseMap) (k : ℕ) → is_base m ≡ true → IsPartition (base_segments m) → k ≤ length (history_of m) → IsSliceOf m k (slice m k)
+slice_holds m k base planar within = record {
+  exact = refl;
+  chains = relation m base planar k within (slice m k) refl;
+  planar = planar_edges m base planar k within (slice m k) refl;
+  partition = partition m base planar k within (slice m k) refl;
+  unions = unions m base planar k within (slice m k) refl;
+  adjacent = adjacent m base planar k within (slice m k) refl;
+}
+
+-- its text
+pub slice_done : (m : BaseMap) (k : ℕ) (text : List ℕ) → is_base m ≡ true → IsPartition (base_segments m)
+    → (let told : Result (List ℕ) ReadFail → Result (List ℕ) ReadFail = λ r. r in
+    (steps : ℕ) → told (Ok text) ≡ told (Err (fail.StepTooHigh steps)) ↔ ((length (history_of m) < k) × (steps ≡ length (history_of m))))
+    → text ≡ slice_text (slice m k) → IsEither (SaysSliceOf k m) (slice_of_outcome k m) (Done text)
+slice_done m k text base planar high e =
+    let within : k ≤ length (history_of m) = step_within m k text high in
+    let done : Done text ≡ slice_of_outcome k m = ap Done e ∙ sym (by_step m k ∙ by_not_less (length (history_of m)) k _ _ within) in
+    inr ((history_is m, within, (slice m k, slice_holds m k base planar within, e)), done, tt)
 
 -- the step is above the last one, or memory is wanting
 pub slice_failed_of : (m : BaseMap) (k : ℕ) (e : ReadFail) (r : Result (List ℕ) Outcome) → IsErrAnd r (λ o. o ≡ read_refusal e)
-    → (let told : ReadFail → Result Slice ReadFail = λ x. Err x in
+    → (let told : ReadFail → Result (List ℕ) ReadFail = λ x. Err x in
     (steps : ℕ) → told e ≡ told (fail.StepTooHigh steps) ↔ ((length (history_of m) < k) × (steps ≡ length (history_of m))))
     → IsEither (SaysSliceOf k m) (slice_of_outcome k m) (outcome_from r)
 slice_failed_of m k e (Ok text) same high = absurd same

@@ -3,7 +3,7 @@ use Rattle.std.proofs.Common.{◌≡◌, ◌≢◌, ℕ, ◌≤◌, ◌⊎◌, i
 use Rattle.plain_io.specs.declared.files.Which.{Which}
 use Rattle.plain_io.specs.Loads.{Told, OfFile}
 use Rattle.plain_io.specs.Puts.{Appends}
-use Rattle.plain_io.specs.Faults.{Rises}
+use Rattle.tgap_model.specs.Faults.{Rises}
 use Rattle.tgap_model.specs.declared.fault.MapFault.{MapFault}
 use Rattle.commands.specs.declared.outcome.Misfit.{Misfit}
 use Rattle.commands.specs.declared.outcome.Outcome.{Outcome}

@@ -5,7 +5,7 @@ use Rattle.tgap_model.specs.declared.fault.MapFault.TheVariants.{InputLong}
 use Rattle.tgap_model.specs.Base.{BaseMap}
 use Rattle.map_forms.specs.Listing.{IsListing, listing}
 use Rattle.plain_io.specs.declared.files.Which.{Which}
-use Rattle.plain_io.specs.Faults.{Rose}
+use Rattle.tgap_model.specs.Faults.{Rose}
 use Rattle.plain_io.specs.Loads.{Told, Missing, Holds, OfFile}
 use Rattle.plain_io.specs.Puts.{Appends}
 use Rattle.wire_text.specs.declared.row_reading.BadText.{BadText}

@@ -1,6 +1,6 @@
 -- How an outcome is put out.
 use Rattle.std.specs.Prelude.{◌≡◌, ◌⊎◌, ℕ, List, Option}
-use Rattle.plain_io.specs.Faults.{Rises}
+use Rattle.tgap_model.specs.Faults.{Rises}
 use Rattle.plain_io.specs.Puts.{Appends, AppendsFront}
 use Rattle.commands.specs.declared.outcome.Outcome.{Outcome}
 use Rattle.commands.specs.Outcomes.{status_of, text_of}

@@ -70,6 +70,11 @@ pub record IsLineOf (rows : ℕ) (m : BaseMap) (text : List ℕ) : Type 0 where
   pub way_back : IsWayBack m packet
   pub told : text ≡ grid_text rows m (history_of m) (removals_to (merged m) (length (history_of m))) last (replayed last packet)
 
+-- what comes of a map that is checked: its line
+abbrev pub SaysLine : ℕ → BaseMap → Outcome → Type 0
+SaysLine rows m (Done text) = IsLineOf rows m text
+SaysLine rows m other = ⊥
+
 -- What comes of it: the line of the generated map, which is a planar partition with so many faces, arcs and points.
 abbrev pub SaysGrid : ℕ → Outcome → Type 0
 SaysGrid rows (Done text) =

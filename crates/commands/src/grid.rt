@@ -4,14 +4,16 @@
 ghost use Rattle.std.specs.Prelude.{◌≡◌, ◌++◌, ◌∷◌, ◌<◌, ◌≤◌, decimal, map, string_bytes, length, sum_by, IfOk, IsTrue, None, OnOk};
 ghost use Rattle.tgap_model.specs.declared.limits.TheConstants.{MAX_POINTS};
 ghost use Rattle.tgap_model.specs.Base.{count_points};
+ghost use Rattle.tgap_model.specs.Partition.{IsPartition, base_segments};
 ghost use Rattle.tgap_model.specs.History.{history_of};
 ghost use Rattle.tgap_model.specs.Records.{replayed};
 ghost use Rattle.slice_forms.specs.SliceForms.{is_slice_row, is_packet_row, has_room};
 ghost use Rattle.client_replay.specs.Replaying.{outcome as replay_outcome};
+ghost use Rattle.commands.specs.declared.outcome.Outcome.TheVariants.{Done};
 ghost use Rattle.commands.specs.Asked.{asked};
 ghost use Rattle.commands.specs.Answers.{IsEither, outcome_from};
 ghost use Rattle.commands.specs.Slice.{IsSliceOf};
-ghost use Rattle.commands.specs.Grid.{IsLineOf, IsWayBack, SaysGrid, counts_text, grid_command, grid_outcome, point_count, put_count as put_total, with_base};
+ghost use Rattle.commands.specs.Grid.{IsLineOf, IsWayBack, SaysGrid, SaysLine, counts_text, grid_command, grid_outcome, line_of, point_count, put_count as put_total, with_base};
 
 use crate::command::Command;
 use crate::grid_size::GridSize;
@@ -27,7 +29,7 @@ use std::marker::Brand;
 use std::sync::ledger::{Blank, Ledger};
 use std::thread::Threads;
 use tgap_build::{Built, build};
-use tgap_model::{Base, BaseArc, Edge, Memory, Or, Packet, Slice, StepRecord, Steps, Text};
+use tgap_model::{Base, BaseArc, Checked, Edge, Memory, Or, Packet, Slice, StepRecord, Steps, Text};
 
 /// The command of these words after its name.
 pub fn parse(words: &[String]) -> Option<Command<'_>>
@@ -47,9 +49,34 @@ pub fn answer<R: Threads + Sync>(rt: &R, alloc: Global, size: GridSize) -> Resul
     ensures { IsEither (SaysGrid size.rows) (grid_outcome size.rows) (outcome_from result) }
 {
     let base = grid_map(alloc, size.rows)?;
+    line_of_base(rt, alloc, size.rows, base)
+}
+
+/// The line of a planar partition, of which the number of rows is given.
+fn line_of_base<R: Threads + Sync>(
+    rt: &R,
+    alloc: Global,
+    rows: u32,
+    base: Base,
+) -> Result<Text, Outcome>
+    requires { IsPartition (base_segments base) }
+    ensures { IsEither (SaysLine rows base) (Done (line_of rows base)) (outcome_from result) }
+{
     let checked = check(rt, alloc, base)?;
+    line_of_checked(rt, alloc, rows, checked)
+}
+
+/// The line of a map that was checked, of which the number of rows is given.
+fn line_of_checked<R: Threads + Sync>(
+    rt: &R,
+    alloc: Global,
+    rows: u32,
+    checked: Checked,
+) -> Result<Text, Outcome>
+    ensures { IsEither (SaysLine rows checked) (Done (line_of rows checked)) (outcome_from result) }
+{
     let built = build(rt, alloc, checked)?;
-    Ok(line_of(alloc, size.rows, &built)?)
+    Ok(line_of(alloc, rows, &built)?)
 }
 
 /// The line of what was built of a map, of which the number of rows is given.

@@ -13,13 +13,13 @@ use crate::command::{Command, Source, source_named};
 use crate::load::load_map;
 use crate::outcome::Outcome;
 use base_check::check;
+use built_text::packet_text_at;
 use plain_io::{Files, read_number};
-use refine_packets::{PacketFail, packet};
+use refine_packets::PacketFail;
 use std::alloc::Global;
 use std::thread::Threads;
 use tgap_build::{Built, build};
-use tgap_model::{Base, Text};
-use wire_text::packet_text;
+use tgap_model::{Base, Checked, Text};
 
 /// The command of these words after its name.
 pub fn parse(words: &[String]) -> Option<Command<'_>>
@@ -67,6 +67,19 @@ fn packet_of_base<R: Threads + Sync>(
     ensures { IsEither (SaysPacket from to base) (packet_outcome from to base) (outcome_from result) }
 {
     let checked = check(rt, alloc, base)?;
+    packet_of_checked(rt, alloc, checked, from, to)
+}
+
+/// The packet text of a planar partition from one step to another; or the steps are none between which there is a packet.
+fn packet_of_checked<R: Threads + Sync>(
+    rt: &R,
+    alloc: Global,
+    checked: Checked,
+    from: u32,
+    to: u32,
+) -> Result<Text, Outcome>
+    ensures { IsEither (SaysPacketOf from to checked) (packet_of_outcome from to checked) (outcome_from result) }
+{
     let built = build(rt, alloc, checked)?;
     packet_of(alloc, &built, from, to)
 }
@@ -77,8 +90,8 @@ fn packet_of(alloc: Global, built: &Built, from: u32, to: u32) -> Result<Text, O
 {
     // Of what is built it is known by its base map that it is a planar partition.
     let _base = built.base();
-    match packet(alloc, built, from, to) {
-        Ok(packet) => Ok(packet_text(alloc, &packet)?),
+    match packet_text_at(alloc, built, from, to) {
+        Ok(text) => Ok(text),
         Err(fail) => Err(without_packet(fail, from, to)),
     }
 }

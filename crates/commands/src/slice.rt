@@ -1,6 +1,6 @@
 //! The command that tells the slice of a map after a step of its history.
 
-ghost use Rattle.std.specs.Prelude.{◌≡◌, ◌<◌, string_bytes, map};
+ghost use Rattle.std.specs.Prelude.{◌≡◌, string_bytes, map};
 ghost use Rattle.commands.specs.declared.outcome.Outcome.TheVariants as outcome;
 ghost use Rattle.commands.specs.Command as spec;
 ghost use Rattle.commands.specs.MapFile.{files_of_map};
@@ -12,15 +12,12 @@ use crate::command::{Command, Source, source_named};
 use crate::load::load_map;
 use crate::outcome::Outcome;
 use base_check::check;
+use built_text::slice_text_at;
 use plain_io::{Files, read_number};
-use slice_read::slice_at;
 use std::alloc::Global;
-use std::marker::Brand;
-use std::sync::ledger::{Blank, Ledger};
 use std::thread::Threads;
-use tgap_build::build;
-use tgap_model::{Base, Checked, Steps, Text};
-use wire_text::slice_text;
+use tgap_build::{Built, build};
+use tgap_model::{Base, Checked, Text};
 
 /// The command of these words after its name.
 pub fn parse(words: &[String]) -> Option<Command<'_>>
@@ -64,25 +61,27 @@ fn slice_of_base<R: Threads + Sync>(
     ensures { IsEither (SaysSlice step base) (slice_outcome step base) (outcome_from result) }
 {
     let checked = check(rt, alloc, base)?;
-    slice_of::<R, Brand>(rt, alloc, checked, step, Blank::new(1))
+    slice_of_checked(rt, alloc, checked, step)
 }
 
-/// The slice text of a planar partition after this step; or the step is above the last one. Nobody counts the looks that it
-/// takes.
-fn slice_of<R: Threads + Sync, L: Ledger>(
+/// The slice text of a planar partition after this step; or the step is above the last one.
+fn slice_of_checked<R: Threads + Sync>(
     rt: &R,
     alloc: Global,
     checked: Checked,
     step: u32,
-    blank: Blank,
 ) -> Result<Text, Outcome>
-    requires name { blank.name ≡ L.name }
-    requires parts { blank.parts ≡ L.parts }
-    requires some { 0 < blank.parts }
     ensures { IsEither (SaysSliceOf step checked) (slice_of_outcome step checked) (outcome_from result) }
 {
     let built = build(rt, alloc, checked)?;
-    let mut steps = Steps::<L>::new(blank);
-    let slice = slice_at(alloc, &built, step, &mut steps)?;
-    Ok(slice_text(alloc, &slice)?)
+    slice_of(alloc, &built, step)
+}
+
+/// The slice text of what was built of a map, after this step; or the step is above the last one.
+fn slice_of(alloc: Global, built: &Built, step: u32) -> Result<Text, Outcome>
+    ensures { IsEither (SaysSliceOf step built.now) (slice_of_outcome step built.now) (outcome_from result) }
+{
+    // Of what is built it is known by its base map that it is a planar partition.
+    let _base = built.base();
+    Ok(slice_text_at(alloc, built, step)?)
 }

@@ -12,7 +12,7 @@ use std::sync::ledger::Ledger;
 use tgap_model::{List, Memory, Steps};
 
 /// An edge by its number, with its key beside it.
-#[derive(Clone, Copy, Debug)]
+#[derive(Clone, Copy)]
 pub struct KeyedEdge {
     pub key: u32,
     pub id: u32,

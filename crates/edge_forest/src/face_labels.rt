@@ -10,7 +10,7 @@ use std::alloc::Global;
 use tgap_model::{Memory, MergeStep};
 
 /// The labels of the loser and of the winner of a step.
-#[derive(Clone, Copy, Debug)]
+#[derive(Clone, Copy)]
 pub struct Sides {
     pub loser: u32,
     pub winner: u32,
@@ -30,7 +30,7 @@ impl Sides {
 }
 
 /// The face of each label, and the label of each face that is live.
-#[derive(Debug, Drop)]
+#[derive(Drop)]
 pub struct FaceLabels {
     faces: Vec<u32>,
     labels: Vec<u32>,

@@ -7,7 +7,7 @@ use std::marker::Model;
 use tgap_model::{List, Memory};
 
 /// Lists of numbers, one after the other: list x goes from start x on and before the next one. Contracts see the lists.
-#[derive(Debug, Drop)]
+#[derive(Drop)]
 pub struct FlatLists {
     starts: Vec<usize>,
     ids: Vec<u32>,

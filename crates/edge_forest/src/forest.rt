@@ -34,7 +34,7 @@ use tgap_model::{Base, Checked, List, Memory, MergeStep, Point, Removal, Steps};
 
 /// The edges of a base map: those of the map as it is, and those that the steps of its merge history make, one step after
 /// the other until the history is closed. Beside them it has the vertices that were removed, with their steps.
-#[derive(Debug, Drop)]
+#[derive(Drop)]
 pub struct Forest {
     growth: Growth,
     removed: Removed,

@@ -14,7 +14,7 @@ use std::alloc::Global;
 use tgap_model::{BaseArc, Memory, Point};
 
 /// For each point of each arc the step at which it was removed, or 0 where it was not, and for each arc where those of its points begin.
-#[derive(Debug, Drop)]
+#[derive(Drop)]
 pub struct GoneSteps {
     pub steps: Vec<u32>,
     pub starts: Vec<usize>,

@@ -22,7 +22,7 @@ pub fn closed_high(high: u32, last: u32) -> u32
 /// A forest while the history goes on: its base map, all its edges, the nodes at the arc ends, the edges that have not
 /// ended, which hold labels of faces, the labels, and for each label the keys of those that have it at a side. (A key stays
 /// listed when its edge has ended.)
-#[derive(Debug, Drop)]
+#[derive(Drop)]
 pub struct Growth {
     pub base: Checked,
     pub edges: Vec<ForestEdge>,

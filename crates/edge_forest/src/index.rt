@@ -16,7 +16,7 @@ use tgap_model::{List, Memory};
 /// A complete binary tree over 2 to the power `depth` steps, which are `leaves`, and at each node the numbers of the edges
 /// that are listed there. The root is node 1, and the nodes below node x are 2 x and 2 x + 1. An edge is listed at the
 /// highest nodes of which all steps lie in its range: at no more than two of each level.
-#[derive(Debug, Drop)]
+#[derive(Drop)]
 pub struct RangeIndex {
     pub depth: u32,
     pub leaves: usize,

@@ -11,7 +11,7 @@ use crate::nodes::Nodes;
 
 /// An edge that has not ended: its number, the arc ends at which it starts and ends, and the labels of the faces at its left
 /// and right.
-#[derive(Clone, Copy, Debug)]
+#[derive(Clone, Copy)]
 pub struct Current {
     pub id: u32,
     pub first: u32,
@@ -22,7 +22,7 @@ pub struct Current {
 
 /// The edges that have not ended: each by its key, the key of the edge that ends there by arc end, and the number of such
 /// arc ends by node.
-#[derive(Debug, Drop)]
+#[derive(Drop)]
 pub struct Net {
     pub rows: Vec<Option<Current>>,
     pub ends: Vec<Option<u32>>,
@@ -30,7 +30,7 @@ pub struct Net {
 }
 
 /// Two edges that end at one node, the one with the lesser key first, and of each whether it ends or starts there.
-#[derive(Clone, Copy, Debug)]
+#[derive(Clone, Copy)]
 pub struct Meeting {
     pub key: u32,
     pub one: Current,

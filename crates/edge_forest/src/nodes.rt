@@ -9,7 +9,7 @@ use std::alloc::Global;
 use tgap_model::{List, Memory, Point};
 
 /// A point with its place in a list of points.
-#[derive(Clone, Copy, Debug)]
+#[derive(Clone, Copy)]
 struct PlacedPoint {
     point: Point,
     place: u32,
@@ -85,7 +85,7 @@ fn places_by_node(alloc: Global, node_of: &[u32], count: u32) -> Result<Vec<List
 
 /// The node at each of some points, by place, and the places of the points at each node. Node 0 is the least point, and
 /// the others follow in the order of points.
-#[derive(Debug, Drop)]
+#[derive(Drop)]
 pub struct Nodes {
     pub node_of: Vec<u32>,
     pub places: Vec<List<u32>>,

@@ -14,7 +14,7 @@ use tgap_model::{BaseArc, List, Memory, Point, Removal};
 
 /// The points of the arcs of a map in ascending order, each once, and beside each the step at which it was removed, or 0
 /// where it was not.
-#[derive(Debug, Drop)]
+#[derive(Drop)]
 pub struct Removed {
     points: Vec<Point>,
     steps: Vec<u32>,

@@ -14,7 +14,7 @@ use std::marker::Model;
 use tgap_model::{BaseArc, List, Memory, Point};
 
 /// Room for the points of one edge after the other. Contracts see the points that it holds.
-#[derive(Debug, Drop)]
+#[derive(Drop)]
 pub struct PointRoom {
     points: Vec<Point>,
     stack: Vec<Part>,

@@ -13,7 +13,7 @@ use tgap_model::{BaseArc, Point};
 
 /// The first and the last arc of a row of arcs, in its direction, and the first step after which no point of the row is
 /// left but its two ends, or `NEVER`.
-#[derive(Clone, Copy, Debug)]
+#[derive(Clone, Copy)]
 pub struct Span {
     pub step: u32,
     pub first: Link,

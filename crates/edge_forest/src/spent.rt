@@ -15,7 +15,7 @@ use std::alloc::Global;
 use tgap_model::{BaseArc, Memory, Point};
 
 /// For each arc the step after which none of its points is left but the ends, for each edge its span, and the step of each point of an arc.
-#[derive(Debug, Drop)]
+#[derive(Drop)]
 pub struct Spent {
     pub arcs: Vec<u32>,
     pub edges: Vec<Span>,

@@ -10,7 +10,7 @@ use std::alloc::Global;
 use tgap_model::{BaseArc, List, Memory, Point};
 
 /// An arc of an edge: its number, and whether the edge runs against it.
-#[derive(Clone, Copy, Debug)]
+#[derive(Clone, Copy)]
 pub struct Link {
     pub arc: u32,
     pub turned: bool,

@@ -12,7 +12,7 @@ use std::alloc::Global;
 use tgap_model::{BaseArc, LabelledArc, List, Memory};
 
 /// What an arc adds to the areas and the lengths of the faces at its sides.
-#[derive(Clone, Copy, Debug, PartialEq, Eq)]
+#[derive(Clone, Copy, PartialEq, Eq)]
 pub struct Measure {
     /// Its shoelace sum: what it adds to twice the area of the face at its left, and takes from that at its right.
     pub twice: i128,

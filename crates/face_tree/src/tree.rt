@@ -18,7 +18,7 @@ use tgap_model::{Base, List, Memory, MergeStep};
 /// Each face has its parent and one jump, a farther ancestor. The jumps are laid so that the way from a face to any
 /// ancestor takes at most a few times the logarithm of the number of steps. The roots are listed, since they are live to
 /// the end.
-#[derive(Debug, Drop)]
+#[derive(Drop)]
 pub struct FaceTree {
     faces: u32,
     steps: Vec<MergeStep>,

@@ -16,7 +16,7 @@ use tgap_model::{List, Memory, Window};
 /// Boxes by their keys, which are their places, from 0. They stand in the slots of a tree, in an order in which near ones
 /// stood beside one another when it was made: of each slot there is the key, and of each key the slot. Contracts see the
 /// list of the boxes by their places.
-#[derive(Debug, Drop)]
+#[derive(Drop)]
 pub struct EdgeBoxes {
     keys: Vec<u32>,
     slots: Vec<u32>,

@@ -8,7 +8,7 @@ use std::alloc::Global;
 use tgap_model::{Memory, Window};
 
 /// The key of an edge, and a box that meets that of one of its segments.
-#[derive(Clone, Copy, Debug)]
+#[derive(Clone, Copy)]
 pub struct KeyBox {
     pub key: u32,
     pub area: Window,

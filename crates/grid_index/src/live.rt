@@ -14,14 +14,14 @@ use std::mem;
 use tgap_model::{Edge, List, Memory, Window, copied_edges};
 
 /// A segment of an edge: the key of the edge, and the place of the segment in it, from 0.
-#[derive(Clone, Copy, Debug, PartialEq, Eq)]
+#[derive(Clone, Copy, PartialEq, Eq)]
 pub struct SegmentPlace {
     pub key: u32,
     pub place: u32,
 }
 
 /// Edges by key, with a look-up of their segments. Contracts see the list of the edges.
-#[derive(Debug, Drop)]
+#[derive(Drop)]
 pub struct Live {
     edges: List<Edge>,
     slots: Slots,

@@ -16,7 +16,7 @@ use tgap_model::{Edge, List, Memory, Point, Window};
 
 /// The boxes of the segments of an edge, in their order: segments in a row are near one another, so a tree over them needs
 /// no other order.
-#[derive(Debug, Drop)]
+#[derive(Drop)]
 pub struct SegmentBoxes {
     tree: BoxTree,
 }
@@ -33,7 +33,7 @@ impl Model for SegmentBoxes {
 }
 
 /// An edge by its key, with the boxes of its segments.
-#[derive(Debug, Drop)]
+#[derive(Drop)]
 pub struct Entry {
     pub key: u32,
     pub boxes: SegmentBoxes,

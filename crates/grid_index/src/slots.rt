@@ -17,7 +17,7 @@ use std::marker::Model;
 use tgap_model::{List, Memory, Window};
 
 /// A slot by the key of what it has.
-#[derive(Clone, Copy, Debug)]
+#[derive(Clone, Copy)]
 pub struct Holder {
     pub key: u32,
     pub slot: usize,
@@ -25,7 +25,7 @@ pub struct Holder {
 
 /// Slots, each with the boxes of an edge or empty, and a tree over boxes that hold them. Slots that stand near one another
 /// should have edges that are near one another in the plane.
-#[derive(Debug, Drop)]
+#[derive(Drop)]
 pub struct Slots {
     slots: Vec<Option<Entry>>,
     bounds: BoxTree,

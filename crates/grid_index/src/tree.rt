@@ -18,7 +18,7 @@ const FANOUT: usize = 16;
 
 /// A row of boxes, and levels of boxes over it: each level has the hull of every sixteen in a row of the level below, and
 /// the highest has sixteen at most. Boxes that stand near one another in the row should be near one another in the plane.
-#[derive(Debug, Drop)]
+#[derive(Drop)]
 pub struct BoxTree {
     boxes: List<Window>,
     levels: Vec<List<Window>>,

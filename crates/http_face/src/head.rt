@@ -30,7 +30,7 @@ pub const CONTENT_TOO_LARGE: u16 = 413;
 
 /// The head of a request: how many bytes it has, its method and its target, how many bytes its body has, and whether
 /// the connection is to end after the reply.
-#[derive(Debug, Drop)]
+#[derive(Drop)]
 pub struct Head {
     pub length: u32,
     pub method: Text,
@@ -40,7 +40,7 @@ pub struct Head {
 }
 
 /// What the bytes of a request so far tell of its head.
-#[derive(Debug, Drop)]
+#[derive(Drop)]
 pub enum HeadState {
     /// The head is whole and good.
     Whole(Head),
@@ -51,7 +51,7 @@ pub enum HeadState {
 }
 
 /// What the bytes of a request so far tell of where its head and its body end, and of whether the connection ends too.
-#[derive(Clone, Copy, Debug, PartialEq, Eq)]
+#[derive(Clone, Copy, PartialEq, Eq)]
 pub enum HeadEnds {
     /// The head is whole and good.
     Whole { length: u32, body: u32, close: bool },
@@ -63,7 +63,7 @@ pub enum HeadEnds {
 
 /// What the bytes of a request so far tell of where its head and its body end, of whether the connection ends too, and
 /// of what it asks for.
-#[derive(Clone, Copy, Debug, PartialEq, Eq)]
+#[derive(Clone, Copy, PartialEq, Eq)]
 pub enum HeadAsks {
     /// The head is whole and good.
     Whole {

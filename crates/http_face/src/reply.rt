@@ -11,7 +11,7 @@ use tgap_model::{Memory, Text};
 
 /// A reply: its status, the version that the connection reads after the request, the method that the path takes (where
 /// another was used), whether the connection ends after it, and its body.
-#[derive(Debug, Drop)]
+#[derive(Drop)]
 pub struct Reply {
     pub status: u16,
     pub pin: u64,

@@ -11,14 +11,14 @@ use tgap_model::Memory;
 /// Different numbers below a count, in a row. Contracts see the count and the list of the numbers. One more node closes the
 /// row to a circle: the end, whose number is the count. `nodes` has an entry for each number and for the end. A number that is
 /// not in the row stands below itself, and keeps what stood above it last.
-#[derive(Debug, Drop)]
+#[derive(Drop)]
 pub struct Links {
     nodes: Vec<Node>,
     len: usize,
 }
 
 /// The two neighbours of a node, side by side, so that one look in memory finds both.
-#[derive(Clone, Copy, Debug)]
+#[derive(Clone, Copy)]
 struct Node {
     above: u32,
     below: u32,

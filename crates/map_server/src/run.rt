@@ -2,7 +2,7 @@
 
 ghost use Rattle.std.specs.Prelude.{◌≡◌, ◌≢◌, ◌⊎◌, ◌++◌, ◌∷◌, [], true, ℕ, List, length, All, map, string_bytes, Contains, Some, None};
 ghost use Rattle.tgap_model.specs.Base.{BaseMap};
-ghost use Rattle.plain_io.specs.Faults.{Rises, Rose};
+ghost use Rattle.tgap_model.specs.Faults.{Rises, Rose};
 ghost use Rattle.plain_io.specs.Puts.{Appends};
 ghost use Rattle.plain_io.specs.declared.files.Which.{Which as Kind};
 ghost use Rattle.commands.specs.declared.outcome.Outcome.{Outcome as AnOutcome};

@@ -19,7 +19,7 @@ use tgap_model::{Checked, Holds, MapFault, Memory, Or, Text};
 
 /// A version of a map: its number, what was built of its base map, which is a planar partition, and the batch of edits by which
 /// it was made of the version before it, which is empty for the first version.
-#[derive(Debug, Drop)]
+#[derive(Drop)]
 pub struct Version {
     pub number: u64,
     pub built: Built,
@@ -44,7 +44,7 @@ impl Holds for Version {
 }
 
 /// Why no version was built.
-#[derive(Clone, Copy, Debug, PartialEq, Eq)]
+#[derive(Clone, Copy, PartialEq, Eq)]
 pub enum RebuildFail {
     /// A line of the batch is at fault.
     Edit(EditFault),

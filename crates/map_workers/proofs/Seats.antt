@@ -3,7 +3,7 @@ use Rattle.std.proofs.Common.{◌≡◌, ℕ, ◌+◌, ◌-◌, ◌^◌, ◌<◌
 use Rattle.std.proofs.lemmas.List.Elements.{All-cons, All-nil, All-head, All-tail}
 use Rattle.std.proofs.lemmas.List.Sums.{sum_by-append, sum_by-cons}
 use Rattle.plain_io.specs.declared.connection.EndKind.TheVariants as kind
-use Rattle.plain_io.specs.Faults.{Rose}
+use Rattle.tgap_model.specs.Faults.{Rose}
 use Rattle.plain_io.specs.declared.link.Link as OfLink
 use Rattle.plain_io.specs.Doors.{Connections, NoneCame}
 use Rattle.plain_io.specs.Links.{HasNone}

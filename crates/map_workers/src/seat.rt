@@ -1,7 +1,7 @@
 //! A seat of a store of versions serves the connections of a door.
 
 ghost use Rattle.std.specs.Prelude.{◌≡◌, ◌↔◌, ◌⊎◌, All, true};
-ghost use Rattle.plain_io.specs.Faults.{Rose};
+ghost use Rattle.tgap_model.specs.Faults.{Rose};
 ghost use Rattle.session.specs.Versions.{seen_of};
 ghost use Rattle.workers.specs.declared.end.ServeEnd.TheVariants.{Closed, DoorFailed};
 ghost use Rattle.workers.specs.Each.{EachBecame, OneBecame};

@@ -1,7 +1,7 @@
 -- The calls of an object in memory, of which the listed ones fail.
 use Rattle.std.specs.Prelude.{◌≡◌, Contains}
 use Rattle.plain_io.specs.declared.calls.Calls.{Calls}
-use Rattle.plain_io.specs.Faults.{Rises}
+use Rattle.tgap_model.specs.Faults.{Rises}
 
 -- the number of the next call is listed
 abbrev pub FailsNext : Calls → Type 0

@@ -3,7 +3,7 @@ use Rattle.std.specs.Prelude.{◌≡◌, ◌<◌, ◌≤◌, ℕ, ◌+◌, ◌++
 use Rattle.plain_io.specs.declared.connection.ConnectionEnd.{ConnectionEnd}
 use Rattle.plain_io.specs.declared.door.Arrival.{Arrival}
 use Rattle.plain_io.specs.declared.door.Arrival.TheVariants.{Came, Closed, Failed}
-use Rattle.plain_io.specs.Faults.{Rises}
+use Rattle.tgap_model.specs.Faults.{Rises}
 
 -- how many links came, and those that were handed back, each with the end of its connection
 pub record Connections (L : Type 0) : Type 0 where

@@ -2,7 +2,7 @@
 use Rattle.std.specs.Prelude.{◌≡◌, ◌<◌, ◌≤◌, ℕ, ◌+◌, ◌++◌, ◌∷◌, List, [], length, All, Option, IfSome, option_map, Result, Ok, Err}
 use Rattle.plain_io.specs.declared.harbour.HarbourFail.{HarbourFail}
 use Rattle.plain_io.specs.declared.harbour.HarbourFail.TheVariants.{Failed, Memory}
-use Rattle.plain_io.specs.Faults.{Rises}
+use Rattle.tgap_model.specs.Faults.{Rises}
 
 -- how many doors were given, and those that came back
 pub record Doors (D : Type 0) : Type 0 where

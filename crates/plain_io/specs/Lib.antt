@@ -1,4 +1,3 @@
-pub mod Faults
 pub mod Calls
 pub mod Loads
 pub mod Puts

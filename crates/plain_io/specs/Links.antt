@@ -1,6 +1,6 @@
 -- What a take from a link does to the bytes that were taken, to the count of faults and to the flag of the end.
 use Rattle.std.specs.Prelude.{◌≡◌, ℕ, ◌==◌, Bool, false, List, [], take, Option, IfSome, Result, Ok, Err}
-use Rattle.plain_io.specs.Faults.{Rises}
+use Rattle.tgap_model.specs.Faults.{Rises}
 use Rattle.plain_io.specs.Puts.{Appends}
 
 -- the front of the buffer, of that length, stands at the end of what was taken before; after a failure nothing was taken

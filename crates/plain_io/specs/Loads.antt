@@ -3,7 +3,7 @@ use Rattle.std.specs.Prelude.{◌≡◌, ◌≢◌, ℕ, ◌<◌, ◌≤◌, Lis
 use Rattle.plain_io.specs.declared.files.Which.{Which}
 use Rattle.plain_io.specs.declared.files.LoadFail.{LoadFail}
 use Rattle.plain_io.specs.declared.files.LoadFail.TheVariants.{Failed, TooLong, Memory}
-use Rattle.plain_io.specs.Faults.{Rises}
+use Rattle.tgap_model.specs.Faults.{Rises}
 
 -- what is told of the file of a name: nothing, that there is none, or its bytes
 pub data Told : Type 0 where

@@ -1,6 +1,6 @@
 -- What a put to a sink does to its bytes and to its count of faults.
 use Rattle.std.specs.Prelude.{◌≡◌, ℕ, List, ◌++◌, take, Option, Some, Result, Ok, Err, IfSome}
-use Rattle.plain_io.specs.Faults.{Rises}
+use Rattle.tgap_model.specs.Faults.{Rises}
 
 -- the bytes stand at the end of those that were told before
 abbrev pub Appends : Option (List ℕ) → Option (List ℕ) → List ℕ → Type 0

@@ -7,7 +7,7 @@ use tgap_model::List;
 
 /// How many calls were made, and the numbers, counted from 0, of those that fail. A count that stands at its type's end
 /// stays there.
-#[derive(Debug, Drop)]
+#[derive(Drop)]
 pub struct Calls {
     pub made: u64,
     pub failing: List<u64>,

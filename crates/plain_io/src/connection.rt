@@ -23,7 +23,7 @@ pub enum EndKind {
 
 /// The end of a connection: why it ended, its first and its last pinned version, and for each message that was handled
 /// the number of the version that the reply rests on and the row of its outcome, counted from 0.
-#[derive(Debug, Drop)]
+#[derive(Drop)]
 pub struct ConnectionEnd {
     pub how: EndKind,
     pub first: u64,

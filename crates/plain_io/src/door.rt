@@ -16,7 +16,7 @@ pub use sure::SureDoor;
 pub use tcp::TcpDoor;
 
 /// What a door gives next.
-#[derive(Debug, Drop)]
+#[derive(Drop)]
 pub enum Arrival<L> {
     /// The link of a new connection.
     Came(L),

@@ -1,7 +1,7 @@
 //! The files of a program.
 
 ghost use Rattle.std.specs.Prelude.{◌≡◌, ◌≢◌, ℕ, List, Err};
-ghost use Rattle.plain_io.specs.Faults.{Rises};
+ghost use Rattle.tgap_model.specs.Faults.{Rises};
 ghost use Rattle.plain_io.specs.Loads.{Told, Holds, Loads, CountsLoad, OthersStay};
 
 mod host;
@@ -15,7 +15,7 @@ pub use sure::{FileTexts, SureFiles};
 use tgap_model::Text;
 
 /// What a file is loaded as.
-#[derive(Clone, Copy, Debug, PartialEq, Eq)]
+#[derive(Clone, Copy, PartialEq, Eq)]
 pub enum Which {
     Map,
     Rules,
@@ -24,7 +24,7 @@ pub enum Which {
 }
 
 /// Why a file was not loaded.
-#[derive(Clone, Copy, Debug, PartialEq, Eq)]
+#[derive(Clone, Copy, PartialEq, Eq)]
 pub enum LoadFail {
     /// The file is missing, or reading it failed.
     Failed,
@@ -53,7 +53,7 @@ pub trait Files {
 }
 
 /// A count of faults for each kind of file. A count that stands at its type's end stays there.
-#[derive(Clone, Copy, Debug, PartialEq, Eq)]
+#[derive(Clone, Copy, PartialEq, Eq)]
 pub struct FaultCounts {
     pub map: u64,
     pub rules: u64,

@@ -10,7 +10,7 @@ use crate::row::NumberedSegment;
 use tgap_model::Fraction;
 
 /// Two segments that meet where they may not, by number, the lesser first, and a point that both hold.
-#[derive(Clone, Copy, Debug, PartialEq, Eq)]
+#[derive(Clone, Copy, PartialEq, Eq)]
 pub struct Meeting {
     pub i: u32,
     pub j: u32,

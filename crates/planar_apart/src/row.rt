@@ -8,7 +8,7 @@ use std::alloc::Global;
 use tgap_model::{LabelledSegment, List, Memory, Window};
 
 /// A segment with its number.
-#[derive(Clone, Copy, Debug)]
+#[derive(Clone, Copy)]
 pub struct NumberedSegment {
     pub number: u32,
     pub segment: LabelledSegment,

@@ -108,7 +108,7 @@ fn least_pair(alloc: Global, segments: &[LabelledSegment]) -> Result<Option<Meet
 
 /// What is known of segments: the least pair that meets, and whether it is shown that the faces agree down each vertical
 /// line.
-#[derive(Clone, Copy, Debug, PartialEq, Eq)]
+#[derive(Clone, Copy, PartialEq, Eq)]
 pub struct Known {
     pub meeting: Option<Meeting>,
     pub agree: bool,

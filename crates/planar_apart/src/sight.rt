@@ -16,7 +16,7 @@ use tgap_model::{LabelledSegment, MAX_COORDINATE, Point, Seg, Window};
 /// A segment with its bounding box. Of boxes those pass it that meet its box and do not lie wholly on one side of its line,
 /// so that a long slanting segment passes over most of what its box holds. A level or upright segment fills its box, and no
 /// box that meets it lies on one side: there the sides are not asked for.
-#[derive(Clone, Copy, Debug)]
+#[derive(Clone, Copy)]
 pub struct Sight {
     pub segment: Seg,
     pub area: Window,

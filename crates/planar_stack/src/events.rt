@@ -9,7 +9,7 @@ use std::alloc::Global;
 use tgap_model::{LabelledSegment, Memory};
 
 /// The end of a segment that has a number.
-#[derive(Clone, Copy, Debug)]
+#[derive(Clone, Copy)]
 pub struct End {
     pub abscissa: i64,
     pub number: u32,

@@ -12,7 +12,7 @@ use tgap_model::{LabelledSegment, MapFault};
 
 /// Where the faces down a stack disagree: on the line one half beyond the abscissa `line`, below `place` segments, the
 /// face `upper` that is reached from above meets the face `lower` that stands there. Either is 0 for the outside.
-#[derive(Clone, Copy, Debug, PartialEq, Eq)]
+#[derive(Clone, Copy, PartialEq, Eq)]
 pub struct StackGap {
     pub line: i64,
     pub place: u32,

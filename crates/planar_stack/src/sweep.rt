@@ -290,7 +290,7 @@ fn ended_by(ends: &[End], line: i64) -> usize
 
 /// The stack of the line one half beyond an abscissa, the segments above which the faces may disagree there, and how
 /// many of the starts have begun and of the ends have passed.
-#[derive(Debug, Drop)]
+#[derive(Drop)]
 pub struct Sweep {
     pub stack: Row,
     pub touched: Vec<u32>,

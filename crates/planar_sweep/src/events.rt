@@ -31,7 +31,7 @@ const BACK: u64 = 3;
 
 /// What an event does to the row: a segment leaves it, one comes, or one comes in the place of another one that ends
 /// where it begins.
-#[derive(Clone, Copy, Debug)]
+#[derive(Clone, Copy)]
 pub enum Event {
     Leaves { number: u32 },
     Comes { number: u32 },
@@ -136,7 +136,7 @@ fn is_back(segments: &[LabelledSegment], segs: &[Seg], number: usize) -> bool
 }
 
 /// Whether the line passes from a segment to the next one of its arc, or from that one back.
-#[derive(Clone, Copy, Debug)]
+#[derive(Clone, Copy)]
 struct Link {
     onward: bool,
     back: bool,

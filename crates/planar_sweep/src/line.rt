@@ -22,7 +22,7 @@ const NEAR: u32 = 8;
 
 /// The numbers of the segments that the line meets, a sample of them, in which a place is searched, and the number that
 /// came last. A place is only guessed: whether a segment may stand there is asked before it comes.
-#[derive(Debug, Drop)]
+#[derive(Drop)]
 pub struct Line {
     pub row: Links,
     pub sample: Sample,

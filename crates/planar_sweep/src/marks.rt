@@ -16,7 +16,7 @@ const BOUND: i64 = 2_147_483_647;
 
 /// An end of the segment of a number: the last point, or else the first. It is free where it is an end of the arc. A
 /// joint mark is of a first point and of the last point of the segment before it in the list, which goes on there.
-#[derive(Clone, Copy, Debug)]
+#[derive(Clone, Copy)]
 pub struct Mark {
     pub key: i64,
     pub number: u32,

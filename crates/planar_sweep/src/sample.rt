@@ -10,7 +10,7 @@ use std::alloc::Global;
 use tgap_model::{Memory, Seg};
 
 /// Some of the numbers of a row, in its order, and which these are. What it tells is a guess.
-#[derive(Debug, Drop)]
+#[derive(Drop)]
 pub struct Sample {
     pub numbers: Row,
     held: Vec<bool>,

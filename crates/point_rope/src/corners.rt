@@ -12,7 +12,7 @@ use grid_geo::area2;
 use tgap_model::Point;
 
 /// The least corner of the points so far, twice its area in square grid units, and the last two points.
-#[derive(Clone, Copy, Debug)]
+#[derive(Clone, Copy)]
 pub struct Corners {
     least: Option<u128>,
     before: Option<Point>,

@@ -15,14 +15,14 @@ use std::marker::Model;
 use tgap_model::{Edge, List, Memory, Point, Window};
 
 /// The points of an edge, lent.
-#[derive(Clone, Copy, Debug)]
+#[derive(Clone, Copy)]
 enum Row<'a> {
     Points(&'a [Point]),
     Runs(&'a Rope),
 }
 
 /// An edge that is lent. Contracts see the edge.
-#[derive(Debug, Drop)]
+#[derive(Drop)]
 pub struct EdgeRow<'a> {
     key: u32,
     left: u32,

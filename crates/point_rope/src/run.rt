@@ -7,14 +7,14 @@ use tgap_model::{Point, Window};
 
 /// What is known of some points: a box that holds them, and a bound that twice the area of the triangle of no three of
 /// them in a row is below, in square grid units.
-#[derive(Clone, Copy, Debug)]
+#[derive(Clone, Copy)]
 pub struct Summary {
     pub bounds: Window,
     pub least: u128,
 }
 
 /// Some points of a row that follow one another, with a summary of them where one is known.
-#[derive(Clone, Copy, Debug)]
+#[derive(Clone, Copy)]
 pub struct Run<'a> {
     pub points: &'a [Point],
     pub summary: Option<Summary>,

@@ -6,7 +6,7 @@ ghost use Rattle.refine_packets.specs.declared.fail.PacketFail.TheVariants.{Memo
 use tgap_model::Memory;
 
 /// Why there is no packet from one step to another.
-#[derive(Clone, Copy, Debug, PartialEq, Eq)]
+#[derive(Clone, Copy, PartialEq, Eq)]
 pub enum PacketFail {
     /// The step to start from is below the one to end at.
     NotCoarser,

@@ -4,7 +4,7 @@ ghost use Rattle.std.specs.Prelude.{◌≡◌, ◌<◌, ◌^◌};
 ghost use Rattle.ring_walk.specs.Sides.{numbered, other_way, same_side, side_number, turned, way_number};
 
 /// How a span is gone along: from its first point to its last, or from its last to its first.
-#[derive(Clone, Copy, Debug, PartialEq, Eq)]
+#[derive(Clone, Copy, PartialEq, Eq)]
 pub enum Way {
     Along,
     Against,
@@ -33,7 +33,7 @@ impl Way {
 }
 
 /// A span, by its number, with a way along it. The face of a side is the one at the left on that way.
-#[derive(Clone, Copy, Debug, PartialEq, Eq)]
+#[derive(Clone, Copy, PartialEq, Eq)]
 pub struct Side {
     pub span: u32,
     pub way: Way,

@@ -8,7 +8,7 @@ use tgap_model::Point;
 
 /// The directions in which an edge of a slice leaves its two nodes: those in which its first and its last arc do in the
 /// base map.
-#[derive(Clone, Copy, Debug, PartialEq, Eq)]
+#[derive(Clone, Copy, PartialEq, Eq)]
 pub struct EdgeEnds {
     /// The point after the first one, in the first arc.
     pub after_first: Point,
@@ -18,7 +18,7 @@ pub struct EdgeEnds {
 
 /// An edge or an arc, as far as a walk round faces has to know it: the two nodes, the point toward which it leaves each of
 /// them, and the faces at its left and right.
-#[derive(Clone, Copy, Debug, PartialEq, Eq)]
+#[derive(Clone, Copy, PartialEq, Eq)]
 pub struct Span {
     pub first: Point,
     pub last: Point,

@@ -7,7 +7,7 @@ use crate::side::Side;
 use tgap_model::Point;
 
 /// A side with the node that it leaves and the point toward which it does.
-#[derive(Clone, Copy, Debug)]
+#[derive(Clone, Copy)]
 pub struct Spoke {
     pub node: Point,
     pub toward: Point,

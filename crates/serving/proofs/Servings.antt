@@ -8,7 +8,7 @@ use Rattle.tgap_model.specs.Base.{BaseMap}
 use Rattle.tgap_model.specs.Partition.{IsPartition, base_segments}
 use Rattle.plain_io.specs.declared.link.Link as OfLink
 use Rattle.plain_io.specs.Doors.{Connections}
-use Rattle.plain_io.specs.Faults.{Rises, Rose}
+use Rattle.tgap_model.specs.Faults.{Rises, Rose}
 use Rattle.plain_io.specs.Harbours.{Doors, NoMoreBack}
 use Rattle.plain_io.specs.Puts.{Appends, AppendsFront}
 use Rattle.workers.specs.Closing.{MayTakeBack, TakesAllBack, OneFailed, NoneFailed}

@@ -6,7 +6,7 @@ use Rattle.line_forms.specs.Texts.{line, number_of}
 use Rattle.plain_io.specs.declared.files.Which.{Which}
 use Rattle.plain_io.specs.declared.link.Link as OfLink
 use Rattle.plain_io.specs.Doors.{Connections}
-use Rattle.plain_io.specs.Faults.{Rises, Rose}
+use Rattle.tgap_model.specs.Faults.{Rises, Rose}
 use Rattle.plain_io.specs.Harbours.{Doors}
 use Rattle.plain_io.specs.Loads.{Told}
 use Rattle.plain_io.specs.Puts.{Appends, AppendsFront}

@@ -2,7 +2,7 @@
 
 ghost use Rattle.std.specs.Prelude.{◌≡◌, ◌≤◌, ◌<◌, ◌+◌, ◌⊎◌, ◌∷◌, ◌++◌, [], map, reverse, length, decimal, All, IfOk, OnOk, OnErr, IfErr, vec_len, vec_capacity};
 ghost use Rattle.plain_io.specs.Doors.{NoneCame};
-ghost use Rattle.plain_io.specs.Faults.{Rises, Rose};
+ghost use Rattle.tgap_model.specs.Faults.{Rises, Rose};
 ghost use Rattle.version_store.specs.Growth.{IsPrefix};
 ghost use Rattle.version_store.specs.Store.{fresh_store, fresh_first, fresh_limit, fresh_places, seat_versions, press_versions, press_limit};
 ghost use Rattle.workers.specs.Closing.{MayTakeBack, TakesAllBack, OneFailed, NoneFailed};

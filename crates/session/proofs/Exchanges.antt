@@ -4,7 +4,7 @@ use Rattle.std.proofs.lemmas.List.{append-nil}
 use Rattle.std.proofs.lemmas.Bool.Decides.{nat_tests}
 use Rattle.tgap_model.specs.declared.failure.Memory.{Memory}
 use Rattle.plain_io.specs.Puts.{Puts}
-use Rattle.plain_io.specs.Faults.{Rose}
+use Rattle.tgap_model.specs.Faults.{Rose}
 use Rattle.session.specs.declared.row.Row.{Row}
 use Rattle.session.specs.declared.row.Row.TheVariants.{Read, Pinned, SeenPinned, Behind, Refused, Published, Stale, Full, NoMemory}
 use Rattle.version_store.specs.declared.pin.Pin.{Pin}

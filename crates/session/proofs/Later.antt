@@ -1,7 +1,7 @@
 -- What becomes of an item, where more of the versions was seen before that.
 use Rattle.std.proofs.Common.{◌≡◌, ◌∙◌, ℕ, ◌≤◌, Bool, Result, Ok, Err, arith}
 use Rattle.tgap_model.specs.declared.failure.Memory.{Memory}
-use Rattle.plain_io.specs.Faults.{Rose}
+use Rattle.tgap_model.specs.Faults.{Rose}
 use Rattle.session.specs.declared.turn.Turned.{Turned}
 use Rattle.session.specs.Items.{Asked}
 use Rattle.session.specs.Versions.{Seen, Continues}

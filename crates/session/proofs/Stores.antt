@@ -3,7 +3,7 @@ use Rattle.std.proofs.Common.{◌≡◌, ◌∙◌, ℕ, zero, suc, ◌+◌, ◌
 use Rattle.std.specs.Prelude.{slice_index, slice_set, IsOk, OnOk}
 use Rattle.std.proofs.lemmas.List.{map-append, length-map, get_or-set_same}
 use Rattle.tgap_model.specs.declared.holds.Holds as Held
-use Rattle.plain_io.specs.Faults.{Rose}
+use Rattle.tgap_model.specs.Faults.{Rose}
 use Rattle.map_version.specs.declared.version.Version.{Version}
 use Rattle.version_store.specs.declared.name.StoreName as Named
 use Rattle.version_store.specs.declared.seat.SeatOf.{SeatOf}

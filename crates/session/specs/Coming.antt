@@ -1,7 +1,7 @@
 -- What the bytes that are held begin with, and what comes next on a connection.
 use Rattle.std.specs.Prelude.{◌≡◌, ℕ, ◌⊎◌, Bool, true, false, List, ◌++◌, length}
 use Rattle.httparse.specs.Grammar.{RequestHead, print_request}
-use Rattle.plain_io.specs.Faults.{Rises}
+use Rattle.tgap_model.specs.Faults.{Rises}
 use Rattle.http_face.specs.declared.head.TheConstants.{BAD_REQUEST, CONTENT_TOO_LARGE}
 use Rattle.http_face.specs.declared.head.HeadEnds.TheVariants.{Bad}
 use Rattle.http_face.specs.Heads.{headers_of, closes, TellsHead}

@@ -1,7 +1,7 @@
 -- What becomes of one item.
 use Rattle.std.specs.Prelude.{◌≡◌, ℕ, ◌+◌, ◌<◌, ◌≤◌, length, Some, Bool, Result, Ok, Err, ⊤, codes}
 use Rattle.tgap_model.specs.declared.failure.Memory.{Memory}
-use Rattle.plain_io.specs.Faults.{Rose}
+use Rattle.tgap_model.specs.Faults.{Rose}
 use Rattle.session.specs.declared.row.Row.{Row}
 use Rattle.session.specs.declared.row.Row.TheVariants.{Behind, Published, NoMemory, Stale as StaleRow, Full as FullRow}
 use Rattle.line_forms.specs.Texts.{line}

@@ -1,7 +1,7 @@
 //! A connection from its first pin to its end.
 
 ghost use Rattle.std.specs.Prelude.{◌≡◌, ◌<◌, ◌+◌, [], false};
-ghost use Rattle.plain_io.specs.Faults.{Rose};
+ghost use Rattle.tgap_model.specs.Faults.{Rose};
 ghost use Rattle.plain_io.specs.declared.connection.EndKind.TheVariants.{ReadFault, WriteFault, Memory as WantOfMemory};
 ghost use Rattle.session.specs.Conversation.{IsConnection};
 ghost use Rattle.session.specs.Keeping.{AreKept, IsDeskOf};

@@ -1,7 +1,7 @@
 //! What becomes of an item: the rows of the table of outcomes.
 
 /// What becomes of a request or of a head at fault.
-#[derive(Clone, Copy, Debug, PartialEq, Eq)]
+#[derive(Clone, Copy, PartialEq, Eq)]
 pub enum Row {
     /// It is answered from the version that is pinned.
     Read,

@@ -1,7 +1,7 @@
 //! The requests of a connection, one after the other.
 
 ghost use Rattle.std.specs.Prelude.{◌≡◌, ◌<◌, ◌≤◌, ◌+◌, ◌-◌, ◌++◌, ◌∷◌, [], ◌||◌, ◌==◌, ℕ, Bool, true, false, List, length, take, drop, if◌then◌else◌};
-ghost use Rattle.plain_io.specs.Faults.{Rose};
+ghost use Rattle.tgap_model.specs.Faults.{Rose};
 ghost use Rattle.plain_io.specs.Puts.{Puts, CountsPut};
 ghost use Rattle.plain_io.specs.declared.connection.EndKind.TheVariants as kind;
 ghost use Rattle.session.specs.declared.serve.TheConstants.{MAX_REQUESTS};

@@ -2,7 +2,7 @@
 
 ghost use Rattle.std.specs.Prelude.{◌≡◌, ◌<◌, ◌≤◌, ◌+◌, ℕ, length, slice_get, Some, Err, IfOk, OnOk, OnErr};
 ghost use Rattle.std.specs.Arc.{arc_value};
-ghost use Rattle.plain_io.specs.Faults.{Rose};
+ghost use Rattle.tgap_model.specs.Faults.{Rose};
 ghost use Rattle.session.specs.Versions.{Seen, Continues, IsPin};
 ghost use Rattle.version_store.specs.declared.press.fail.PublishFail.TheVariants.{Stale, VersionsFull};
 

@@ -11,7 +11,7 @@ use std::marker::Model;
 use tgap_model::Memory;
 
 /// The forest of a map, and a look-up of the bounding boxes of its edges. Contracts see the forest.
-#[derive(Debug, Drop)]
+#[derive(Drop)]
 pub struct BoxedForest {
     forest: Forest,
     boxes: EdgeBoxes,

@@ -19,7 +19,7 @@ use tgap_model::{Base, BaseArc, List, StepRecord};
 
 /// A checked map, its tree of faces, its forest of edges with their boxes, the records of its steps, and how many
 /// points it has.
-#[derive(Debug, Drop)]
+#[derive(Drop)]
 pub struct Built {
     tree: FaceTree,
     boxed: BoxedForest,

@@ -12,14 +12,14 @@ use std::marker::Model;
 use tgap_model::{List, Memory};
 
 /// Twice the area of a corner that an edge may have, and the key of the edge.
-#[derive(Clone, Copy, Debug, PartialEq, Eq, PartialOrd, Ord)]
+#[derive(Clone, Copy, PartialEq, Eq, PartialOrd, Ord)]
 pub struct Entry {
     pub area: u128,
     pub key: u32,
 }
 
 /// Entries, of which one with the least area is taken first. Contracts see the list of the entries.
-#[derive(Debug, Drop)]
+#[derive(Drop)]
 pub struct CornerQueue {
     heap: BinaryHeap<Reverse<Entry>>,
 }

@@ -19,7 +19,7 @@ use vertex_drop::least_corner;
 /// For each label a queue of corners, in which each edge that has the label, and three points in a row, has an entry
 /// whose area is at most that of its least corner. A queue may have entries of other edges, of edges that ended, and
 /// others that are too small.
-#[derive(Debug, Drop)]
+#[derive(Drop)]
 pub struct CornerQueues {
     queues: Vec<CornerQueue>,
 }

@@ -22,7 +22,7 @@ use tgap_model::{Edge, List, Memory, MergeStep};
 
 /// Edges, each at the place of its key, and for each label the keys of the edges that have it at a side, and maybe of others. An
 /// edge has labels where it would have faces, and its points stand in a rope.
-#[derive(Debug, Drop)]
+#[derive(Drop)]
 pub struct EdgeTable {
     places: Vec<Option<RopeEdge>>,
     beside: Vec<List<u32>>,
@@ -31,7 +31,7 @@ pub struct EdgeTable {
 
 /// What a step changes in the table: the edges between its loser and its winner, which are out, and the keys of those that had the
 /// loser at a side and stay, in ascending order.
-#[derive(Debug, Drop)]
+#[derive(Drop)]
 pub struct Merging {
     pub ended: List<Edge>,
     pub losing: Vec<u32>,

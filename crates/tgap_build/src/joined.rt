@@ -14,7 +14,7 @@ use std::alloc::Global;
 use tgap_model::Memory;
 
 /// An edge before a step as a part of one after it: its key, and whether the later one runs against it.
-#[derive(Clone, Copy, Debug)]
+#[derive(Clone, Copy)]
 pub struct OldEdge {
     pub key: u32,
     pub turned: bool,

@@ -34,7 +34,7 @@ use tgap_model::{Edge, List, Memory, MergeStep, Piece};
 
 /// The edges after some steps of the history, with a look-up of them by boxes and the queues of their corners, where
 /// these were asked for.
-#[derive(Debug, Drop)]
+#[derive(Drop)]
 pub struct LiveEdges {
     pub edges: EdgeTable,
     pub sought: Option<EdgeBoxes>,
@@ -42,7 +42,7 @@ pub struct LiveEdges {
 }
 
 /// An edge by its key, and the pieces of which it is made: the edges before the step.
-#[derive(Debug, Drop)]
+#[derive(Drop)]
 pub struct Made {
     pub key: u32,
     pub pieces: List<Piece>,
@@ -50,7 +50,7 @@ pub struct Made {
 
 /// What a step changed, but for the points that it takes out: the edges that ended, and those that are new or had the
 /// loser at a side, in order of key.
-#[derive(Debug, Drop)]
+#[derive(Drop)]
 pub struct Changed {
     pub ended: List<Edge>,
     pub made: Vec<Made>,

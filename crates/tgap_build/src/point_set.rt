@@ -18,7 +18,7 @@ use tgap_model::{Memory, Point, Removal, Window};
 const FEW: usize = 8;
 
 /// Points in ascending order, each once.
-#[derive(Debug, Drop)]
+#[derive(Drop)]
 pub struct PointSet {
     points: Vec<Point>,
 }

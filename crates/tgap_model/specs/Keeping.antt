@@ -1,5 +1,6 @@
 -- What a keeper of batches tells: which entries are kept, what a call does to them, and the list of batches that they come to.
-use Rattle.std.specs.Prelude.{◌≡◌, ◌⊎◌, ℕ, ◌+◌, ◌-◌, ◌^◌, ◌<◌, ◌≤◌, min, Bool, ◌||◌, ◌==◌, nat_lt, List, [], ◌∷◌, ◌++◌, take, length, sum_by, fold, Option, Some, None, Result, Ok, Err, IfSome, if◌then◌else◌}
+use Rattle.std.specs.Prelude.{◌≡◌, ◌⊎◌, ℕ, ◌+◌, ◌-◌, ◌<◌, ◌≤◌, Bool, ◌||◌, ◌==◌, nat_lt, List, [], ◌∷◌, ◌++◌, take, length, sum_by, fold, Option, Some, None, Result, Ok, Err, IfSome, if◌then◌else◌}
+use Rattle.tgap_model.specs.Faults.{Rose}
 use Rattle.tgap_model.specs.declared.keep.KeepFail.{KeepFail}
 use Rattle.tgap_model.specs.declared.keep.KeepFail.TheVariants.{Failed, Full, Memory}
 
@@ -54,10 +55,6 @@ Keeps limit before told e result =
     × ((now : Kept) × (told ≡ Some now) × KeepsFrom limit start before now e result)
 
 -- ---- the count of faults
-
--- a count after some calls of which one failed; one that stands at its type's end counts as risen
-abbrev pub Rose : ℕ → ℕ → Type 0
-Rose before now = min (before + 1) (2 ^ 64 - 1) ≤ now
 
 -- the count rose where keeping failed, and else it stays
 abbrev pub CountsKeep : {T : Type 0} → Result T KeepFail → ℕ → ℕ → Type 0

@@ -15,4 +15,5 @@ pub mod Removals
 pub mod Slice
 pub mod Records
 pub mod WindowRecords
+pub mod Faults
 pub mod Keeping

@@ -14,7 +14,7 @@ use std::alloc::Global;
 use std::marker::Model;
 
 /// The transform of a map: scale and translation, kept for its reader.
-#[derive(Clone, Copy, Debug, PartialEq, Eq)]
+#[derive(Clone, Copy, PartialEq, Eq)]
 pub struct Transform {
     pub sx: i32,
     pub sy: i32,
@@ -24,7 +24,7 @@ pub struct Transform {
 
 /// The rules of merging: the ratio of the vertex removal, the weight of each class, and the
 /// compatibility of each class as loser with each class as winner, row after row.
-#[derive(Debug, Drop)]
+#[derive(Drop)]
 pub struct Rules {
     pub ratio: u32,
     pub weights: List<u32>,
@@ -32,7 +32,7 @@ pub struct Rules {
 }
 
 /// An arc: its points from its first end to its last, and the faces at its left and right.
-#[derive(Debug, Drop)]
+#[derive(Drop)]
 pub struct BaseArc {
     pub left: u32,
     pub right: u32,
@@ -41,7 +41,7 @@ pub struct BaseArc {
 
 /// A base map: rules, the class of each face, and the arcs. It keeps the rules of `docs/rules.md`. Several base maps may
 /// hold the same arcs at once.
-#[derive(Debug, Drop)]
+#[derive(Drop)]
 pub struct Base {
     transform: Transform,
     rules: Rules,

@@ -1,7 +1,7 @@
 //! One arc that still borders a face.
 
 /// An arc of the base map that is a border, with the two faces at its sides.
-#[derive(Clone, Copy, Debug, PartialEq, Eq)]
+#[derive(Clone, Copy, PartialEq, Eq)]
 pub struct BorderRow {
     /// The number of the arc.
     pub arc: u32,

@@ -9,7 +9,7 @@ use std::alloc::Global;
 use std::marker::Model;
 
 /// A base map that is a planar partition. It is made by whoever has shown that.
-#[derive(Debug, Drop)]
+#[derive(Drop)]
 pub struct Checked {
     base: Base,
 }

@@ -11,14 +11,14 @@ use std::marker::Model;
 use std::sync::Arc;
 
 /// Who holds the arcs: one base map, or several.
-#[derive(Debug, Drop)]
+#[derive(Drop)]
 enum Holding {
     Alone(List<BaseArc>),
     Together(Arc<List<BaseArc>>),
 }
 
 /// The arcs of a base map. Contracts see the list of them.
-#[derive(Debug, Drop)]
+#[derive(Drop)]
 pub(crate) struct HeldArcs {
     holding: Holding,
 }

@@ -4,10 +4,11 @@ ghost use Rattle.std.specs.Prelude.{◌≡◌, ℕ, Option, Some, None, Err, IsO
 ghost use Rattle.tgap_model.specs.declared.keep.KeepFail.TheVariants.{Full as IsFull};
 ghost use Rattle.tgap_model.specs.Keeping.{Kept, CountsKeep, Keeps};
 
+use std::alloc::Global;
 use std::marker::Send;
 
 /// Why a batch was not kept.
-#[derive(Clone, Copy, Debug, PartialEq, Eq)]
+#[derive(Clone, Copy, PartialEq, Eq)]
 pub enum KeepFail {
     /// Storing it failed. It may have been stored all the same.
     Failed,
@@ -31,7 +32,7 @@ pub trait Keep: Send {
     ghost told: { Self → Option Kept };
 
     /// Keeps the batch of the version with this number.
-    fn keep(&mut self, number: u64, batch: &[u8]) -> Result<(), KeepFail>
+    fn keep(&mut self, alloc: Global, number: u64, batch: &[u8]) -> Result<(), KeepFail>
         // The limit never changes.
         ensures limit { limit self.new ≡ limit self.old }
         // The count rises where keeping failed, and else it stays.
@@ -44,7 +45,7 @@ pub trait Keep: Send {
 }
 
 /// A keeper that keeps nothing: it answers that all is well, has no limit, and tells nothing.
-#[derive(Clone, Copy, Debug, PartialEq, Eq)]
+#[derive(Clone, Copy, PartialEq, Eq)]
 pub struct NoKeeper;
 
 impl Keep for NoKeeper {
@@ -54,7 +55,7 @@ impl Keep for NoKeeper {
 
     ghost told = { λ k. None };
 
-    fn keep(&mut self, _number: u64, _batch: &[u8]) -> Result<(), KeepFail>
+    fn keep(&mut self, _alloc: Global, _number: u64, _batch: &[u8]) -> Result<(), KeepFail>
         ensures always { IsOk result }
     {
         Ok(())

@@ -4,7 +4,7 @@ ghost use Rattle.std.specs.Prelude.{◌≡◌};
 ghost use Rattle.tgap_model.specs.History.{relabel};
 
 /// A step of the merge history: the loser and the winner become one new face.
-#[derive(Clone, Copy, Debug, PartialEq, Eq)]
+#[derive(Clone, Copy, PartialEq, Eq)]
 pub struct MergeStep {
     pub loser: u32,
     pub winner: u32,
@@ -26,7 +26,7 @@ impl MergeStep {
 }
 
 /// An arc as merging sees it.
-#[derive(Clone, Copy, Debug, PartialEq, Eq)]
+#[derive(Clone, Copy, PartialEq, Eq)]
 pub struct LabelledArc {
     /// The present label of the face at its left; 0 is the outside.
     pub left: u32,

@@ -5,7 +5,7 @@ use crate::list::List;
 use crate::slice::Edge;
 
 /// A vertex that comes back, at its place in the points of its edge.
-#[derive(Clone, Copy, Debug, PartialEq, Eq)]
+#[derive(Clone, Copy, PartialEq, Eq)]
 pub struct Put {
     pub at: u32,
     pub point: Point,
@@ -13,7 +13,7 @@ pub struct Put {
 
 /// A piece of an edge, which is an edge of the finer slice: its key, the place of its last point, the face that takes
 /// the side of the new face, and whether it runs against the edge.
-#[derive(Clone, Copy, Debug, PartialEq, Eq)]
+#[derive(Clone, Copy, PartialEq, Eq)]
 pub struct Piece {
     pub key: u32,
     pub last: u32,
@@ -22,7 +22,7 @@ pub struct Piece {
 }
 
 /// How an edge is refined: first vertices are put in, then it is cut into pieces.
-#[derive(Debug, Drop)]
+#[derive(Drop)]
 pub struct Mend {
     pub key: u32,
     pub puts: List<Put>,
@@ -31,7 +31,7 @@ pub struct Mend {
 
 /// How a slice is refined by one step: the new face becomes loser and winner again, edges that border it are mended,
 /// and the edges between the two come back.
-#[derive(Debug, Drop)]
+#[derive(Drop)]
 pub struct StepRecord {
     pub step: u32,
     pub loser: u32,
@@ -44,7 +44,7 @@ pub struct StepRecord {
 }
 
 /// The records of the steps from `from` down to `to + 1`.
-#[derive(Debug, Drop)]
+#[derive(Drop)]
 pub struct Packet {
     pub from: u32,
     pub to: u32,

@@ -12,7 +12,7 @@ use crate::list::List;
 use std::alloc::Global;
 
 /// A segment with the faces at its left and right.
-#[derive(Clone, Copy, Debug, PartialEq, Eq)]
+#[derive(Clone, Copy, PartialEq, Eq)]
 pub struct LabelledSegment {
     pub segment: Seg,
     pub left: u32,

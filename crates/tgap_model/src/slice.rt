@@ -7,14 +7,14 @@ use crate::geometry::Point;
 use crate::list::List;
 
 /// A face of a slice, with its class.
-#[derive(Clone, Copy, Debug, PartialEq, Eq)]
+#[derive(Clone, Copy, PartialEq, Eq)]
 pub struct FaceRow {
     pub face: u32,
     pub class: u32,
 }
 
 /// An edge of a slice: a row of arcs, or what the vertex removal left of it. Its key is the least number of its arcs.
-#[derive(Debug, Drop)]
+#[derive(Drop)]
 pub struct Edge {
     pub key: u32,
     pub left: u32,
@@ -32,7 +32,7 @@ impl Edge {
 }
 
 /// The map after so many steps: its faces by number, and its edges by key.
-#[derive(Debug, Drop)]
+#[derive(Drop)]
 pub struct Slice {
     pub step: u32,
     pub faces: List<FaceRow>,

@@ -6,7 +6,7 @@ use crate::list::List;
 use crate::text::Text;
 
 /// The rules of a rules file, with the names of the classes.
-#[derive(Debug, Drop)]
+#[derive(Drop)]
 pub struct NamedRules {
     /// The property of a geometry that names its class.
     pub property: Text,
@@ -18,7 +18,7 @@ pub struct NamedRules {
 }
 
 /// A polygon of a topology.
-#[derive(Debug, Drop)]
+#[derive(Drop)]
 pub struct RawPolygon {
     /// What its geometry has for the property that names classes: a text, or a whole number in decimals.
     pub kind: Option<Text>,
@@ -30,7 +30,7 @@ pub struct RawPolygon {
 }
 
 /// A topology as it is read: its arcs with absolute positions and without repeated ones, and its polygons.
-#[derive(Debug, Drop)]
+#[derive(Drop)]
 pub struct RawMap {
     pub transform: Transform,
     /// The points of each arc, in grid units.

@@ -7,7 +7,7 @@ use crate::slice::{Edge, FaceRow};
 
 /// How a window of a slice is refined by one step: the new face becomes loser and winner again, edges that stand in the window
 /// are mended, and edges and faces come that were not in it.
-#[derive(Debug, Drop)]
+#[derive(Drop)]
 pub struct WindowStep {
     pub step: u32,
     pub loser: u32,
@@ -19,7 +19,7 @@ pub struct WindowStep {
 }
 
 /// The records of a window for the steps from `from` down to `to + 1`.
-#[derive(Debug, Drop)]
+#[derive(Drop)]
 pub struct WindowPacket {
     pub from: u32,
     pub to: u32,

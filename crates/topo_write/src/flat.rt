@@ -15,7 +15,7 @@ use tgap_model::{Edge, FaceRow, List};
 
 /// A face with a ring of area 0, or with no ring of positive area. The key is the least one on its first ring of area 0, or
 /// else on its first ring: that of the edge with which the ring begins.
-#[derive(Clone, Copy, Debug, PartialEq, Eq)]
+#[derive(Clone, Copy, PartialEq, Eq)]
 pub struct FlatRing {
     pub face: u32,
     pub key: u32,

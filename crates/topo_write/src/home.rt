@@ -4,7 +4,7 @@ ghost use Rattle.std.specs.Prelude.{◌≡◌};
 ghost use Rattle.topo_write.specs.Polygons.{nearer};
 
 /// An outer ring of a face, by its place among these, with twice its area.
-#[derive(Clone, Copy, Debug)]
+#[derive(Clone, Copy)]
 pub struct Home {
     pub place: u32,
     pub area: i128,

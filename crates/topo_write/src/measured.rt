@@ -13,7 +13,7 @@ use std::alloc::Global;
 use tgap_model::{Edge, List, Memory};
 
 /// The rings of a slice.
-#[derive(Debug, Drop)]
+#[derive(Drop)]
 pub struct Measured {
     pub rings: List<List<Side>>,
     /// Twice the area of each.

@@ -3,7 +3,7 @@
 use tgap_model::Base;
 
 /// What an actor does, by the number of the actor.
-#[derive(Debug, Drop)]
+#[derive(Drop)]
 pub enum Event {
     /// It begins an edit from the version that it has pinned.
     Begin(u32),
@@ -18,7 +18,7 @@ pub enum Event {
 }
 
 /// What comes of an event, with the number of a version, or with the limit of their number.
-#[derive(Clone, Copy, Debug, PartialEq, Eq)]
+#[derive(Clone, Copy, PartialEq, Eq)]
 pub enum Outcome {
     /// The edit begins from this version.
     Began(u64),

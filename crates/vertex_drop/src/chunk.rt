@@ -17,7 +17,7 @@ use std::marker::Model;
 use tgap_model::{List, Memory, Point, Seg, Window};
 
 /// Some segments, and a box that holds them. Contracts see the list of the segments.
-#[derive(Debug, Drop)]
+#[derive(Drop)]
 pub struct Segments {
     items: List<Seg>,
     bounds: Window,
@@ -72,7 +72,7 @@ impl Segments {
 }
 
 /// The segments of a lent row of points, and a box that holds them. Contracts see the list of the segments.
-#[derive(Debug, Drop)]
+#[derive(Drop)]
 pub struct LentPath<'a> {
     points: &'a [Point],
     bounds: Window,
@@ -111,7 +111,7 @@ impl<'a> LentPath<'a> {
 }
 
 /// Segments of its own, or those of a lent row of points.
-#[derive(Debug, Drop)]
+#[derive(Drop)]
 pub enum Chunk<'a> {
     Own(Segments),
     Lent(LentPath<'a>),

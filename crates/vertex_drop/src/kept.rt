@@ -20,7 +20,7 @@ use tgap_model::{List, Memory, Point, Seg, Window};
 const CHUNK_SIZE: usize = 32;
 
 /// Segments in their order, in chunks; the segments after the last chunk grow. Contracts see the list of the segments.
-#[derive(Debug, Drop)]
+#[derive(Drop)]
 pub struct Kept<'a> {
     full: List<Chunk<'a>>,
     growing: Segments,

@@ -17,7 +17,7 @@ use tgap_model::{Memory, Seg};
 
 /// Where a sweep stands: at a vertex of an edge, by its key and its place. It sweeps the edges with these keys, which
 /// border the face `made`.
-#[derive(Clone, Copy, Debug)]
+#[derive(Clone, Copy)]
 pub struct Stand<'a> {
     pub made: u32,
     pub keys: &'a [u32],

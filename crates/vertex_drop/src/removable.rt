@@ -21,7 +21,7 @@ use std::alloc::Global;
 use tgap_model::{Memory, Point};
 
 /// When a triangle is small enough: the ratio times twice its area is at most `area`.
-#[derive(Clone, Copy, Debug)]
+#[derive(Clone, Copy)]
 pub struct Rule {
     pub ratio: u32,
     pub area: i128,
@@ -58,7 +58,7 @@ pub fn is_small_area(area: i128, loser_area: i128, ratio: u32) -> bool
 }
 
 /// Three points in a row of points.
-#[derive(Clone, Copy, Debug)]
+#[derive(Clone, Copy)]
 pub struct Corner {
     pub a: Point,
     pub b: Point,

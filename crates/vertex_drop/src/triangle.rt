@@ -13,7 +13,7 @@ use grid_geo::clear_of;
 use tgap_model::{Point, Seg, Window};
 
 /// Three points that are not on one line, and a box that holds them.
-#[derive(Clone, Copy, Debug)]
+#[derive(Clone, Copy)]
 pub struct Triangle {
     pub a: Point,
     pub b: Point,

@@ -4,7 +4,7 @@ use Rattle.std.specs.Prelude.{option_map}
 use Rattle.std.proofs.Common.{All, map}
 use Rattle.std.proofs.lemmas.List.{append-nil}
 use Rattle.std.proofs.lemmas.List.Elements.{All-cons, All-nil}
-use Rattle.plain_io.specs.Faults.{Rises, Rose}
+use Rattle.tgap_model.specs.Faults.{Rises, Rose}
 use Rattle.plain_io.specs.Harbours.{Doors, FewerBack, TakesBack, CountsBack}
 use Rattle.workers.specs.Closing.{MayTakeBack, TakesAllBack, CountsAllBack, OneFailed, NoneFailed}
 

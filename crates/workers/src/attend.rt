@@ -1,7 +1,7 @@
 //! A worker at a door.
 
 ghost use Rattle.std.specs.Prelude.{◌≡◌, ◌↔◌, ◌⊎◌, ◌++◌, ◌∷◌, List, [], false, true};
-ghost use Rattle.plain_io.specs.Faults.{Rises, Rose};
+ghost use Rattle.tgap_model.specs.Faults.{Rises, Rose};
 ghost use Rattle.plain_io.specs.Links.{HasNone};
 ghost use Rattle.std.specs.Thread.{IsSync};
 ghost use Rattle.workers.specs.declared.end.ServeEnd.TheVariants.{DoorFailed};

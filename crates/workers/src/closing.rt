@@ -1,7 +1,7 @@
 //! The end of serving.
 
 ghost use Rattle.std.specs.Prelude.{◌≡◌, map, length, All};
-ghost use Rattle.plain_io.specs.Faults.{Rose};
+ghost use Rattle.tgap_model.specs.Faults.{Rose};
 ghost use Rattle.version_store.specs.Growth.{IsPrefix};
 ghost use Rattle.version_store.specs.Store.{seat_versions, press_versions};
 ghost use Rattle.workers.specs.Closing.{MayTakeBack, TakesAllBack, CountsAllBack, OneFailed, NoneFailed};

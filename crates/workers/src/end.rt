@@ -1,7 +1,7 @@
 //! Why workers stopped.
 
 ghost use Rattle.std.specs.Prelude.{◌≡◌, ◌≤◌, ◌-◌, ◌^◌, ◌↔◌, ◌⊎◌, true, IsTrue};
-ghost use Rattle.plain_io.specs.Faults.{Rose};
+ghost use Rattle.tgap_model.specs.Faults.{Rose};
 ghost use Rattle.workers.specs.declared.end.ServeEnd.TheVariants.{DoorFailed};
 
 /// Why workers stopped.

@@ -1,7 +1,7 @@
 //! A worker's post: a door, and what serves the connections that come in there.
 
 ghost use Rattle.std.specs.Prelude.{◌≡◌, ◌↔◌, ◌⊎◌, All, true};
-ghost use Rattle.plain_io.specs.Faults.{Rose};
+ghost use Rattle.tgap_model.specs.Faults.{Rose};
 ghost use Rattle.workers.specs.declared.end.ServeEnd.TheVariants.{Closed, DoorFailed};
 ghost use Rattle.workers.specs.Each.{EachBecame, OneBecame};
 ghost use Rattle.workers.specs.Served.{ServesDoor};
@@ -22,7 +22,7 @@ pub struct PostOf<D, S> {
 
 impl<B, D: Door, S: Attend<B>> Work<B> for PostOf<D, S> {
     ghost use Rattle.std.specs.Prelude.{◌≡◌, ◌⊎◌, true};
-    ghost use Rattle.plain_io.specs.Faults.{Rose};
+    ghost use Rattle.tgap_model.specs.Faults.{Rose};
     ghost use Rattle.workers.specs.Served.{ServesDoor};
 
     ghost done = { λ old new. ServesDoor D.Line.Link (D.told old.door) (D.told new.door) (S.served old.seat new.seat)

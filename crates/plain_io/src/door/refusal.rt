@@ -3,7 +3,7 @@
 use std::io::Error;
 
 /// What a failed accept is about.
-#[derive(Clone, Copy, Debug, PartialEq, Eq)]
+#[derive(Clone, Copy, PartialEq, Eq)]
 pub enum Refusal {
     /// The connection that was coming: others may come.
     OfConnection,

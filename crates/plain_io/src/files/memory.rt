@@ -11,14 +11,14 @@ use std::alloc::Global;
 use tgap_model::{List, Text};
 
 /// A file in memory.
-#[derive(Debug, Drop)]
+#[derive(Drop)]
 pub struct MemoryFile {
     pub name: Text,
     pub bytes: Text,
 }
 
 /// Files in memory. They tell their bytes. A load of a name that none of them has is a fault, and so is a listed one.
-#[derive(Debug, Drop)]
+#[derive(Drop)]
 pub struct MemoryFiles {
     files: List<MemoryFile>,
     calls: Calls,

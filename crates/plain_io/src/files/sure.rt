@@ -9,7 +9,7 @@ use std::alloc::Global;
 use tgap_model::Text;
 
 /// The text of each kind of file.
-#[derive(Debug, Drop)]
+#[derive(Drop)]
 pub struct FileTexts {
     pub map: Text,
     pub rules: Text,
@@ -19,7 +19,7 @@ pub struct FileTexts {
 
 /// Files in memory that never fail: a load of a kind gives the text of that kind, whatever the name. They tell their
 /// bytes.
-#[derive(Debug, Drop)]
+#[derive(Drop)]
 pub struct SureFiles {
     texts: FileTexts,
 }

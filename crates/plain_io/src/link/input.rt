@@ -5,7 +5,7 @@ ghost use Rattle.std.specs.Prelude.{◌≡◌, ◌≤◌, ◌||◌, ◌==◌, �
 use tgap_model::{Memory, Text};
 
 /// Bytes of which a front was given, and whether their end was told.
-#[derive(Debug, Drop)]
+#[derive(Drop)]
 pub struct Input {
     bytes: Text,
     given: usize,

@@ -10,7 +10,7 @@ use std::alloc::Global;
 use tgap_model::{List, Memory, Text};
 
 /// The numbers of the takes and of the puts that fail, each counted from 0.
-#[derive(Debug, Drop)]
+#[derive(Drop)]
 pub struct FailingCalls {
     pub takes: List<u64>,
     pub puts: List<u64>,
@@ -18,7 +18,7 @@ pub struct FailingCalls {
 
 /// A link in memory, with room for a number of bytes that are put. It tells all its bytes. A put that does not fit is a
 /// fault, and so is each listed call.
-#[derive(Debug, Drop)]
+#[derive(Drop)]
 pub struct MemoryLink {
     input: Input,
     step: usize,

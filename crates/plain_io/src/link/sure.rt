@@ -9,7 +9,7 @@ use tgap_model::Text;
 
 /// A link in memory that never fails. It tells the bytes that it gives. It keeps nothing of what is put, and tells nothing
 /// of it.
-#[derive(Debug, Drop)]
+#[derive(Drop)]
 pub struct SureLink {
     input: Input,
 }

@@ -9,7 +9,7 @@ use tgap_model::{List, Memory};
 
 /// A sink in memory, with room for a number of bytes. It tells its bytes. A put that does not fit is a fault, and so is a
 /// listed one.
-#[derive(Debug, Drop)]
+#[derive(Drop)]
 pub struct MemorySink {
     bytes: Vec<u8>,
     room: usize,

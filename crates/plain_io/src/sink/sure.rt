@@ -5,7 +5,7 @@ ghost use Rattle.std.specs.Prelude.{None};
 use super::{Failed, Sink};
 
 /// A sink that never fails. It keeps nothing of what is put, and tells nothing of it.
-#[derive(Clone, Copy, Debug, PartialEq, Eq)]
+#[derive(Clone, Copy, PartialEq, Eq)]
 pub struct SureSink;
 
 impl Sink for SureSink {

@@ -1,14 +1,13 @@
 use Rattle.commands.proofs.Packets.{packet_done, packet_refused, steps_within}
 use Rattle.commands.proofs.packet.packet_of.Goals as goal
 
-pub returns-in_ok-packet_text-in-Ok : goal.returns-in_ok-packet_text-in-Ok
-returns-in_ok-packet_text-in-Ok c =
+pub returns-in-Ok : goal.returns-in-Ok
+returns-in-Ok c =
     let m = c.args.built.now in
-    let p = c.in-Ok.packet in
+    let text = c.in-Ok.text in
     let h = c.in-Ok.ensures in
-    let within = steps_within m c.args.from c.args.to p h.coarser h.high in
-    packet_done m c.args.from c.args.to p c.in_ok-packet_text-in-Ok.field-0 c.base-base.ensures.base c.base-base.ensures.partition within.0 within.1
-    h.exact h.fits h.leads h.joins c.in_ok-packet_text-in-Ok.ensures
+    let within = steps_within m c.args.from c.args.to text h.coarser h.high in
+    packet_done m c.args.from c.args.to text c.base-base.ensures.base c.base-base.ensures.partition within.0 within.1 h.exact
 
 pub returns-in-Err : goal.returns-in-Err
 returns-in-Err c =

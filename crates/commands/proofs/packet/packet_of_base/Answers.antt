@@ -10,4 +10,4 @@ pub returns : goal.returns
 returns g c =
     let same = c.in_ok-checked.ensures.sound in
     packet_passed c.args.base c.args.from c.args.to _ (rw same.0 at c.in_ok-checked.ensures.partition) same.1
-    (rw (c.in_ok-built.ensures, same.0) at c.packet_of.ensures)
+    (rw same.0 at c.packet_of_checked.ensures)

@@ -9,4 +9,4 @@ returns-in_err-checked g c =
 pub returns : goal.returns
 returns g c =
     let same = c.in_ok-checked.ensures.sound in
-    slice_passed c.args.base c.args.step _ (rw same.0 at c.in_ok-checked.ensures.partition) same.1 (rw same.0 at c.slice_of.ensures)
+    slice_passed c.args.base c.args.step _ (rw same.0 at c.in_ok-checked.ensures.partition) same.1 (rw same.0 at c.slice_of_checked.ensures)

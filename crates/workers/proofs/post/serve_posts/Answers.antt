@@ -1,5 +1,5 @@
 use Rattle.std.proofs.Common.{◌≡◌, ◌∙◌, sym, true}
-use Rattle.plain_io.specs.Faults.{Rose}
+use Rattle.tgap_model.specs.Faults.{Rose}
 use Rattle.workers.specs.declared.end.ServeEnd.TheVariants.{Closed, DoorFailed}
 use Rattle.workers.proofs.Parts.{each_weaker, all_first}
 use Rattle.workers.proofs.post.serve_posts.Goals as goal

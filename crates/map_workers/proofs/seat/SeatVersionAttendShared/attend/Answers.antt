@@ -1,6 +1,6 @@
 -- The connection that was served is one more.
 use Rattle.std.proofs.Common.{subst}
-use Rattle.plain_io.specs.Faults.{Rose}
+use Rattle.tgap_model.specs.Faults.{Rose}
 use Rattle.session.specs.Versions.{seen_of}
 use Rattle.map_workers.proofs.Seats.{served_more}
 use Rattle.map_workers.proofs.seat.SeatVersionAttendShared.attend.Goals as goal
