@@ -52,15 +52,14 @@ pub fn answer<R: Threads + Sync>(rt: &R, alloc: Global, size: GridSize) -> Resul
     line_of_base(rt, alloc, size.rows, base)
 }
 
-/// The line of a planar partition, of which the number of rows is given.
+/// The line of a base map that is a planar partition, of which the number of rows is given.
 fn line_of_base<R: Threads + Sync>(
     rt: &R,
     alloc: Global,
     rows: u32,
     base: Base,
 ) -> Result<Text, Outcome>
-    requires { IsPartition (base_segments base) }
-    ensures { IsEither (SaysLine rows base) (Done (line_of rows base)) (outcome_from result) }
+    ensures { IsPartition (base_segments base) → IsEither (SaysLine rows base) (Done (line_of rows base)) (outcome_from result) }
 {
     let checked = check(rt, alloc, base)?;
     line_of_checked(rt, alloc, rows, checked)

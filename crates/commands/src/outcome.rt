@@ -20,7 +20,7 @@ const USAGE: &[u8] =
 pub const SINK_FAULT: u8 = 6;
 
 /// Why a record is not replayed: a text is none, by its first bad line, or a record breaks a rule.
-#[derive(Clone, Copy, PartialEq, Eq)]
+#[derive(Clone, Copy, Debug, PartialEq, Eq)]
 pub enum Misfit {
     SliceLine { line: u32 },
     PacketLine { line: u32 },
@@ -28,7 +28,7 @@ pub enum Misfit {
 }
 
 /// What comes of a command, one variant for each row of the table of statuses in docs/formats.md.
-#[derive(Drop)]
+#[derive(Debug, Drop)]
 pub enum Outcome {
     /// The command was done; the text is what was asked for.
     Done(Text),

@@ -1,6 +1,6 @@
 //! Edits of a base map: what they make of one is a base map again. The functions do nothing: the contract of each is a law,
-//! which is proved with the crate. It stands on `tgap_model`, whose `Edits` says what each line of a batch does and when it
-//! is refused; `proofs/Examples.antt` computes that on a small map.
+//! which is proved with the crate. `specs/Edits.antt` says what each line of a batch does and when it is refused;
+//! `proofs/Examples.antt` computes that on a small map.
 #![tactic(auto)]
 
 ghost use Rattle.edit_laws.specs.EditLaws.{ClassesKeepMaps, MovesKeepMaps, AddsKeepMaps, DropsKeepMaps, BatchesKeepMaps};

@@ -51,7 +51,7 @@ pub enum HeadState {
 }
 
 /// What the bytes of a request so far tell of where its head and its body end, and of whether the connection ends too.
-#[derive(Clone, Copy, PartialEq, Eq)]
+#[derive(Clone, Copy, Debug, PartialEq, Eq)]
 pub enum HeadEnds {
     /// The head is whole and good.
     Whole { length: u32, body: u32, close: bool },
@@ -63,7 +63,7 @@ pub enum HeadEnds {
 
 /// What the bytes of a request so far tell of where its head and its body end, of whether the connection ends too, and
 /// of what it asks for.
-#[derive(Clone, Copy, PartialEq, Eq)]
+#[derive(Clone, Copy, Debug, PartialEq, Eq)]
 pub enum HeadAsks {
     /// The head is whole and good.
     Whole {

@@ -6,7 +6,7 @@ ghost use Rattle.http_face.specs.Routes.{method_of, method_word};
 use tgap_model::Window;
 
 /// The method that a path takes.
-#[derive(Clone, Copy, PartialEq, Eq)]
+#[derive(Clone, Copy, Debug, PartialEq, Eq)]
 pub enum Allow {
     Get,
     Post,
@@ -25,7 +25,7 @@ impl Allow {
 }
 
 /// What a method and a target ask for.
-#[derive(Clone, Copy, PartialEq, Eq)]
+#[derive(Clone, Copy, Debug, PartialEq, Eq)]
 pub enum Route {
     /// The numbers of the version that is read.
     Info,

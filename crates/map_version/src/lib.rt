@@ -1,4 +1,4 @@
-//! Edits of a base map, a batch of lines at a time, and the versions that are built of them. It stands on `tgap_model`, whose
+//! Edits of a base map, a batch of lines at a time, and the versions that are built of them. It stands on `edit_laws`, whose
 //! `Edits` says what each line does and when it is refused, and on `plain_io`, which cuts a batch into lines and words. A version
 //! is checked by `base_check` and built by `tgap_build`.
 #![tactic(auto)]

@@ -44,7 +44,7 @@ impl Holds for Version {
 }
 
 /// Why no version was built.
-#[derive(Clone, Copy, PartialEq, Eq)]
+#[derive(Clone, Copy, Debug, PartialEq, Eq)]
 pub enum RebuildFail {
     /// A line of the batch is at fault.
     Edit(EditFault),

@@ -15,7 +15,7 @@ pub use sure::{FileTexts, SureFiles};
 use tgap_model::Text;
 
 /// What a file is loaded as.
-#[derive(Clone, Copy, PartialEq, Eq)]
+#[derive(Clone, Copy, Debug, PartialEq, Eq)]
 pub enum Which {
     Map,
     Rules,

@@ -16,7 +16,7 @@ pub use sure::SureHarbour;
 pub use tcp::TcpHarbour;
 
 /// Why no doors were given.
-#[derive(Clone, Copy, PartialEq, Eq)]
+#[derive(Clone, Copy, Debug, PartialEq, Eq)]
 pub enum HarbourFail {
     /// The port could not be opened.
     Failed,

@@ -12,7 +12,7 @@ pub use memory::MemorySink;
 pub use sure::SureSink;
 
 /// A fault of the outside.
-#[derive(Clone, Copy, PartialEq, Eq)]
+#[derive(Clone, Copy, Debug, PartialEq, Eq)]
 pub struct Failed;
 
 /// A place to which bytes are put.

@@ -19,7 +19,7 @@ use tgap_model::{LabelledSegment, Memory, Seg};
 
 /// What a sweep shows: that no two segments have a point in common but a permitted one, and that the faces agree down
 /// each vertical line. What it does not show is not promised to be wrong.
-#[derive(Clone, Copy, PartialEq, Eq)]
+#[derive(Clone, Copy, Debug, PartialEq, Eq)]
 pub struct Shown {
     pub apart: bool,
     pub agree: bool,

@@ -21,7 +21,7 @@ use tgap_model::{List, Memory, Point, Window};
 
 /// Points that follow one another, with a box that holds them, and twice the area of their least corner. Contracts see
 /// the list of the points.
-#[derive(Drop)]
+#[derive(Debug, Drop)]
 pub struct FullRun {
     points: Vec<Point>,
     bounds: Window,

@@ -32,7 +32,7 @@ use tgap_model::{List, Memory, Point, Window};
 ///
 /// A long row lies in runs of at most some hundred points, with what is known of each run. The last points stand behind the
 /// full runs, and nothing is known of them: so a short row is a list, which costs what a list costs.
-#[derive(Drop)]
+#[derive(Debug, Drop)]
 pub struct Rope {
     full: Runs,
     last: Vec<Point>,

@@ -13,7 +13,7 @@ use std::marker::Model;
 use tgap_model::Memory;
 
 /// Some runs. Contracts see the list of the runs. The starts lie side by side in memory, so that a place is soon found.
-#[derive(Drop)]
+#[derive(Debug, Drop)]
 pub struct Runs {
     runs: Vec<FullRun>,
     starts: Vec<usize>,

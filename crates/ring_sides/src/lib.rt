@@ -1,4 +1,4 @@
-//! From the rings of a topology to the sides of its arcs. It stands on `tgap_model`, whose `Rings` says which base map a
+//! From the rings of a topology to the sides of its arcs. It stands on `topology_forms`, whose `Rings` says which base map a
 //! topology and its rules make, or what the first fault of the rings is. One function does nothing: its contract is a law of rings.
 #![tactic(auto)]
 

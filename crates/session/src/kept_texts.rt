@@ -48,12 +48,13 @@ impl KeptText {
 fn is_same(a: Route, b: Route) -> bool
     ensures { IsTrue result → a ≡ b }
 {
-    match (a, b) {
-        (Route::Info, Route::Info) => true,
-        (Route::Slice(step), Route::Slice(other)) => step == other,
-        (Route::Packet(from, to), Route::Packet(other, last)) => from == other && to == last,
-        (Route::Topo(step), Route::Topo(other)) => step == other,
-        _ => false,
+    match a {
+        Route::Info => matches!(b, Route::Info),
+        Route::Slice(step) => matches!(b, Route::Slice(other) if step == other),
+        Route::Packet(from, to) => matches!(b, Route::Packet(other, last) if from == other && to == last),
+        Route::Topo(step) => matches!(b, Route::Topo(other) if step == other),
+        Route::Window(_, _) | Route::BadNumber | Route::WrongMethod(_) | Route::NoRoute => false,
+        Route::Pin | Route::PinSeen(_) | Route::Edit => false,
     }
 }
 

@@ -166,7 +166,8 @@ pub(crate) fn route_answer(
 fn is_kept(asked: Route) -> bool {
     match asked {
         Route::Info | Route::Slice(_) | Route::Packet(_, _) | Route::Topo(_) => true,
-        _ => false,
+        Route::Window(_, _) | Route::BadNumber | Route::WrongMethod(_) | Route::NoRoute => false,
+        Route::Pin | Route::PinSeen(_) | Route::Edit => false,
     }
 }
 

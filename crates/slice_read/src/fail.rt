@@ -6,7 +6,7 @@ ghost use Rattle.slice_read.specs.declared.fail.ReadFail.TheVariants.{Memory as 
 use tgap_model::Memory;
 
 /// Why a map is not read at a step.
-#[derive(Clone, Copy, PartialEq, Eq)]
+#[derive(Clone, Copy, Debug, PartialEq, Eq)]
 pub enum ReadFail {
     /// The step is above the last one, which has this number.
     StepTooHigh { steps: u32 },

@@ -22,7 +22,7 @@ impl<T: Drop> From<AllocFailed<T>> for Memory {
 }
 
 /// A fault, or want of memory.
-#[derive(Drop)]
+#[derive(Debug, Drop)]
 pub enum Or<E> {
     /// The fault.
     Fault(E),

@@ -7,7 +7,7 @@ use crate::geometry::{Fraction, Point};
 use crate::limits::{MAX_ARCS, MAX_CLASSES, MAX_FACES, MAX_POINTS};
 
 /// What a limit is set on.
-#[derive(Clone, Copy, PartialEq, Eq)]
+#[derive(Clone, Copy, Debug, PartialEq, Eq)]
 pub enum LimitKind {
     Classes,
     Faces,
@@ -42,7 +42,7 @@ impl LimitKind {
 }
 
 /// Why a map is refused: the first fault, with what shows it.
-#[derive(Clone, Copy, PartialEq, Eq)]
+#[derive(Clone, Copy, Debug, PartialEq, Eq)]
 pub enum MapFault {
     /// The bytes are no JSON.
     NotJson,

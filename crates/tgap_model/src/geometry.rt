@@ -2,14 +2,14 @@
 
 /// A point with whole coordinates, in grid units; up is towards greater y. Of two points the one with less x comes
 /// first, or with the same x the one with less y.
-#[derive(Clone, Copy, PartialEq, Eq, PartialOrd, Ord)]
+#[derive(Clone, Copy, Debug, PartialEq, Eq, PartialOrd, Ord)]
 pub struct Point {
     pub x: i64,
     pub y: i64,
 }
 
 /// A point with rational coordinates `nx / d` and `ny / d`. The fraction need not be reduced.
-#[derive(Clone, Copy, PartialEq, Eq)]
+#[derive(Clone, Copy, Debug, PartialEq, Eq)]
 pub struct Fraction {
     pub nx: i128,
     pub ny: i128,
@@ -34,7 +34,7 @@ pub struct Shared {
 }
 
 /// A closed window of the plane: x from `x0` to `x1`, y from `y0` to `y1`, in grid units.
-#[derive(Clone, Copy, PartialEq, Eq)]
+#[derive(Clone, Copy, Debug, PartialEq, Eq)]
 pub struct Window {
     pub x0: i64,
     pub y0: i64,

@@ -4,7 +4,7 @@ ghost use Rattle.std.specs.Prelude.{◌≡◌};
 ghost use Rattle.tgap_model.specs.History.{relabel};
 
 /// A step of the merge history: the loser and the winner become one new face.
-#[derive(Clone, Copy, PartialEq, Eq)]
+#[derive(Clone, Copy, Debug, PartialEq, Eq)]
 pub struct MergeStep {
     pub loser: u32,
     pub winner: u32,

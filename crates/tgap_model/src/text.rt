@@ -7,7 +7,7 @@ use std::alloc::Global;
 use std::marker::Model;
 
 /// Bytes, most often lines of text. They need not be UTF-8.
-#[derive(Drop)]
+#[derive(Debug, Drop)]
 pub struct Text {
     bytes: Vec<u8>,
 }

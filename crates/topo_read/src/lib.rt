@@ -1,4 +1,4 @@
-//! A topology as it is read: TopoJSON 1.0 with whole positions. It stands on `tgap_model`, whose `Topology` says what the
+//! A topology as it is read: TopoJSON 1.0 with whole positions. It stands on `topology_forms`, whose `Topology` says what the
 //! bytes of a file tell and what their first fault is, and on `plain_io`, which reads a JSON value and looks into it.
 #![tactic(auto)]
 

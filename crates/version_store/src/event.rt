@@ -18,7 +18,7 @@ pub enum Event {
 }
 
 /// What comes of an event, with the number of a version, or with the limit of their number.
-#[derive(Clone, Copy, PartialEq, Eq)]
+#[derive(Clone, Copy, Debug, PartialEq, Eq)]
 pub enum Outcome {
     /// The edit begins from this version.
     Began(u64),

@@ -17,7 +17,7 @@ use tgap_model::{Edge, FaceRow, List, MAX_COORDINATE, Or, Point, are_without_rep
 
 /// The fault of a text of a slice or of a packet: the number of the first line that is out of form. A line that is
 /// missing, a last one without its line feed and what stands after the last one count as such a line.
-#[derive(Clone, Copy, PartialEq, Eq)]
+#[derive(Clone, Copy, Debug, PartialEq, Eq)]
 pub struct BadText {
     pub line: u32,
 }

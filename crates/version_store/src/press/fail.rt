@@ -6,7 +6,7 @@ ghost use Rattle.version_store.specs.declared.press.fail.PublishFail.TheVariants
 use tgap_model::Memory;
 
 /// Why a version is not published.
-#[derive(Clone, Copy, PartialEq, Eq)]
+#[derive(Clone, Copy, Debug, PartialEq, Eq)]
 pub enum PublishFail {
     /// The version that it was made from is older than the newest one, which has this number.
     Stale { newest: u64 },
