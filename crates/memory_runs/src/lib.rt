@@ -4,18 +4,11 @@
 mod maps;
 
 use commands::execute;
-pub use maps::{
-    CORNER, CROSSING, FOUR_SQUARES, HOLE_WITH_FACE, LONELY_FACE, NO_FACES, ONE_SQUARE, SPIKE,
-    SPIKE_WITH_ISLAND, THREE_SQUARES, TRIANGLES, TWO_APART, TWO_SQUARES, TWO_SQUARES_RATIO_0,
-};
+pub use maps::{HOLE_WITH_FACE, TWO_SQUARES};
 use plain_io::{Files, MemoryFile, MemoryFiles, MemorySink, Sink};
 use std::alloc::Global;
 use std::thread::Threads;
 use tgap_model::{List, Memory, Text};
-
-/// The line that is put where the words are no command.
-pub const USAGE: &str =
-    "usage: borders MAP STEP | check MAP [OBJECT RULES] | slice MAP STEP [OBJECT RULES] | packet MAP FROM TO [OBJECT RULES] | replay SLICE PACKET | grid N | serve MAP PORT WORKERS VERSIONS [OBJECT RULES]\n";
 
 /// The words of a line, which stand between blanks.
 pub fn words_of(alloc: Global, line: &str) -> Result<Vec<String>, Memory> {
@@ -71,15 +64,4 @@ pub fn answered<R: Threads + Sync, F: Files>(
     let mut out = MemorySink::new(alloc, 1000, List::new(alloc))?;
     let status = put_status(rt, alloc, words, files, &mut out)?;
     Ok((status, Text::from_slice(alloc, out.bytes())?))
-}
-
-/// The same, where the map alone is there, with these bytes.
-pub fn answered_of_map<R: Threads + Sync>(
-    rt: &R,
-    alloc: Global,
-    words: &str,
-    map: &[u8],
-) -> Result<(u8, Text), Memory> {
-    let mut files = files_of(alloc, &[("map", map)], List::new(alloc))?;
-    answered(rt, alloc, words, &mut files)
 }
