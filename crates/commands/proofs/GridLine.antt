@@ -1,16 +1,14 @@
 -- What the line of a generated map tells, and that there is room for its slices and its packet.
-use Rattle.std.proofs.Common.{◌≡◌, ℕ, ◌+◌, ◌-◌, ◌*◌, ◌^◌, ◌≤◌, inl, inr, Bool, true, false, cond, List, [], ◌∷◌, ◌++◌, drop, length, length-append, length-drop, reverse, Option, Some, None, Result, Err, codes, append_assoc, refl, ap, ap₂, ◌∙◌, subst, arith}
+use Rattle.std.proofs.Common.{◌≡◌, ℕ, ◌+◌, ◌-◌, ◌*◌, ◌^◌, ◌≤◌, inl, inr, Bool, true, false, cond, List, [], ◌∷◌, ◌++◌, length, Option, Some, None, Result, Err, codes, append_assoc, refl, ap, ap₂, ◌∙◌, subst, arith}
 use Rattle.std.specs.Prelude.{sum_by, not, MatchOption}
 use Rattle.std.specs.Result.{IsErrAnd}
 use Rattle.std.proofs.lemmas.Bool.{lt-ltb}
-use Rattle.std.proofs.lemmas.List.{length-reverse}
-use Rattle.std.proofs.lemmas.List.Sums.{sum_by-cons, sum_by-le-sum_by}
+use Rattle.std.proofs.lemmas.List.Sums.{sum_by-le-sum_by}
 use Rattle.lemmas.proofs.Counts.{sum_by-map}
 use Rattle.tgap_model.specs.declared.limits.TheConstants.{MAX_POINTS}
 use Rattle.tgap_model.specs.declared.failure.Or.{Or}
 use Rattle.tgap_model.specs.declared.failure.Or.TheVariants.{Fault}
 use Rattle.tgap_model.specs.declared.fault.MapFault.{MapFault}
-use Rattle.tgap_model.specs.declared.geometry.Point.{Point}
 use Rattle.tgap_model.specs.declared.base.BaseArc.{BaseArc}
 use Rattle.tgap_model.specs.declared.slice.Edge.{Edge}
 use Rattle.tgap_model.specs.declared.slice.Slice.{Slice}
@@ -19,7 +17,7 @@ use Rattle.tgap_model.specs.Base.{BaseMap, count_points, is_base}
 use Rattle.tgap_model.specs.Partition.{IsPartition, base_segments, map_fault}
 use Rattle.tgap_model.specs.History.{history_of}
 use Rattle.tgap_model.specs.Merged.{merged, is_border}
-use Rattle.tgap_model.specs.Chains.{Chain, Link, arc_number, chain_points, chains_at, link_points}
+use Rattle.tgap_model.specs.Chains.{Chain, Link, arc_number, chain_points, chains_at}
 use Rattle.tgap_model.specs.Removals.{edge_of, is_removed, removals_to, without}
 use Rattle.tgap_model.specs.Slice.{slice}
 use Rattle.line_forms.specs.Texts.{line}

@@ -1,5 +1,5 @@
 -- What comes of the packet of a map between two steps, as its definition says it and computes it.
-use Rattle.std.proofs.Common.{◌≡◌, ℕ, ◌≤◌, ◌<◌, ◌↔◌, inl, inr, true, false, List, ◌++◌, length, Some, None, Result, Ok, Err, refl, sym, ap, ◌∙◌, le-ltb, lt-ltb, subst, nat_lt, cond, Bool}
+use Rattle.std.proofs.Common.{◌≡◌, ℕ, ◌≤◌, ◌<◌, ◌↔◌, inl, inr, true, false, List, length, Some, None, Result, Ok, Err, refl, sym, ap, ◌∙◌, le-ltb, lt-ltb, subst, nat_lt, cond, Bool}
 use Rattle.std.proofs.lemmas.Bool.{cases_lt}
 use Rattle.std.specs.Result.{IsErrAnd}
 use Rattle.tgap_model.specs.declared.failure.Or.{Or}
@@ -13,7 +13,6 @@ use Rattle.tgap_model.specs.Partition.{IsPartition, base_segments, map_fault}
 use Rattle.grid_geo.specs.Evidence.{IsShownBy}
 use Rattle.tgap_model.specs.Records.{packet_of, replayed}
 use Rattle.tgap_model.specs.Slice.{slice}
-use Rattle.slice_forms.specs.SliceForms.{is_packet_row}
 use Rattle.wire_text.specs.SliceTexts.{packet_text, slice_text}
 use Rattle.wire_text.specs.SliceReading.{IsPacketText}
 use Rattle.face_merge.proofs.Steps.{history_is}

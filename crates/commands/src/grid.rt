@@ -29,7 +29,9 @@ use std::marker::Brand;
 use std::sync::ledger::{Blank, Ledger};
 use std::thread::Threads;
 use tgap_build::{Built, build};
-use tgap_model::{Base, BaseArc, Checked, Edge, Memory, Or, Packet, Slice, StepRecord, Steps, Text};
+use tgap_model::{
+    Base, BaseArc, Checked, Edge, Memory, Or, Packet, Slice, StepRecord, Steps, Text,
+};
 
 /// The command of these words after its name.
 pub fn parse(words: &[String]) -> Option<Command<'_>>
