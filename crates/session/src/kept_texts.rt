@@ -51,7 +51,8 @@ fn is_same(a: Route, b: Route) -> bool
     match a {
         Route::Info => matches!(b, Route::Info),
         Route::Slice(step) => matches!(b, Route::Slice(other) if step == other),
-        Route::Packet(from, to) => matches!(b, Route::Packet(other, last) if from == other && to == last),
+        Route::Packet(from, to) =>
+            matches!(b, Route::Packet(other, last) if from == other && to == last),
         Route::Topo(step) => matches!(b, Route::Topo(other) if step == other),
         Route::Window(_, _) | Route::BadNumber | Route::WrongMethod(_) | Route::NoRoute => false,
         Route::Pin | Route::PinSeen(_) | Route::Edit => false,
