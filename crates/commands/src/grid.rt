@@ -77,7 +77,14 @@ fn line_of_checked<R: Threads + Sync>(
     ensures { IsEither (SaysLine rows checked) (Done (line_of rows checked)) (outcome_from result) }
 {
     let built = build(rt, alloc, checked)?;
-    Ok(line_of(alloc, rows, &built)?)
+    line_of_built(alloc, rows, &built)
+}
+
+/// The line of what was built of a map, of which the number of rows is given; or what comes in its place.
+fn line_of_built(alloc: Global, rows: u32, built: &Built) -> Result<Text, Outcome>
+    ensures { IsEither (SaysLine rows built.now) (Done (line_of rows built.now)) (outcome_from result) }
+{
+    Ok(line_of(alloc, rows, built)?)
 }
 
 /// The line of what was built of a map, of which the number of rows is given.
