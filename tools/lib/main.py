@@ -4,14 +4,16 @@ import os
 import sys
 
 from command import Failure
+from words import PARSERS
 
-MODULES = {"import": "import_map", "where": "tell_fault", "export": "export_slice", "steps": "list_steps", "loss": "measure_loss"}
+MODULES = {"import": "import_map", "where": "tell_fault", "export": "export_slice", "steps": "list_steps", "loss": "measure_loss", "unnamed": "unnamed"}
 
 
 def main():
     tool, words = sys.argv[1], sys.argv[2:]
     try:
-        importlib.import_module(MODULES[tool]).main(words)
+        chosen = PARSERS[tool](words) if tool in PARSERS else words
+        importlib.import_module(MODULES[tool]).main(chosen)
         sys.stdout.flush()
     except Failure as failure:
         print(f"{tool}: {failure}", file=sys.stderr)
