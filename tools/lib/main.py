@@ -6,13 +6,14 @@ import sys
 from command import Failure
 from words import PARSERS
 
-MODULES = {"import": "import_map", "where": "tell_fault", "export": "export_slice", "steps": "list_steps", "loss": "measure_loss", "unnamed": "unnamed"}
+MODULES = {"import": "import_map", "where": "tell_fault", "export": "export_slice", "steps": "list_steps", "loss": "measure_loss"}
 
 
 def main():
     tool, words = sys.argv[1], sys.argv[2:]
     try:
-        chosen = PARSERS[tool](words) if tool in PARSERS else words
+        # The words first: help and words that are wrong want none of what the tool does.
+        chosen = PARSERS[tool](words)
         importlib.import_module(MODULES[tool]).main(chosen)
         sys.stdout.flush()
     except Failure as failure:

@@ -1,6 +1,7 @@
 """Which classes of a map no rule names: their areas count as the default class, and the program says nothing of it.
 
 It wants nothing but Python's own library, since the launcher asks it too: unnamed MAP OBJECT RULES."""
+import sys
 from collections import Counter
 
 from command import Failure, counted
@@ -52,6 +53,5 @@ def told_of(path, name, rules_path):
             f"{property_name!r} is: {listed}{more}"]
 
 
-def main(words):
-    for line in told_of(*words):
-        print(line)
+if __name__ == "__main__":
+    print("\n".join(told_of(*sys.argv[1:])))
