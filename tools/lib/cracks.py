@@ -28,9 +28,9 @@ def cracks(shapes, width):
 
 
 def is_open(polygon, holes, near_holes):
-    """Whether it is no whole hole between areas, which has a line round it by itself."""
-    around = [holes[number] for number in near_holes.numbers_at(polygon)]
-    return not any(hole.area < polygon.area * 1.001 and hole.contains(polygon.representative_point()) for hole in around)
+    """Whether it lies in no hole between areas, which has a line round it by itself and counts as a gap."""
+    point = polygon.representative_point()
+    return not any(holes[number].contains(point) for number in near_holes.numbers_at(point))
 
 
 def lies_between(polygon, shapes, nearby, width):
