@@ -5,7 +5,7 @@ import resource
 import subprocess
 
 import lib
-from imports import collection, square
+from imports import square
 
 CURVE = "CURVEPOLYGON(COMPOUNDCURVE(CIRCULARSTRING(0 0,10 10,20 0),(20 0,0 0)))"
 COLLECTION = "GEOMETRYCOLLECTION(POLYGON((0 0,10 0,10 10,0 10,0 0)),MULTIPOLYGON(((10 0,20 0,20 10,10 10,10 0))))"

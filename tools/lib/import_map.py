@@ -50,7 +50,8 @@ def name_outputs(chosen):
     chosen.meta = str(metadata.path_of(chosen.topology))
     for out in (chosen.topology, chosen.rules, chosen.meta):
         if os.path.exists(out) and os.path.exists(chosen.file) and os.path.samefile(out, chosen.file):
-            raise Failure(f"{out} is the source itself, which would be written over: name the topology, as by {CALLED} import {chosen.file} {stem}.map.json", WORDS)
+            raise Failure(f"{out} is the source itself, which would be written over: name the topology, as by {CALLED} import {chosen.file} {stem}.map.json",
+                          WORDS)
     if os.path.exists(chosen.rules) and not chosen.new_rules and property_of(chosen.rules) != (chosen.property or "class"):
         raise Failure(f"{chosen.rules} is there and has the property {property_of(chosen.rules)!r} in place of {chosen.property or 'class'!r}: name it by "
                       "--property, or have rules written anew by --new-rules")
@@ -211,7 +212,8 @@ def main(chosen):
     layer = read_areas(chosen.file, chosen)
     areas, crs = layer.areas, layer.crs
     chosen.crs_name = crs_code(crs)
-    told = [f"read {counted(len(areas), 'feature')} of {chosen.file}, layer {layer.name}, in {crs.GetName() if crs else 'an unnamed coordinate system'}", *layer.told]
+    system = crs.GetName() if crs else "an unnamed coordinate system"
+    told = [f"read {counted(len(areas), 'feature')} of {chosen.file}, layer {layer.name}, in {system}", *layer.told]
     grid = grid_of(areas, chosen, layer.is_auto)
     told.append(f"a step of the grid is {grid.cell:.10g} {crs.GetLinearUnitsName() if crs and crs.IsProjected() else 'in units of the coordinates'}")
     areas, shapes = without_doubles(areas, list(sound([grid.place(area.shape) for area in areas], areas, told)), told)
@@ -299,7 +301,8 @@ def changes(sorting):
     kept = {number for part in sorting.parts.values() if not part.made for number in part.claims}
     lost = [area.title for number, area in enumerate(sorting.areas) if number not in kept]
     if lost:
-        yield f"dropped, since nothing is left of it on the grid: {counted(len(lost), 'feature')}: {', '.join(lost[:SHOWN])}{' ..' if len(lost) > SHOWN else ''}"
+        more = " .." if len(lost) > SHOWN else ""
+        yield f"dropped, since nothing is left of it on the grid: {counted(len(lost), 'feature')}: {', '.join(lost[:SHOWN])}{more}"
     if sorting.thin:
         yield f"closed: {counted(sorting.thin, 'gap or overlap', 'gaps or overlaps')} no wider than a step of the grid"
     if sorting.mended:

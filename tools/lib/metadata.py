@@ -97,7 +97,8 @@ def crs_members(name, proj=None):
 
 def steps_table(rows, in_metres, paper=PAPER):
     """Which step suits which scale, as a short table: the scale is the one at which the least area is just seen."""
-    return [{"step": step, "faces": faces, "least": least, "scale": round(scale_of(least, paper)) if in_metres else None} for step, faces, least, _ in short(rows)]
+    return [{"step": step, "faces": faces, "least": least, "scale": round(scale_of(least, paper)) if in_metres else None}
+            for step, faces, least, _ in short(rows)]
 
 
 def area_members(source):

@@ -92,7 +92,8 @@ def write(exported, path):
     try:
         package = ogr.GetDriverByName("GPKG").CreateDataSource(str(path))
         layer = package.CreateLayer(LAYER, exported.crs, ogr.wkbMultiPolygon)
-        kinds = {"face": "integer", exported.property: "text" if exported.names else "integer", "area": "number", "name": "text", "names": "list", "made": "text"}
+        kinds = {"face": "integer", exported.property: "text" if exported.names else "integer", "area": "number", "name": "text", "names": "list",
+                 "made": "text"}
         write_rows(package, layer, faces_of(exported), {**kinds, **face_kinds(exported)}, [exported.shape(face) for face in exported.faces])
         rows, kinds = sources_of(exported)
         write_rows(package, package.CreateLayer(TABLE, None, ogr.wkbNone), rows, {"face": "integer", "name": "text", **kinds})

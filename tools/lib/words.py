@@ -164,8 +164,8 @@ def add_kept(parser):
 
 def export_words(words):
     parser = parser_of("export", EXPORT, EXPORT_END)
-    parser.add_argument("words", metavar="SLICE | MAP [OBJECT RULES]", nargs="+", help="a slice text, with its map behind it where that is known; or, with --step, "
-                        "--faces or --scale, a map alone. - is the standard input")
+    parser.add_argument("words", metavar="SLICE | MAP [OBJECT RULES]", nargs="+", help="a slice text, with its map behind it where that is known; or, "
+                        "with --step, --faces or --scale, a map alone. - is the standard input")
     add_program(parser)
     parser.add_argument("--to", nargs=2, metavar=("FORMAT", "OUT"), required=True, help=f"one of {', '.join(FORMATS)}, and the file")
     which = parser.add_mutually_exclusive_group()
