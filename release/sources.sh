@@ -11,12 +11,16 @@ source_files() { find crates/*/src crates/*/specs crates/*/proofs ! -type d; }
 # A line of sha256sum for crates.txt and for each source, in one order everywhere.
 source_sums() { { echo crates.txt && source_files | LC_ALL=C sort; } | tr '\n' '\0' | xargs -0 sha256sum --; }
 
-# One sum for all sources.
-sum_of_sources() { source_sums | sha256sum | cut -d ' ' -f 1; }
+# Whether there are sources here: a package has the released executable alone.
+has_sources() { [ -e crates.txt ]; }
+
+# One sum for all sources, or for those of the released executable where there are none here.
+sum_of_sources() { { if has_sources; then source_sums; else grep -v -e '^#' -e " $released\$" "$sums"; fi; } | sha256sum | cut -d ' ' -f 1; }
 
 # What is not as SOURCES has it, a line for each file; nothing where SOURCES is true of the checkout and of the released executable.
 differences() {
     [ -f "$sums" ] || { echo "$sums is missing"; return; }
+    has_sources || { is_released_one || echo "$released is another"; return; }
     wrong=$(LC_ALL=C sha256sum -c --quiet "$sums" 2>/dev/null) || wrong=${wrong:-$sums cannot be read by sha256sum}
     [ -z "$wrong" ] || echo "$wrong" | sed -e 's/: FAILED open or read$/ is missing/' -e 's/: FAILED$/ is another/'
     # Each file that SOURCES lists is there, or is told above; so where the numbers are the same, none was added.
@@ -33,7 +37,7 @@ added_source() {
 released_by() { sed -n 's/^# toolchain //p' "$sums"; }
 
 # Whether the released executable is the one of its own line in SOURCES, whatever the sources are.
-is_released_one() { grep -x "[0-9a-f]*  $released" "$sums" 2>/dev/null | sha256sum -c --status 2>/dev/null; }
+is_released_one() { grep -x "[0-9a-f]*  $released" "$sums" 2>/dev/null | sha256sum -c >/dev/null 2>&1; }
 
 # The stamp spares the launcher the sums of all sources: a call that found no difference leaves it, and a later one trusts it where nothing has changed
 # since. Where the tools, the rights or the file system do not give what it wants, there is none, and nothing is said.

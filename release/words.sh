@@ -2,8 +2,17 @@
 
 say() { echo "tgap: $*" >&2; }
 
+# What the user calls the launcher, and where the documents lie: a package puts both elsewhere.
+called=./tgap
+documents=
+
+# Puts these names into a text.
+placed() {
+    if [ "$called$documents" = ./tgap ]; then cat; else sed -e "s|\./tgap|$called|g" -e "s#\(^\|[ \"]\)\(docs\|examples\)/#\1$documents\2/#g"; fi
+}
+
 help_text() {
-    cat <<'END'
+    placed <<'END'
 One map of areas, kept once and served at every scale.
 
 usage: ./tgap COMMAND WORD...
@@ -14,7 +23,9 @@ usage: ./tgap COMMAND WORD...
       ./tgap check examples/columbus.json areas examples/columbus.rules.json
 
   slice MAP STEP [OBJECT RULES]
-      gives the map after STEP mergers: its faces, and the lines between them
+      gives the map after STEP mergers: its faces, and the lines between them. In
+      place of STEP, --faces N takes the first with at most N faces, --scale 1:N the
+      first whose areas are not too small for that scale (by ./tgap steps)
       ./tgap slice examples/two_squares.tgap 1
 
   packet MAP FROM TO [OBJECT RULES]
@@ -50,12 +61,12 @@ Tools beside the program, in Python over GDAL and Shapely; each has its own --he
 
 MAP is the file of a listing. With OBJECT and RULES it is the file of a topology
 (TopoJSON), OBJECT the name of one of its objects, or - for the only one, and RULES
-the file of its rules.
+the file of its rules. For a file, - is the standard input.
 
   build               proves the sources of this checkout and builds their program;
                       it wants rt, the command of the Rattle toolchain, takes about
                       an hour from nothing, and ends where its caller does
-  --help, -h, help    this text
+  --help, -h, help    this text; help COMMAND, or COMMAND --help, tells of one alone
   --version           the version, the sum of the sources, and the toolchain that
                       proved them
 
@@ -69,6 +80,14 @@ sentence on the standard error tells what was wrong.
 docs/guide.md     from your own data to a map that is accepted
 docs/formats.md   the texts, the refusals, and the statuses
 END
+}
+
+# The help of one command: its paragraph of the whole text.
+help_of() {
+    case $1 in
+        borders | check | slice | packet | replay | grid | serve) help_text | sed -n "/^  $1 /,/^\$/p" | sed "1s|^ *|usage: $called |" ;;
+        *) say "'$1' is no command ($called --help lists them)"; return 2 ;;
+    esac
 }
 
 # Whether a word is a number as the program reads it, between two others.
@@ -141,38 +160,39 @@ wrong_steps() {
 explain() {
     status=$1
     shift
-    # The second file that the words name.
+    # The second file that the words name, and the object before it.
     case ${1-},$# in
-        replay,3) second=$3 ;;
-        check,4) second=$4 ;;
-        slice,5) second=$5 ;;
-        packet,6) second=$6 ;;
-        serve,7) second=$7 ;;
-        *) second="" ;;
+        replay,3) object="" second=$3 ;;
+        check,4) object=$3 second=$4 ;;
+        slice,5) object=$4 second=$5 ;;
+        packet,6) object=$5 second=$6 ;;
+        serve,7) object=$6 second=$7 ;;
+        *) object="" second="" ;;
     esac
-    more="docs/formats.md, \"The command line\""
+    more="${documents}docs/formats.md, \"The command line\""
     case $status,${1-} in
         2,) help_text >&2; return ;;
-        2,*) fault=$(wrong_words "$@") more="./tgap --help, and $more" ;;
+        2,*) fault=$(wrong_words "$@") more="$called --help, and $more" ;;
         3,*) fault=$(wrong_file "$2" ${second:+"$second"}) ;;
         4,replay) fault="the slice in '$2' or the packet in '$3' is longer than 67,108,864 bytes" ;;
         4,*)
             fault="the map in '$2'${second:+ or its rules in '$second'} are not as they must be, and the answer tells the first fault"
             [ -n "$second" ] || fault="the map in '$2' is not as it must be, and the answer tells its first fault"
-            more="docs/formats.md, \"Faults of a map\", and docs/guide.md, \"When it is refused\""
+            fault="$fault; $called where '$2'${object:+ '$object'} on that answer names the areas and the place"
+            more="${documents}docs/formats.md, \"Faults of a map\", and ${documents}docs/guide.md, \"When it is refused\""
             ;;
         5,*) fault=$(wrong_steps "$@") ;;
         6,*) fault="the answer could not be written whole to the standard output: the disk may be full, or what reads it has ended" ;;
-        7,*) fault="there was not enough memory for '${2-}'" more="docs/performance.md" ;;
-        8,*) fault="port $3 could not be had, since another program has it or it is kept for the administrator, or a connection could not be taken" more="docs/deployment.md" ;;
+        7,*) fault="there was not enough memory for '${2-}'" more="${documents}docs/performance.md" ;;
+        8,*) fault="port $3 could not be had, since another program has it or it is kept for the administrator, or a connection could not be taken" more="${documents}docs/deployment.md" ;;
         9,*)
             fault="the slice in '$2' or the packet in '$3' is not as it must be, or they do not fit each other: the answer tells the line or the step"
-            more="docs/formats.md, \"Slices, windows and packets\""
+            more="${documents}docs/formats.md, \"Slices, windows and packets\""
             ;;
-        126,* | 127,*) fault="'$program' could not be started: it wants Linux on x86-64, with the GNU C library 2.34 or newer" more="README.md" ;;
+        126,* | 127,*) fault="'$program' could not be started: it wants Linux on x86-64, with the GNU C library $least_library or newer" more="${documents}README.md" ;;
         # What stopped the reader of the answer, or was sent by the user, is no fault.
         129,* | 130,* | 141,* | 143,*) return ;;
-        *) fault="the program ended with status $status, and was stopped by a signal where that is above 128" more="docs/guide.md" ;;
+        *) fault="the program ended with status $status, and was stopped by a signal where that is above 128" more="${documents}docs/guide.md" ;;
     esac
     say "$fault (status $status; more in $more)"
 }

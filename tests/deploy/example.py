@@ -26,6 +26,10 @@ def files(tests, served):
     for path, route in [(path, f"/{path.name}") for path in page] + [(path, f"/clients/js/{path.name}") for path in modules]:
         tests.same(f"the example serves {route}", served.ask("GET", route).told, (200, path.read_bytes()))
     tests.same("the example serves its page", served.ask("GET", "/").told, (200, (TOP / "examples/web/index.html").read_bytes()))
+    known = (TOP / "examples/columbus.meta.json").read_bytes()
+    reply = served.ask("GET", "/map/meta.json")
+    tests.same("the example serves what is known of its map", (reply.told, reply.headers["Content-Type"]), ((200, known), "application/json"))
+    tests.same("and takes nothing for it", (served.ask("POST", "/map/meta.json", b"{}").status, served.ask("PUT", "/map/meta.json").status), (405, 405))
     for route in ["/run", "/nginx.conf", "/README.md", "/../web/run", "/..%2frun", "/page", "/.git/config", "/error.log", "/said", "/leaflet/../said"]:
         tests.holds(f"the example keeps {route}", served.ask("GET", route).status in (400, 404), served.ask("GET", route).told)
     if LEAFLET.exists():

@@ -103,7 +103,7 @@ def by_host(tests, pieces, columbus, squares):
 
 def chosen_by_path(pieces):
     """What makes deploy/nginx.conf choose the map by the path: the document's lines in place of those that begin alike."""
-    alike = ["location = /map/edit {", 'location ~ "^/map/pin(/[0-9]+)?\\z" {', "location /map/ {", "location = /health {", 'rewrite "(?s)^/map/(.*)\\z" /$1 break;']
+    alike = ["location = /map/edit {", 'location ~ "^/map/pin(/[0-9]+)?\\z" {', "location = /map/meta.json {", "location /map/ {", "location = /health {", 'rewrite "(?s)^/map/(.*)\\z" /$1 break;']
     lines = piece(pieces, "by path: in place of the lines").splitlines()
     return [(CHOICE, piece(pieces, "by path: in place of map")), *zip(alike, lines, strict=True)]
 
@@ -112,6 +112,7 @@ def by_path(tests, pieces, columbus, squares):
     with Front({"columbus": columbus.port, "holland": squares.port}, lambda text: exchanged(text, chosen_by_path(pieces))) as front:
         tests.same("the map of the first path", faces_of(front.ask("GET", "/columbus/map/info")), (200, 49))
         tests.same("the map of the second path", faces_of(front.ask("GET", "/holland/map/info?a=b")), (200, 2))
+        tests.same("the metadata by path", front.ask("GET", "/holland/map/meta.json").told, (200, b"what is known\n"))
         tests.same("a window by path", front.ask("GET", "/holland/map/window/0/0/0/1/1").status, 200)
         tests.same("the health of each by path", [faces_of(front.ask("GET", f"/{name}/health")) for name in ["columbus", "holland"]], [(200, 49), (200, 2)])
         for path in ["/other/map/info", "/other/map/edit", "/map/info", "/holland/info"]:

@@ -143,6 +143,7 @@ class Front(Running):
         for folder in ["etc", "log", "page", "acme", "run"]:
             (self.room / folder).mkdir()
         (self.room / "page/index.html").write_text("the page\n")
+        (self.room / "page/meta.json").write_text("what is known\n")
         make_certificate(self.room / "etc")
         make_password(self.room / "etc/editors")
         self.places = {}

@@ -112,6 +112,9 @@ def reach():
     main_process, state, result = shown("MainPID", "ActiveState", "Result")
     tell("the unit", [state, result], ["active", "success"])
     tell("the main process", pathlib.Path(f"/proc/{main_process}/comm").read_text(), "tgap\n")
+    log = subprocess.run(["journalctl", "-u", UNIT, "-o", "cat", "--no-pager"], capture_output=True, text=True, check=False).stdout
+    version = pathlib.Path("/repository/VERSION").read_text().strip()
+    tell("the log tells the version", f"tgap-unit: tgap {version}, history {token()}" in log.splitlines(), True)
     place = RUN / "columbus" / f"{token()}.sock"
     tell("who reaches it", [connects_as(user, place) for user in ["www-data", "nobody"]], [True, False])
     tell("what the front server names", ask("GET", "/map/info").headers["Tgap-History"], token())

@@ -18,6 +18,7 @@ AFTER = r"""
 echo "stands $(stat -c '%U %G %a' /srv/tgap/maps /etc/tgap/editors /run/tgap/columbus/*.sock | tr '\n' ' ')"
 curl -fsS --retry 20 --retry-delay 1 --cacert /etc/tgap/certificate.pem --resolve "$NAME:443:127.0.0.1" "https://$NAME/map/info"
 curl -sS --cacert /etc/tgap/certificate.pem --resolve "$NAME:443:127.0.0.1" -o page "https://$NAME/" && cmp page examples/web/index.html && echo 'the page'
+curl -sS --cacert /etc/tgap/certificate.pem --resolve "$NAME:443:127.0.0.1" -o known "https://$NAME/map/meta.json" && cmp known examples/columbus.meta.json && echo 'the metadata'
 for path in run nginx.conf settings.py; do
     curl -sS --cacert /etc/tgap/certificate.pem --resolve "$NAME:443:127.0.0.1" -o /dev/null -w "$path %{http_code}\n" "https://$NAME/$path"
 done
@@ -27,7 +28,7 @@ tar -tzf /var/backups/tgap.tar.gz | grep -c -e columbus.json -e editors -e batch
 """
 SAID = [
     r"ok faces 49 arcs 134 points 877", r"version 0 steps 48 faces 49 .*", r"version 0 steps 48 faces 49 .*", r"published 1", r"published 1",
-    r"stands root tgap 750 root www-data 640 tgap www-data 660 ", r"version 1 steps 48 faces 49 .*", r"the page", r"run 404", r"nginx.conf 404", r"settings.py 404",
+    r"stands root tgap 750 root www-data 640 tgap www-data 660 ", r"version 1 steps 48 faces 49 .*", r"the page", r"the metadata", r"run 404", r"nginx.conf 404", r"settings.py 404",
     r"the port is closed", r" 1 tgap", r"3",
 ]
 
@@ -71,6 +72,7 @@ def lay_out(room, executable):
     for name in ["deploy", "examples", "clients"]:
         if (TOP / name).exists():
             shutil.copytree(TOP / name, repository / name)
+    shutil.copy(TOP / "VERSION", repository)
     (repository / "release").mkdir()
     shutil.copy(executable, repository / "release/tgap-x86_64-linux")
     (room / "bin").mkdir()

@@ -35,6 +35,8 @@ WHILE_IT_SERVES = [
     Row("POST", "/", 405, b"wrong method\n", "no-cache", {"allow": "GET, HEAD"}),
     Row("GET", "/map/slice/49", 400, b"step too high 48\n", more={"tgap-version": "0"}),
     Row("GET", "/map/nothing", 404, b"no route\n", more={"tgap-version": "0"}),
+    Row("GET", "/map/meta.json", 200, b"what is known\n", "no-cache"),
+    Row("POST", "/map/meta.json", 405, b"wrong method\n", "no-cache", {"allow": "GET, HEAD"}),
     Row("POST", "/map/pin", 200, b"pin 0\n", more={"tgap-version": "0"}),
     Row("POST", "/map/info", 405, b"wrong method\n", more={"allow": "GET"}),
     Row("GET", "/map/pin", 405, b"wrong method\n", more={"allow": "POST"}),

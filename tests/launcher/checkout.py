@@ -20,6 +20,8 @@ BUILD_TOOLS = ["cmp", "cp", "dirname", "git", "install", "mkdir", "mktemp", "npr
 # What it needs to write its stamp.
 STAMP_TOOLS = ["rm", "touch"]
 PARTS = ("src", "specs", "proofs")
+# That of the system, which needs nothing of its user's environment.
+PYTHON = "/usr/bin/python3"
 
 
 def sum_of(data):
@@ -75,11 +77,14 @@ class Checkout:
         self.launcher, self.released, self.sums = self.top / "tgap", self.top / "release/tgap-x86_64-linux", self.top / "release/SOURCES"
         self.stamp = self.top / "release/.checked"
         self.built = self.top / "crates/map_server/out/map_server"
-        for path in (self.launcher, self.top / "release/make", self.top / ".ci/run"):
+        for path in (self.launcher, self.top / "release/make", self.top / ".ci/run", *(path for path in (self.top / "tools").iterdir() if path.is_file())):
             path.chmod(0o755)
         self.bare = folder_of_tools(room / "tools", TOOLS)
         self.unbound = folder_of_tools(room / "tools without setpriv", [name for name in TOOLS if name != "setpriv"])
         self.full = folder_of_tools(room / "tools with rt", TOOLS + BUILD_TOOLS)
+        self.python = folder_of_tools(room / "tools with python3", [*TOOLS, "dirname"])
+        if os.access(PYTHON, os.X_OK):
+            (self.python / "python3").symlink_to(PYTHON)
         self.counting = folder_of_tools(room / "tools that count sums", [name for name in TOOLS + STAMP_TOOLS if name != "sha256sum"])
         script(self.counting / "sha256sum", f'echo >>"{room}/sums"\nexec {shutil.which("sha256sum")} "$@"')
         self.release(self.executable.read_bytes())

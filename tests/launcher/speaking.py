@@ -31,8 +31,8 @@ SENTENCES = [
     (["check", "examples"], 3, ["'examples' is a folder"]),
     (["check", COLUMBUS, "areas", "no such rules"], 3, ["no file 'no such rules'"]),
     (["replay", "no such slice", TWO], 3, ["no file 'no such slice'"]),
-    (["check", "examples/crossing.tgap"], 4, ["'examples/crossing.tgap'", "docs/formats.md", "docs/guide.md"]),
-    (["check", COLUMBUS, "areas", COLUMBUS], 4, [f"'{COLUMBUS}' or its rules in '{COLUMBUS}'"]),
+    (["check", "examples/crossing.tgap"], 4, ["'examples/crossing.tgap'", "./tgap where 'examples/crossing.tgap' on", "docs/formats.md", "docs/guide.md"]),
+    (["check", COLUMBUS, "areas", COLUMBUS], 4, [f"'{COLUMBUS}' or its rules in '{COLUMBUS}'", f"./tgap where '{COLUMBUS}' 'areas' on"]),
     (["slice", TWO, "2"], 5, [f"'{TWO}'", "2 steps"]),
     (["packet", TWO, "0", "1"], 5, ["FROM, 0", "TO, 1"]),
     (["packet", TWO, "3", "1"], 5, [f"'{TWO}'", "3 steps"]),
@@ -80,6 +80,71 @@ def examples_of_the_help_work(tests):
     finally:
         for name in ("coarse", "packet"):
             (tests.checkout.top / name).unlink(missing_ok=True)
+
+
+def help_of_one_command(tests):
+    """By each of its words, without a tool or a program; the commands of the tools by their own help, which wants no library."""
+    checkout = tests.checkout
+    for command in COMMANDS:
+        texts = [checkout.run(*words) for words in (["help", command], [command, "--help"], [command, "-h"])]
+        tests.same(f"the help of {command} by three words", texts[1:], texts[:1] * 2)
+        status, out, said = texts[0]
+        text = out.decode()
+        tests.same(f"the help of {command}", (status, text.startswith(f"usage: ./tgap {command} "), f"\n      ./tgap {command} " in text, said), (0, True, True, ""))
+        tests.same(f"the help of {command} has no other", [other for other in COMMANDS if f"\n  {other} " in text], [])
+    for tool in TOOLS:
+        status, out, _ = checkout.run("help", tool, tools=checkout.python)
+        tests.same(f"the help of {tool}", (status, out.decode().startswith(f"usage: ./tgap {tool} ")), (0, True))
+    tests.same("the help of what is no command", checkout.run("help", "frobnicate"), (2, b"", "tgap: 'frobnicate' is no command (./tgap --help lists them)\n"))
+
+
+def standard_input_is_a_file(tests):
+    """For a map, its rules, a slice or a packet - is the standard input; for an object it is the only one."""
+    checkout = tests.checkout
+    top = checkout.top
+    slice_, packet = tests.text("slice", top / TWO, "1"), tests.text("packet", top / TWO, "1", "0")
+    (checkout.room / "packet").write_bytes(packet)
+    columbus = tests.text("check", top / COLUMBUS, "areas", top / RULES)
+    for name, words, given, answer in [
+            ("a listing", ["check", "-"], (top / TWO).read_bytes(), tests.text("check", top / TWO)), ("a slice of one", ["slice", "-", "1"], (top / TWO).read_bytes(), slice_),
+            ("a topology", ["check", "-", "-", RULES], (top / COLUMBUS).read_bytes(), columbus), ("rules", ["check", COLUMBUS, "-", "-"], (top / RULES).read_bytes(), columbus),
+            ("a slice", ["replay", "-", checkout.room / "packet"], slice_, tests.text("slice", top / TWO, "0"))]:
+        with checkout.start(*words, stdin=subprocess.PIPE) as started:
+            out, said = started.communicate(given, timeout=SECONDS)
+        tests.same(f"{name} on the standard input", (started.returncode, out, said), (0, answer, b""))
+
+
+def steps_by_a_measure(tests):
+    """A slice by its number of faces or by a scale, wherever the option stands."""
+    checkout = tests.checkout
+    wanted = tests.text("slice", checkout.top / COLUMBUS, "24", "areas", checkout.top / RULES)
+    for words in (["slice", COLUMBUS, "--faces", "25", "areas", RULES], ["slice", "--faces", "25", COLUMBUS, "areas", RULES], ["slice", COLUMBUS, "areas", RULES, "--faces", "25"]):
+        tests.same(f"{words}", checkout.run(*words, tools=checkout.python), (0, wanted, ""))
+    # The two squares have 100 square units each: at 1 : 6000 the least area is 144.
+    for scale, step in (("1:5000", "0"), ("1:6000", "1")):
+        tests.same(f"a slice at {scale}", checkout.run("slice", TWO, "--scale", scale, tools=checkout.python), (0, tests.text("slice", checkout.top / TWO, step), ""))
+    status, out, said = checkout.run("slice", TWO, "--faces", "0", tools=checkout.python)
+    tests.same("no faces", (status, out, "--faces" in said), (2, b"", True))
+    status, out, said = checkout.run("slice", "-", "--faces", "1", tools=checkout.python)
+    tests.same("faces of the standard input", (status, out, "standard input" in said), (2, b"", True))
+
+
+def typos_in_rules_are_told(tests):
+    """The answer is the program's; a line tells which areas count as the default, where a Python is there."""
+    checkout = tests.checkout
+    with checkout.altered("typo.json", (checkout.top / RULES).read_bytes().replace(b'"wood"', b'"wodo"')):
+        for words in (["check", COLUMBUS, "areas"], ["slice", COLUMBUS, "24", "areas"], ["packet", COLUMBUS, "24", "23", "areas"]):
+            answer = tests.text(*(checkout.top / word if word == COLUMBUS else word for word in words), checkout.top / "typo.json")
+            status, out, said = checkout.run(*words, "typo.json", tools=checkout.python)
+            tests.same(f"{words[0]} with a typo: what the program answers", (status, out), (0, answer))
+            tests.tell(f"{words[0]} with a typo", [] if re.fullmatch(r"tgap: \d+ areas count as 'field', the default of typo\.json, .*: 'wood' \(\d+\)\n", said) else [f"got {said!r}"])
+            tests.same(f"{words[0]} with a typo, without a Python", checkout.run(*words, "typo.json"), (0, answer, ""))
+        port = str(free_port())
+        with checkout.start("serve", COLUMBUS, port, "1", "1", "areas", "typo.json", tools=checkout.python) as started:
+            served = started.stdout.readline()
+            started.terminate()
+            tests.same("serve with a typo", (served, b"'wood'" in started.stderr.read()), (f"serving {port}\n".encode(), True))
+    tests.same("nothing is told where all are named", checkout.run("check", COLUMBUS, "areas", RULES, tools=checkout.python)[2], "")
 
 
 def no_words_give_the_help_too(tests):
@@ -138,7 +203,11 @@ def rare_statuses_have_sentences(tests):
 
 TESTS = [
     help_is_given,
+    help_of_one_command,
     examples_of_the_help_work,
+    standard_input_is_a_file,
+    steps_by_a_measure,
+    typos_in_rules_are_told,
     no_words_give_the_help_too,
     version_is_told,
     statuses_have_sentences,

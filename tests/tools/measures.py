@@ -67,7 +67,7 @@ def refusals(tests, examples):
              ("steps", "of a map that is not there", ["nowhere.tgap"], 3, "load fault map"),
              ("steps", "without rules", columbus[:2], 2, "RULES"),
              ("steps", "for an area that no face reaches", [squares, "--least", 1e9], 5, "no step has areas"),
-             ("steps", "for a scale below 0", [squares, "--scale", -1], 2, "greater than 0"),
+             ("steps", "for a scale below 0", [squares, "--scale", -1], 2, "--scale"),
              ("loss", "at a step that there is not", [squares, "--steps", 9], 5, "step too high 1"),
              ("loss", "with a ratio of a listing", [squares, "--ratio", 4], 2, "--ratio wants a topology"),
              ("loss", "with a ratio that is too great", [*columbus, "--ratio", 70000], 2, "--ratio")]

@@ -19,7 +19,7 @@ def face_polygons(topology):
 
 def assembled_polygons(slice_):
     """The same from the edges of a slice alone, where there is no map of which a program could give the rings. Gaps, which belong to no face, are left out."""
-    lefts, rights = {}, {}
+    lefts = {}
     for _, left, right, points in slice_.edges:
         for start, end in directed(points):
             lefts[start, end], lefts[end, start] = left, right
@@ -33,8 +33,8 @@ def assembled_polygons(slice_):
 
 
 def base_faces(steps, faces):
-    """For each face after these steps the faces of the map itself of which it is made."""
+    """For each face after these steps the faces of the map itself of which it is made, the one from which it grew first."""
     made = {face: [face] for face in faces}
     for step in steps:
-        made[step.made] = made.pop(step.loser) + made.pop(step.winner)
+        made[step.made] = made.pop(step.winner) + made.pop(step.loser)
     return made

@@ -1,6 +1,6 @@
-"""What the tools share as commands: their words, failures with a status, files that are written whole or not at all, and the line that tells progress."""
-import argparse
+"""What the tools share as commands: failures with a status, files that are written whole or not at all, and the line that tells progress."""
 import contextlib
+import functools
 import os
 import pathlib
 import shutil
@@ -9,8 +9,11 @@ import tempfile
 import time
 
 # The statuses are those of the program where it has one for the same case.
-FILE, REFUSED, STEP, OUTPUT = 3, 4, 5, 6
+WORDS, FILE, REFUSED, STEP, OUTPUT = 2, 3, 4, 5, 6
 TOP = pathlib.Path(__file__).resolve().parents[2]
+# What the user calls the launcher, which tells it to the tools.
+CALLED = os.environ.get("TGAP_CALLED") or "./tgap"
+INPUT = "-"
 
 
 class Failure(Exception):
@@ -21,28 +24,23 @@ class Failure(Exception):
         self.status = status
 
 
-def words_of(tool, description, ending=""):
-    """The parser of a tool. Words that it does not know end with its usage and status 2."""
-    return argparse.ArgumentParser(prog=f"tools/{tool}", description=description, epilog=ending, allow_abbrev=False,
-                                   formatter_class=argparse.RawDescriptionHelpFormatter)
+@functools.lru_cache(maxsize=None)
+def standard_input():
+    """All that stands on the standard input, which can be read once."""
+    return sys.stdin.buffer.read()
 
 
-def add_map_words(parser, needed=True):
-    """The words that name a map, as the program has them: a listing alone, or a topology with its object and its rules."""
-    parser.add_argument("map", metavar="MAP", nargs=None if needed else "?", help="a listing, or a topology with OBJECT and RULES")
-    parser.add_argument("object", metavar="OBJECT", nargs="?", help="an object of the topology, or - for the only one")
-    parser.add_argument("rules", metavar="RULES", nargs="?", help="the rules file of the topology")
-
-
-def add_program(parser):
-    parser.add_argument("--program", metavar="FILE", default=str(TOP / "tgap"), help="the program to be asked (the launcher ./tgap)")
+def read_bytes(path):
+    """What stands in a file; - is the standard input."""
+    try:
+        return standard_input() if path == INPUT else pathlib.Path(path).read_bytes()
+    except OSError as error:
+        raise Failure(f"{path} cannot be read: {error.strerror}", FILE) from error
 
 
 def read_text(path):
     try:
-        return pathlib.Path(path).read_text(encoding="utf-8")
-    except OSError as error:
-        raise Failure(f"{path} cannot be read: {error.strerror}", FILE) from error
+        return read_bytes(path).decode("utf-8")
     except UnicodeDecodeError as error:
         raise Failure(f"{path} is no text: byte {error.start} is not UTF-8") from error
 
@@ -76,14 +74,20 @@ def write_text(path, text):
         raise Failure(f"{path} cannot be written: {error.strerror}", OUTPUT) from error
 
 
-def with_progress(items, what, every=2.0):
-    """The items, one after the other; where they take long, the standard error tells how many are done."""
-    items, told = list(items), time.monotonic() + every
+def with_progress(items, what, every=1.0):
+    """The items, one after the other; where they take long, a line on the terminal tells how many are done, and goes when all are."""
+    items, begun = list(items), time.monotonic()
+    if not sys.stderr.isatty():
+        yield from items
+        return
+    told, width = begun + every, 0
     for done, item in enumerate(items):
         if time.monotonic() > told:
-            print(f"{what}: {done} of {len(items)}", file=sys.stderr, flush=True)
-            told = time.monotonic() + every
+            line = f"{what}: {done} of {len(items)}"
+            print(f"\r{line:{width}}", end="", file=sys.stderr, flush=True)
+            told, width = time.monotonic() + every, len(line)
         yield item
+    print(f"\r{'':{width}}\r" if width else "", end="", file=sys.stderr, flush=True)
 
 
 def counted(count, one, many=None):

@@ -31,9 +31,9 @@ class Picture:
         if self.height > 10 * width:
             raise Failure(f"the picture would be {self.height} pixels high; take a smaller --width")
 
-    def colour(self, kind):
-        number = self.names.index(kind) if self.names else kind
-        return OWN_COLOURS.get(kind, COLOURS[number % len(COLOURS)])
+    def colour(self, face):
+        number = self.names.index(face.kind) if self.names else face.kind
+        return OWN_COLOURS.get(face.origin.made) or COLOURS[number % len(COLOURS)]
 
     def path(self, polygon):
         def spot(point):
@@ -44,9 +44,10 @@ class Picture:
     def svg(self):
         lines = [f'<svg xmlns="http://www.w3.org/2000/svg" viewBox="0 0 {self.width} {self.height}" stroke="{BORDER}" stroke-linejoin="round" '
                  'fill-rule="evenodd">']
-        for shape, area in self.shapes:
+        for shape, face in self.shapes:
             paths = "".join(map(self.path, getattr(shape, "geoms", [shape])))
-            lines.append(f'<path fill="{self.colour(area.kind)}" d="{paths}"><title>face {area.face}: {escape(str(area.kind))}</title></path>')
+            called = f", {face.origin.name}" if face.origin.name else ""
+            lines.append(f'<path fill="{self.colour(face)}" d="{paths}"><title>face {face.number}: {escape(f"{face.kind}{called}")}</title></path>')
         return "\n".join([*lines, "</svg>", ""])
 
     def write_png(self, path):
@@ -55,8 +56,8 @@ class Picture:
         raster.SetGeoTransform([self.west, step, 0, self.north, 0, -step])
         for band, value in enumerate(bytes_of(GROUND), 1):
             raster.GetRasterBand(band).Fill(value)
-        for shape, area in self.shapes:
-            burn(raster, shape, self.colour(area.kind))
+        for shape, face in self.shapes:
+            burn(raster, shape, self.colour(face))
         burn(raster, unary_union([shape.boundary for shape, _ in self.shapes]).buffer(0.5 * FINER * step), BORDER)
         try:
             gdal.Translate(str(path), raster, format="PNG", width=self.width, height=self.height, resampleAlg="average", creationOptions=["ZLEVEL=9"],

@@ -4,6 +4,7 @@ import os
 import sys
 
 from command import Failure
+from words import PARSERS
 
 MODULES = {"import": "import_map", "where": "tell_fault", "export": "export_slice", "steps": "list_steps", "loss": "measure_loss"}
 
@@ -11,7 +12,9 @@ MODULES = {"import": "import_map", "where": "tell_fault", "export": "export_slic
 def main():
     tool, words = sys.argv[1], sys.argv[2:]
     try:
-        importlib.import_module(MODULES[tool]).main(words)
+        # The words first: help and words that are wrong want none of what the tool does.
+        chosen = PARSERS[tool](words)
+        importlib.import_module(MODULES[tool]).main(chosen)
         sys.stdout.flush()
     except Failure as failure:
         print(f"{tool}: {failure}", file=sys.stderr)

@@ -6,38 +6,10 @@ import tempfile
 from shapely.ops import unary_union
 
 from areas import base_faces, face_polygons
-from command import Failure, add_map_words, add_program, with_progress, words_of, write_text
+from command import Failure, with_progress, write_text
+from history import Suiting
 from program import Program
-from topology import load_json
-
-DESCRIPTION = """Tells how much of a map lies, after some steps, in another face than the union of the faces of which that face is made.
-The cause is the vertex removal: each triangle that it cuts off is small beside the face that gave way, but nothing
-bounds their sum. A greater ratio cuts off less, and keeps more points."""
-ENDING = """status: 0 done, 2 words, 3 a file cannot be read, 4 the map is refused, 5 there is no such step
-
-example: tools/loss examples/columbus.json areas examples/columbus.rules.json --steps 16,32,48 --ratio 4,64,1024"""
-
-
-def numbers(least, most):
-    def read(text):
-        values = [int(word) for word in text.split(",")]
-        if not all(least <= value <= most for value in values):
-            raise ValueError(text)
-        return values
-    read.__name__ = "list of numbers"
-    return read
-
-
-def arguments(words):
-    parser = words_of("loss", DESCRIPTION, ENDING)
-    add_map_words(parser)
-    add_program(parser)
-    parser.add_argument("--steps", type=numbers(0, 4_294_967_294), metavar="K,K..", help="the steps (those that leave a half, a quarter .. of the faces)")
-    parser.add_argument("--ratio", type=numbers(0, 65_535), metavar="R,R..", help="measure with these ratios in place of that of RULES")
-    chosen = parser.parse_args(words)
-    if chosen.ratio and not chosen.rules:
-        parser.error("--ratio wants a topology with its RULES")
-    return chosen
+from topology import load_json, read_topology
 
 
 def halving(last, faces):
@@ -97,13 +69,18 @@ def table(columns):
         print(f"{step:8} {faces:8}{cells}")
 
 
-def main(words):
-    chosen = arguments(words)
-    columns = {}
+def steps_of(program, chosen):
+    """The steps that are asked for: by their numbers, by numbers of faces, or by scales."""
+    suits = Suiting(program, read_topology(program.map[0], chosen.object) if chosen.object else None, chosen.paper)
+    return chosen.steps or [suits.of_faces(faces) for faces in chosen.faces or []] or [suits.of_scale(scale) for scale in chosen.scale or []]
+
+
+def main(chosen):
+    columns, steps = {}, steps_of(Program(chosen.program, chosen), chosen)
     with tempfile.TemporaryDirectory() as folder:
         for ratio in chosen.ratio or [None]:
             program = Program(chosen.program, chosen) if ratio is None else with_ratio(chosen, ratio, folder)
             name = "moved" if ratio is None else f"ratio {ratio}"
-            columns[name] = measured(program, chosen.steps, name)
+            columns[name] = measured(program, steps, name)
     print("area in another face, of the whole map; points of all edges")
     table(columns)

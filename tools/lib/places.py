@@ -1,5 +1,6 @@
 """Where in a map a fault is: the arcs, areas and coordinates that a refusal means."""
 import functools
+import json
 from dataclasses import dataclass, field
 from fractions import Fraction
 
@@ -13,6 +14,13 @@ class Told:
 
     def with_more(self, other):
         return Told(self.lines + other.lines, self.shapes + other.shapes, self.crs or other.crs)
+
+
+def collection(shapes, crs):
+    """Shapes as GeoJSON, each with what it is; the coordinate system stands in the member that GeoJSON of 2008 has for it."""
+    named = {"crs": {"type": "name", "properties": {"name": crs}}} if crs else {}
+    features = [{"type": "Feature", "properties": {"what": what}, "geometry": geometry} for what, geometry in shapes]
+    return json.dumps({"type": "FeatureCollection", **named, "features": features}, ensure_ascii=False) + "\n"
 
 
 def spelled(number):

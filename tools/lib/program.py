@@ -6,9 +6,10 @@ import random
 import re
 import shutil
 import subprocess
+import tempfile
 from dataclasses import dataclass
 
-from command import FILE, REFUSED, STEP, Failure
+from command import CALLED, FILE, INPUT, REFUSED, STEP, WORDS, Failure, standard_input
 from topology import topology_of
 
 BEYOND = 4_294_967_295
@@ -85,13 +86,24 @@ def read_steps(text):
     return steps
 
 
+def copy_of_input():
+    """A file with what stands on the standard input."""
+    copy = tempfile.NamedTemporaryFile(prefix="tgap-")
+    copy.write(standard_input())
+    copy.flush()
+    return copy
+
+
 class Program:
     """The program, with the words that name a map."""
 
     def __init__(self, executable, words):
-        self.executable, self.map = executable, [words.map] + ([words.object, words.rules] if words.object else [])
         if words.object and not words.rules:
-            raise Failure("a topology wants its OBJECT and its RULES, a listing neither", 2)
+            raise Failure("a topology wants its OBJECT and its RULES, a listing neither", WORDS)
+        self.executable, self.given = executable, words.map
+        # The program asks for a file again and again; it goes when this does.
+        self.copy = copy_of_input() if words.map == INPUT else None
+        self.map = [self.copy.name if self.copy else words.map] + ([words.object, words.rules] if words.object else [])
 
     def words(self, command, *numbers):
         return [self.executable, command, self.map[0], *map(str, numbers), *self.map[1:]]
@@ -107,9 +119,13 @@ class Program:
         if done.returncode == 0:
             return done.stdout
         told = (done.stdout.strip() or done.stderr.strip()).splitlines()
-        advice = f"; tools/where {' '.join(self.map[:2])} tells where" if done.returncode == 4 else ""
-        raise Failure(f"the program, asked to {command} {self.map[0]}, ends with status {done.returncode}: {told[0] if told else 'no word'}{advice}",
-                      done.returncode if done.returncode in (FILE, 4, STEP) else 1)
+        advice = f"; {CALLED} where {' '.join([self.given, *self.map[1:2]])} tells where" if done.returncode == REFUSED else ""
+        raise Failure(f"the program, asked to {command} {self.given}, ends with status {done.returncode}: {told[0] if told else 'no word'}{advice}",
+                      done.returncode if done.returncode in (FILE, REFUSED, STEP) else 1)
+
+    def faces(self):
+        """How many faces the map has."""
+        return int(self.asked("check").split()[2])
 
     def last_step(self):
         done = self.run("slice", BEYOND)

@@ -1,24 +1,13 @@
 """tools/where: a refusal of the program in the words of the one whose map it is."""
-import json
 import os
 import re
 import stat
 import sys
 
-import overlaps
 import places
-from command import Failure, counted, words_of, write_text, written
-from places import Told
+from command import CALLED, INPUT, Failure, counted, read_bytes, write_text, written
+from places import Told, collection
 from topology import chosen_object, load_document, load_json, polygons_of, read_listing, read_topology, walk, Feature
-
-DESCRIPTION = """Tells where in a map a refusal of the program is: which areas, by their id and name, and at which coordinates.
-FAULT is the line 'refused ..'; without it, it is read from the standard input."""
-ENDING = """status: 0 told, 2 words, 3 a file cannot be read, 4 the line is no refusal, or not one of this map, 6 OUT cannot be written
-
-examples: ./tgap check world.json areas world.rules.json | tools/where world.json areas --geojson fault.geojson
-          tools/where world.json areas refused 15 meets 9522 9612 5 3 2
-          tools/where world.json areas --all
-          ./tgap check examples/crossing.tgap | tools/where examples/crossing.tgap"""
 
 SHAPES = {
     1: "the file is JSON, but no object", 2: "its member 'type' is not 'Topology'", 3: "its member 'objects' is no object", 4: "its member 'arcs' is no list",
@@ -27,22 +16,6 @@ SHAPES = {
 }
 RULES = {0: "JSON", 1: "an object", 2: "'property', a text", 3: "'classes', pairs of a name and a weight from 1 to 65535",
          4: "'default', the number of a class", 5: "'compat', a row for each class with an entry for each class, 0 to 1000", 6: "'ratio', 0 to 65535"}
-
-
-def arguments(words):
-    parser = words_of("where", DESCRIPTION, ENDING)
-    parser.add_argument("map", metavar="MAP", help="the topology, or the listing")
-    parser.add_argument("words", metavar="[OBJECT] [FAULT]", nargs="*", help="the object of the topology, and the line of the refusal")
-    parser.add_argument("--geojson", metavar="OUT", help="write what is told as areas, lines and points too")
-    parser.add_argument("--name", metavar="P", help="the property that is the name of an area (name)")
-    parser.add_argument("--all", action="store_true", help="list all pairs of areas that overlap, the largest first")
-    chosen = parser.parse_args(words)
-    rest = " ".join(chosen.words).split()
-    chosen.object = rest.pop(0) if rest and rest[0] not in ("refused", "ok") else None
-    chosen.fault = " ".join(rest) or fault_from_input(chosen.all)
-    if chosen.fault is None and not chosen.all:
-        parser.error("there is no FAULT, neither among the words nor on the standard input")
-    return chosen
 
 
 def fault_from_input(may_lack):
@@ -106,7 +79,7 @@ def shape(chosen, numbers):
     told = [f"{chosen.map} does not have the form of a topology: " + SHAPES[place].format(at=at)]
     document = load_json(chosen.map)
     if place == 2 and isinstance(document, dict):
-        told.append(f"it is {document.get('type')!r}; tools/import makes a topology of it")
+        told.append(f"it is {document.get('type')!r}; {CALLED} import makes a topology of it")
     return Told(told)
 
 
@@ -114,9 +87,22 @@ def objects(chosen, _):
     return Told([f"{chosen.map} has the objects {', '.join(map(repr, load_document(chosen.map)['objects'])) or 'none'}; name one of them"])
 
 
+def objects_of(path):
+    """The names of the objects where a file is a topology, or None where it is none."""
+    try:
+        return list(load_document(path)["objects"])
+    except Failure:
+        return None
+
+
 def bad_line(chosen, numbers):
     line, = numbers
-    lines = open(chosen.map, encoding="utf-8", errors="replace").read().split("\n")
+    names = objects_of(chosen.map)
+    if names:
+        word = names[0] if len(names) == 1 else "OBJECT"
+        return Told([f"{chosen.map} is a topology, and was read as a listing, since its object and its rules were not named: "
+                     f"{CALLED} check {chosen.map} {word} RULES", f"its objects are {', '.join(map(repr, names))}"])
+    lines = read_bytes(chosen.map).decode(errors="replace").split("\n")
     found = repr(lines[line - 1][:100]) if line <= len(lines) and (line < len(lines) or lines[-1]) else "the end of the file"
     return Told([f"line {line} of {chosen.map} is {found}, which must not come there; docs/formats.md has the lines of a listing"])
 
@@ -132,7 +118,7 @@ def raw(method, text):
 def in_map(tell):
     """A fault that is told on the map as it was read."""
     def told(chosen, numbers):
-        is_listing = chosen.object is None and not open(chosen.map, "rb").read(1).lstrip().startswith(b"{")
+        is_listing = chosen.object is None and not read_bytes(chosen.map).lstrip().startswith(b"{")
         topology = read_listing(chosen.map) if is_listing else read_topology(chosen.map, chosen.object)
         return tell(places.Places(topology, chosen.name), *numbers)
     return told
@@ -140,7 +126,7 @@ def in_map(tell):
 
 TELLERS = {
     1: not_json, 2: shape, 3: objects, 4: objects,
-    5: raw("position", "a coordinate is not whole: {}; the grid is missing, which tools/import or topoquantize makes"),
+    5: raw("position", "a coordinate is not whole: {}; the grid is missing, which " + CALLED + " import or topoquantize makes"),
     6: raw("position", "a coordinate is beyond 2147483648 in one direction: {}; take a coarser grid, or an origin that is nearer"),
     7: raw("of_arc", "there are fewer than two positions in {}"),
     8: raw("index", "{}"),
@@ -163,26 +149,23 @@ def told_of(chosen):
         return TELLERS[number](chosen, numbers)
     except (TypeError, IndexError, KeyError, ValueError, StopIteration) as error:
         raise Failure(f"{chosen.map} has no such place as {chosen.fault!r} names: it is not the map that was refused") from error
-    except OSError as error:
-        raise Failure(f"{chosen.map} cannot be read: {error.strerror}", 3) from error
 
 
-def collection(told, crs):
-    named = {"crs": {"type": "name", "properties": {"name": crs}}} if crs else {}
-    features = [{"type": "Feature", "properties": {"what": what}, "geometry": geometry} for what, geometry in told.shapes]
-    return json.dumps({"type": "FeatureCollection", **named, "features": features}) + "\n"
-
-
-def main(words):
-    chosen = arguments(words)
+def main(chosen):
+    if chosen.fault is None and chosen.map != INPUT:
+        chosen.fault = fault_from_input(chosen.all)
+    if chosen.fault is None and not chosen.all:
+        chosen.wrong("there is no FAULT, neither among the words nor on the standard input")
     told = told_of(chosen) if chosen.fault else Told([])
     if chosen.all:
+        # It wants Shapely.
+        import overlaps
         topology = read_topology(chosen.map, chosen.object)
         told = told.with_more(overlaps.told_of(topology, chosen.name))
     if chosen.geojson and not told.shapes:
         raise Failure(f"there is no place to be drawn; {chosen.geojson} is not written: {'; '.join(told.lines)}")
     if chosen.geojson:
         with written(chosen.geojson) as (new,):
-            write_text(new, collection(told, told.crs))
+            write_text(new, collection(told.shapes, told.crs))
         told.lines.append(f"wrote {chosen.geojson}: {counted(len(told.shapes), 'shape')}")
     print("\n".join(told.lines))

@@ -3,7 +3,7 @@ wrong is read too, as far as it goes, since its faults are to be told."""
 import json
 from dataclasses import dataclass, field
 
-from command import Failure, read_text
+from command import CALLED, Failure, read_text
 
 # The program's own limits, as docs/rules.md has them.
 MOST = {"faces": 32_768, "arcs": 65_536, "points": 524_288, "classes": 256}
@@ -17,6 +17,8 @@ class Feature:
     number: int
     id: object
     properties: dict
+    # The mark of an area that import made.
+    made: str = None
 
     def title(self, name=None):
         """How a person would call it: by its name where one is known, and by its id, or else by its place."""
@@ -77,7 +79,7 @@ def load_document(path):
     document = load_json(path)
     if not isinstance(document, dict) or document.get("type") != "Topology":
         kind = document.get("type") if isinstance(document, dict) else None
-        raise Failure(f"{path} is no topology" + (f" but a {kind}" if isinstance(kind, str) else "") + ": tools/import makes one of it")
+        raise Failure(f"{path} is no topology" + (f" but a {kind}" if isinstance(kind, str) else "") + f": {CALLED} import makes one of it")
     if not isinstance(document.get("objects"), dict) or not isinstance(document.get("arcs"), list):
         raise Failure(f"{path} is a topology without objects or without arcs")
     return document
@@ -149,7 +151,7 @@ def topology_of(document, path, name):
                             tuple(transform["translate"][:2]), document.get("transform") is not None, crs_of(document))
         read_faces(topology, chosen)
     except (TypeError, KeyError, IndexError, AttributeError) as error:
-        raise Failure(f"{path} does not have the form of a topology ({error}); ./tgap check tells the first fault") from error
+        raise Failure(f"{path} does not have the form of a topology ({error}); {CALLED} check tells the first fault") from error
     return topology
 
 
@@ -158,7 +160,7 @@ def read_faces(topology, chosen):
     for number, geometry in enumerate(walk(chosen)):
         feature = None
         for rings in polygons_of(geometry):
-            feature = feature or Feature(number, geometry.get("id"), geometry.get("properties") or {})
+            feature = feature or Feature(number, geometry.get("id"), geometry.get("properties") or {}, geometry.get("made"))
             if not rings:
                 continue
             topology.rings.extend((feature, ring) for ring in rings)
