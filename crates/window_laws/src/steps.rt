@@ -1,0 +1,13 @@
+//! Laws of one record of a window.
+
+ghost use Rattle.window_laws.specs.WindowLaws.{WindowStepsFit, WindowUndoGoesBack};
+
+/// The record of a step for an area fits the window of the slice after the step.
+pub fn window_steps_fit()
+    ensures { WindowStepsFit }
+{}
+
+/// It leads that window back to the window of the slice before the step.
+pub fn window_undo_goes_back()
+    ensures { WindowUndoGoesBack }
+{}
