@@ -1,7 +1,8 @@
 -- Filters of lists.
-use Rattle.std.proofs.Common.{◌≡◌, inl, inr, ℕ, ◌&&◌, Bool, true, false, not, nat_lt, cond, List, [], ◌∷◌, ◌++◌, map, filter, IsPermutation, refl, sym, ap, ap₂, ◌∙◌}
+use Rattle.std.proofs.Common.{◌≡◌, inl, inr, ℕ, ◌&&◌, Bool, true, false, not, nat_lt, cond, List, [], ◌∷◌, ◌++◌, map, filter, IsPermutation, refl, sym, ap, ap₂, ◌∙◌, subst}
 use Rattle.std.specs.Prelude.{⊤, flat_map, find, Option, Some}
 use Rattle.std.specs.List.{list_all}
+use Rattle.std.proofs.Math.Bool.{and-true, and-false}
 use Rattle.std.proofs.lemmas.Bool.{and_parts, and_from}
 use Rattle.std.proofs.lemmas.List.Elements.{filter-append}
 use Rattle.std.proofs.lemmas.List.Sorted.{IsPermutation-filter_both, IsPermutation-append_comm, IsPermutation-append_left, IsPermutation-trans, IsPermutation-sym}
@@ -9,7 +10,7 @@ use Rattle.lemmas.specs.Sorting.{is_sorted_by}
 use Rattle.lemmas.proofs.Orders.{nat_lt_order, order_by_key}
 use Rattle.lemmas.proofs.Sorting.{filter-is_sorted, map-is_sorted}
 use Rattle.map_laws.proofs.ChainMembers.{Among}
-use Rattle.map_laws.proofs.Lists.{all_members}
+use Rattle.map_laws.proofs.Lists.{all_members, map_among}
 
 module _ {A B : Type 0} where
   -- a filter goes through what the members give
@@ -30,6 +31,10 @@ module _ {A B : Type 0} where
   pub flat_map-agree : (f g : A → List B) (xs : List A) → ((x : A) → Among x xs → f x ≡ g x) → flat_map f xs ≡ flat_map g xs
   flat_map-agree f g [] same = refl
   flat_map-agree f g (x ∷ xs) same = ap₂ (λ (ys zs : List B). ys ++ zs) (same x (inl refl)) (flat_map-agree f g xs (λ y o. same y (inr o)))
+
+-- what holds of what is mapped
+pub mapped_each : {A B : Type 0} (f : A → B) (P : B → Type 0) (xs : List A) → ((x : A) → Among x xs → P (f x)) → (y : B) → Among y (map f xs) → P y
+mapped_each f P xs each y o = let x = map_among f xs y o in subst P x.2 (each x.0 x.1)
 
 module _ {A : Type 0} where
   pub filter_agree : (p q : A → Bool) (xs : List A) → ((x : A) → Among x xs → p x ≡ q x) → filter p xs ≡ filter q xs
@@ -54,6 +59,11 @@ module _ {A : Type 0} where
           → filter q (cond b (x ∷ filter p xs) (filter p xs)) ≡ cond (b && q x) (x ∷ filter (λ x. p x && q x) xs) (filter (λ x. p x && q x) xs)
       by true e = ap (λ (ys : List A). cond (q x) (x ∷ ys) ys) e
       by false e = e
+
+  -- where all members answer alike to a second test
+  pub filter_and : (p q : A → Bool) (xs : List A) (v : Bool) → ((x : A) → Among x xs → q x ≡ v) → filter (λ x. p x && q x) xs ≡ cond v (filter p xs) []
+  filter_and p q xs true each = filter_agree (λ x. p x && q x) p xs (λ x o. ap (λ (b : Bool). p x && b) (each x o) ∙ and-true (p x))
+  filter_and p q xs false each = filter_nothing (λ x. p x && q x) xs (λ x o. ap (λ (b : Bool). p x && b) (each x o) ∙ and-false (p x))
 
   -- the first that passes one test is the same where those that fail another are left out, if what passes the one passes both
   pub find_filtered : (p q : A → Bool) (xs : List A) → ((x : A) → Among x xs → p x ≡ true → q x ≡ true) → find p (filter q xs) ≡ find p xs

@@ -4,7 +4,7 @@ use Rattle.std.specs.Prelude.{⊤, flat_map, Option, Some, None}
 use Rattle.std.proofs.lemmas.Bool.{eqb-true, false_from_ne_true}
 use Rattle.std.proofs.lemmas.List.{append-nil}
 use Rattle.std.proofs.lemmas.List.Elements.{filter-append}
-use Rattle.lemmas.specs.Sorting.{is_sorted_by}
+use Rattle.lemmas.specs.Sorting.{sort_by, is_sorted_by}
 use Rattle.lemmas.proofs.Orders.{nat_lt_order, order_by_key}
 use Rattle.lemmas.proofs.Permutations.{IsPermutation-filter}
 use Rattle.lemmas.proofs.Sorting.{filter-is_sorted, map-is_sorted, sort_by-permutation, sort_by-permuted}
@@ -22,7 +22,7 @@ use Rattle.tgap_model.specs.History.{history_of}
 use Rattle.tgap_model.specs.Merged.{MergedMap, merged, step_number}
 use Rattle.tgap_model.specs.Chains.{Link, Chain, key, turned_round, chains_at}
 use Rattle.tgap_model.specs.Removals.{edge_of, removals_to}
-use Rattle.tgap_model.specs.Slice.{meets_window, window_of}
+use Rattle.tgap_model.specs.Slice.{meets_window, window_of, slice}
 use Rattle.tgap_model.specs.Records.{is_edge_between, chain_of, runs, step_record, put_in, in_place_of, cut_piece, cut_pieces, mend_for, refined, edge_before}
 use Rattle.tgap_model.specs.WindowRecords.{window_at, has_key, key_after, is_coming, window_step, whole_record, refined_in, edges_back}
 use Rattle.map_laws.proofs.ChainMembers.{Among, any_among, filter_among, among_counts}
@@ -38,7 +38,8 @@ use Rattle.record_laws.proofs.Refined.{refined_is}
 use Rattle.record_laws.proofs.RunsAreChains.{runs_are_chains}
 use Rattle.record_laws.proofs.StepFacts.{run_is_part, run_member, run_within}
 use Rattle.record_laws.proofs.UndoStep.{edges_back as whole_edges_back}
-use Rattle.window_laws.proofs.Filters.{filter-flat_map, flat_map-filter, flat_map-agree, filter_agree, filter_nothing, filter_twice, find_filtered, both_parts}
+use Rattle.window_laws.specs.WindowLaws.{WindowComesAre}
+use Rattle.window_laws.proofs.Filters.{mapped_each, filter-flat_map, flat_map-filter, flat_map-agree, filter_and, filter_twice, find_filtered, both_parts}
 
 module _ (m : BaseMap) (base : is_base m ≡ true) (planar : IsPartition (base_segments m)) (j : ℕ) (one : 1 ≤ j) (last : j ≤ length (history_of m)) where
   abbrev h : MergedMap
@@ -141,13 +142,22 @@ module _ (m : BaseMap) (base : is_base m ≡ true) (planar : IsPartition (base_s
             = ap (λ (c : Chain). meets (edge_here c)) (sym same) ∙ ap meets d.2 ∙ filter_among meets (map edge_here (chains_at h j)) g.0 g.1 in
             absurd cc)
 
+    is_there : (e : Edge) → Among e (map edge_here (chains_at h j)) → has_key there e.key ≡ meets e
+    is_there = mapped_each edge_here (λ e. has_key there e.key ≡ meets e) (chains_at h j) key_there
+
     -- what comes back of an edge comes new where the edge is not in the window
-    coming_is : (c : Chain) → Among c (chains_at h j) → (e : Edge) → Among e (refined record_here (edge_here c)) → coming e ≡ not (meets (edge_here c))
-    coming_is c n e o =
-        let r = map_among (λ r. edge_back (chain_of_run finer r)) (runs finer c) e (subst (Among e) (refined_is m base planar j one last c n) o) in
+    coming_is : (e : Edge) → Among e (map edge_here (chains_at h j)) → (x : Edge) → Among x (refined record_here e) → coming x ≡ not (meets e)
+    coming_is =
+        mapped_each edge_here (λ e. (x : Edge) → Among x (refined record_here e) → coming x ≡ not (meets e)) (chains_at h j) (λ c n x o.
+        let r = map_among (λ r. edge_back (chain_of_run finer r)) (runs finer c) x (subst (Among x) (refined_is m base planar j one last c n) o) in
         ap coming (sym r.2)
         ∙ ap₂ (λ (a b : Bool). a || b) (not_between c n r.0 r.1)
-        (ap (λ (i : ℕ). not (has_key there i)) (comes_of c n r.0 r.1) ∙ ap not (key_there c n))
+        (ap (λ (i : ℕ). not (has_key there i)) (comes_of c n r.0 r.1) ∙ ap not (key_there c n)))
+
+    -- an ended edge comes
+    ended_comes : (e : Edge) → Among e record_here.ended → coming e ≡ true
+    ended_comes e o =
+        ap (λ (b : Bool). b || not (has_key there (key_after h j e))) (filter_among (is_edge_between s.loser s.winner) (map edge_back finer) e o)
 
     -- ---- an edge of the window
 
@@ -157,7 +167,7 @@ module _ (m : BaseMap) (base : is_base m ≡ true) (planar : IsPartition (base_s
     same_pieces e points first [] = refl
     same_pieces e points first (p ∷ pieces) = ap (λ (es : List Edge). cut_piece record_here e points first p ∷ es) (same_pieces e points p.last pieces)
 
-    module _ (e : Edge) (is_in : meets e ≡ true) (is_there : has_key there e.key ≡ true) where
+    module _ (e : Edge) (is_in : meets e ≡ true) (found_there : has_key there e.key ≡ true) where
       abbrev plain : Edge
       plain = record e { left = in_place_of s.made s.winner e.left; right = in_place_of s.made s.winner e.right }
 
@@ -166,7 +176,7 @@ module _ (m : BaseMap) (base : is_base m ≡ true) (planar : IsPartition (base_s
 
       mend_same : mend_for (whole_record record_in) e ≡ mend_for record_here e
       mend_same = find_filtered (λ w. w.key == e.key) (λ w. has_key there w.key) record_here.mends
-          (λ w o t. ap (has_key there) (eqb-true _ _ t) ∙ is_there)
+          (λ w o t. ap (has_key there) (eqb-true _ _ t) ∙ found_there)
 
       -- what a mend makes of the edge, where it is found
       abbrev chosen : Option Mend → Option Mend → List Edge
@@ -181,49 +191,58 @@ module _ (m : BaseMap) (base : is_base m ≡ true) (planar : IsPartition (base_s
 
     -- ---- all edges
 
+    abbrev come_back : List Edge
+    come_back = flat_map (refined record_here) (map edge_here (chains_at h j)) ++ record_here.ended
+
+    -- what passes a test, of what comes back of each edge and of the ended ones
+    of_come_back : (p : Edge → Bool) (f : Edge → List Edge) → ((e : Edge) → Among e (map edge_here (chains_at h j)) → filter p (refined record_here e) ≡ f e)
+        → filter p come_back ≡ flat_map f (map edge_here (chains_at h j)) ++ filter p record_here.ended
+    of_come_back p f each =
+        filter-append p (flat_map (refined record_here) (map edge_here (chains_at h j))) record_here.ended
+        ∙ ap (λ (es : List Edge). es ++ filter p record_here.ended)
+        (filter-flat_map p (refined record_here) (map edge_here (chains_at h j))
+        ∙ flat_map-agree (λ e. filter p (refined record_here e)) f (map edge_here (chains_at h j)) each)
+
+    twice : (b : Bool) → not (not b) ≡ b
+    twice true = refl
+    twice false = refl
+
     -- before the step in the window, and not coming
     abbrev staying : Edge → Bool
     staying e = meets e && not (coming e)
 
-    no : (a b : Bool) → b ≡ true → (a && not b) ≡ false
-    no true true e = refl
-    no true false e = absurd cc
-    no false b e = refl
-
-    yes : (a b : Bool) → b ≡ false → (a && not b) ≡ a
-    yes true true e = absurd cc
-    yes true false e = refl
-    yes false b e = refl
-
-    each_edge : (e : Edge) → Among e (map edge_here (chains_at h j)) → filter staying (refined record_here e) ≡ cond (meets e) (refined_in area record_in e) []
-    each_edge e o =
-        let c = map_among edge_here (chains_at h j) e o in
-        subst (λ (e : Edge). filter staying (refined record_here e) ≡ cond (meets e) (refined_in area record_in e) []) c.2 (of_chain c.0 c.1)
+    stay_of : (e : Edge) → Among e (map edge_here (chains_at h j)) → filter staying (refined record_here e) ≡ cond (meets e) (refined_in area record_in e) []
+    stay_of e o =
+        filter_and meets (λ x. not (coming x)) (refined record_here e) (meets e) (λ x p. ap not (coming_is e o x p) ∙ twice (meets e))
+        ∙ by (meets e) refl
       where
-        of_chain : (c : Chain) → Among c (chains_at h j)
-            → filter staying (refined record_here (edge_here c)) ≡ cond (meets (edge_here c)) (refined_in area record_in (edge_here c)) []
-        of_chain c n = by (meets (edge_here c)) refl
-          where
-            by : (b : Bool) → meets (edge_here c) ≡ b → filter staying (refined record_here (edge_here c)) ≡ cond b (refined_in area record_in (edge_here c)) []
-            by true t =
-                filter_agree staying meets (refined record_here (edge_here c)) (λ e o. yes (meets e) (coming e) (coming_is c n e o ∙ ap not t))
-                ∙ stays (edge_here c) t (key_there c n ∙ t)
-            by false t = filter_nothing staying (refined record_here (edge_here c)) (λ e o. no (meets e) (coming e) (coming_is c n e o ∙ ap not t))
-
-    abbrev come_back : List Edge
-    come_back = flat_map (refined record_here) (map edge_here (chains_at h j)) ++ record_here.ended
+        by : (b : Bool) → meets e ≡ b → cond b (filter meets (refined record_here e)) [] ≡ cond b (refined_in area record_in e) []
+        by true t = stays e t (is_there e o ∙ t)
+        by false t = refl
 
     stay : filter staying come_back ≡ flat_map (refined_in area record_in) there
     stay =
-        filter-append staying (flat_map (refined record_here) (map edge_here (chains_at h j))) record_here.ended
-        ∙ ap₂ (λ (xs ys : List Edge). xs ++ ys)
-        (filter-flat_map staying (refined record_here) (map edge_here (chains_at h j))
-        ∙ flat_map-agree (λ e. filter staying (refined record_here e)) (λ e. cond (meets e) (refined_in area record_in e) []) (map edge_here (chains_at h j)) each_edge
-        ∙ flat_map-filter meets (refined_in area record_in) (map edge_here (chains_at h j)))
-        (filter_nothing staying record_here.ended (λ e o.
-        no (meets e) (coming e) (ap (λ (b : Bool). b || not (has_key there (key_after h j e)))
-        (filter_among (is_edge_between s.loser s.winner) (map edge_back finer) e o))))
+        of_come_back staying (λ e. cond (meets e) (refined_in area record_in e) []) stay_of
+        ∙ ap₂ (λ (xs ys : List Edge). xs ++ ys) (flat_map-filter meets (refined_in area record_in) (map edge_here (chains_at h j)))
+        (filter_and meets (λ x. not (coming x)) record_here.ended false (λ e o. ap not (ended_comes e o)))
         ∙ append-nil (flat_map (refined_in area record_in) there)
+
+    -- the edges outside the window after the step
+    abbrev outside : List Edge
+    outside = filter (λ e. not (meets e)) (map edge_here (chains_at h j))
+
+    abbrev arriving : Edge → Bool
+    arriving e = meets e && coming e
+
+    arrive : filter arriving come_back ≡ filter meets (flat_map (refined record_here) outside ++ record_here.ended)
+    arrive =
+        of_come_back arriving (λ e. cond (not (meets e)) (filter meets (refined record_here e)) [])
+        (λ e o. filter_and meets coming (refined record_here e) (not (meets e)) (coming_is e o))
+        ∙ ap₂ (λ (xs ys : List Edge). xs ++ ys)
+        (flat_map-filter (λ e. not (meets e)) (λ e. filter meets (refined record_here e)) (map edge_here (chains_at h j))
+        ∙ sym (filter-flat_map meets (refined record_here) outside))
+        (filter_and meets coming record_here.ended true ended_comes)
+        ∙ sym (filter-append meets (flat_map (refined record_here) outside) record_here.ended)
 
     come_permuted : IsPermutation come_back (map edge_back finer)
     come_permuted = subst (IsPermutation come_back) (whole_edges_back m base planar j one last) (sort_by-permutation edge_before come_back)
@@ -249,3 +268,24 @@ module _ (m : BaseMap) (base : is_base m ≡ true) (planar : IsPartition (base_s
         sort_by-permuted {P = λ (e : Edge). ⊤} {before = edge_before} (order_by_key (λ (e : Edge). e.key) nat_lt_order)
         (flat_map (refined_in area record_in) there ++ filter coming before) before
         (all_members (λ (e : Edge). ⊤) (flat_map (refined_in area record_in) there ++ filter coming before) (λ e o. tt)) back_sorted back_permuted
+
+    arriving_permuted : IsPermutation (filter meets (flat_map (refined record_here) outside ++ record_here.ended)) (filter coming before)
+    arriving_permuted =
+        subst (λ (es : List Edge). IsPermutation es (filter coming before)) arrive
+        (subst (IsPermutation (filter arriving come_back)) (sym (filter_twice meets coming (map edge_back finer)))
+        (IsPermutation-filter arriving come_back (map edge_back finer) come_permuted))
+
+    -- those of them that come
+    pub edges_coming : (window_step (merged m) area j).comes ≡ sort_by edge_before (filter (meets_window area)
+        (flat_map (refined (step_record (merged m) j)) (filter (λ e. not (meets_window area e)) (slice m j).edges) ++ (step_record (merged m) j).ended))
+    unfolding slice window_of
+    edges_coming =
+        sym (sort_by-permuted {P = λ (e : Edge). ⊤} {before = edge_before} (order_by_key (λ (e : Edge). e.key) nat_lt_order)
+        (filter meets (flat_map (refined record_here) outside ++ record_here.ended)) (filter coming before)
+        (all_members (λ (e : Edge). ⊤) (filter meets (flat_map (refined record_here) outside ++ record_here.ended)) (λ e o. tt))
+        (filter-is_sorted {P = λ (e : Edge). ⊤} {before = edge_before} (order_by_key (λ (e : Edge). e.key) nat_lt_order) coming before
+        (all_members (λ (e : Edge). ⊤) before (λ e o. tt)) back_sorted)
+        arriving_permuted)
+
+pub window_comes_are : WindowComesAre
+window_comes_are m base planar j one last area = edges_coming m base planar j one last area

@@ -44,19 +44,9 @@ all_pass i [] none = refl
 all_pass i (true ∷ tests) none = all_pass (i + 1) tests none
 all_pass i (false ∷ tests) none = absurd cc
 
--- the tests of a rule on faces without its first one, where two of them become others
-faces_tests : (a l w p q b c d e f g : Bool) → (a && l && w && b && c && d && e && f && g) ≡ true → (l ≡ true → p ≡ true) → (w ≡ true → q ≡ true)
-    → (p && q && b && c && d && e && f && g) ≡ true
-faces_tests a l w p q b c d e f g all left right =
-    let x1 = and_parts _ g all in
-    let x2 = and_parts _ f x1.0 in
-    let x3 = and_parts _ e x2.0 in
-    let x4 = and_parts _ d x3.0 in
-    let x5 = and_parts _ c x4.0 in
-    let x6 = and_parts _ b x5.0 in
-    let x7 = and_parts (a && l) w x6.0 in
-    let x8 = and_parts a l x7.0 in
-    and_from _ g (and_from _ f (and_from _ e (and_from _ d (and_from _ c (and_from _ b (and_from p q (left x8.1) (right x7.1)) x6.1) x5.1) x4.1) x3.1) x2.1) x1.1
+-- a test in front of another may be weakened
+front_weaker : {a b : Bool} (c : Bool) → (a ≡ true → b ≡ true) → (a && c) ≡ true → (b && c) ≡ true
+front_weaker {a} {b} c step both = let p = and_parts a c both in and_from b c (step p.0) p.1
 
 module _ (m : BaseMap) (base : is_base m ≡ true) (planar : IsPartition (base_segments m)) (j : ℕ) (one : 1 ≤ j) (last : j ≤ length (history_of m)) (area : Window) where
   abbrev h : MergedMap
@@ -138,10 +128,17 @@ module _ (m : BaseMap) (base : is_base m ≡ true) (planar : IsPartition (base_s
       (no_row (λ r. list_any (has_side r.face) there) (map (face_row h) (live_faces h j)) f (not-true (has_face (slice_at h j) f) none))
 
   faces_fit : fits_faces_in window_there record_in ≡ true
-  faces_fit = faces_tests _ (not (has_face (slice_at h j) s.loser)) (not (has_face (slice_at h j) s.winner))
-      (not (has_face window_there s.loser)) (not (has_face window_there s.winner))
-      (not (s.loser == s.winner)) (not (s.loser == s.made)) (not (s.winner == s.made)) (not (s.loser == 0)) (not (s.winner == 0)) (not (s.made == 0))
-      parts.1 (absent s.loser) (absent s.winner)
+  faces_fit =
+      front_weaker (not (s.made == 0)) (front_weaker (not (s.winner == 0)) (front_weaker (not (s.loser == 0))
+      (front_weaker (not (s.winner == s.made)) (front_weaker (not (s.loser == s.made)) (front_weaker (not (s.loser == s.winner)) rows))))) parts.1
+    where
+      rows : (list_any (λ f. (f.face == s.made) && (f.class == record_here.winner_class)) (slice_at h j).faces
+          && not (has_face (slice_at h j) s.loser) && not (has_face (slice_at h j) s.winner)) ≡ true
+          → (not (has_face window_there s.loser) && not (has_face window_there s.winner)) ≡ true
+      rows each =
+          let winner = and_parts _ (not (has_face (slice_at h j) s.winner)) each in
+          let loser = and_parts _ (not (has_face (slice_at h j) s.loser)) winner.0 in
+          and_from (not (has_face window_there s.loser)) (not (has_face window_there s.winner)) (absent s.loser loser.1) (absent s.winner winner.1)
 
   -- ---- rules 3, 4 and 5
 
