@@ -1,0 +1,6 @@
+pub mod Examples
+pub mod Filters
+pub mod WindowEdges
+pub mod WindowFaces
+pub mod WindowPacketSteps
+pub mod WindowSteps
