@@ -1,0 +1,7 @@
+//! Cuts and fusions of faces: an inner vertex becomes a node, a new arc cuts a face in two, and two faces become one. It stands
+//! on `ring_walk`, whose walks go round faces. The functions of `laws` do nothing: their contracts are laws of the three edits.
+#![tactic(auto)]
+
+mod cause;
+
+pub use cause::Cause;
