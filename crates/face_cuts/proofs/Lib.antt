@@ -1,1 +1,5 @@
 mod Examples
+pub mod Cases
+pub mod Maps
+pub mod NodesKeep
+pub mod FusionsKeep

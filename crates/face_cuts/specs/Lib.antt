@@ -4,3 +4,4 @@ pub mod Fusions
 pub mod Sectors
 pub mod Walks
 pub mod Cuts
+pub mod EditLaws

@@ -3,5 +3,13 @@
 #![tactic(auto)]
 
 mod cause;
+mod fusion;
+mod laws;
+mod node;
+mod parts;
+mod points;
 
 pub use cause::Cause;
+pub use fusion::fuse_faces;
+pub use laws::{fusions_keep_maps, nodes_keep_maps};
+pub use node::add_node;
