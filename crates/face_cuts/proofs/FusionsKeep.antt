@@ -33,7 +33,7 @@ module _ (n f g : ℕ) (some_f : 1 ≤ f) (low_f : f ≤ n) (some_g : 1 ≤ g) (
   new_same : (h : ℕ) → h ≢ g → h ≢ n → new h ≡ h
   new_same h ne last = ap (λ b. cond (cond b f h == n) g (cond b f h)) (other h g ne) ∙ ap (λ b. cond b g h) (other h n last)
 
-  new_gone : new g ≡ new f
+  pub new_gone : new g ≡ new f
   new_gone = ap (λ b. cond (cond b f g == n) g (cond b f g)) (same g g refl) ∙ sym (ap (λ b. cond (cond b f f == n) g (cond b f f)) (other f g differ))
 
   -- what a number becomes: a face that was not g, and is the last one or not
@@ -97,24 +97,24 @@ module _ (n f g : ℕ) (some_f : 1 ≤ f) (low_f : f ≤ n) (some_g : 1 ≤ g) (
 -- ---- the fused map
 
 -- a face that an arc has at a side
-beside : (f : ℕ) (a : BaseArc) → borders_face f a ≡ true → (a.left ≡ f) ⊎ (a.right ≡ f)
+pub beside : (f : ℕ) (a : BaseArc) → borders_face f a ≡ true → (a.left ≡ f) ⊎ (a.right ≡ f)
 beside f a h = by (a.left == f) refl
   where
     by : (b : Bool) → (a.left == f) ≡ b → (a.left ≡ f) ⊎ (a.right ≡ f)
     by true e = inl (eqb-true a.left f e)
     by false e = inr (eqb-true a.right f (sym (ap (λ b. b || (a.right == f)) e) ∙ h))
 
-beside_left : (f : ℕ) (a : BaseArc) → a.left ≡ f → borders_face f a ≡ true
+pub beside_left : (f : ℕ) (a : BaseArc) → a.left ≡ f → borders_face f a ≡ true
 beside_left f a e = or_left (a.left == f) (a.right == f) (same a.left f e)
 
-beside_right : (f : ℕ) (a : BaseArc) → a.right ≡ f → borders_face f a ≡ true
+pub beside_right : (f : ℕ) (a : BaseArc) → a.right ≡ f → borders_face f a ≡ true
 beside_right f a e = or_right (a.left == f) (a.right == f) (same a.right f e)
 
 between_from : (f g : ℕ) (a : BaseArc) → ((a.left ≡ f) × (a.right ≡ g)) ⊎ ((a.left ≡ g) × (a.right ≡ f)) → is_between f g a ≡ true
 between_from f g a (inl e) = or_left ((a.left == f) && (a.right == g)) ((a.left == g) && (a.right == f)) (and_from _ _ (same a.left f e.0) (same a.right g e.1))
 between_from f g a (inr e) = or_right ((a.left == f) && (a.right == g)) ((a.left == g) && (a.right == f)) (and_from _ _ (same a.left g e.0) (same a.right f e.1))
 
-between_is : (f g : ℕ) (a : BaseArc) → is_between f g a ≡ true → ((a.left ≡ f) × (a.right ≡ g)) ⊎ ((a.left ≡ g) × (a.right ≡ f))
+pub between_is : (f g : ℕ) (a : BaseArc) → is_between f g a ≡ true → ((a.left ≡ f) × (a.right ≡ g)) ⊎ ((a.left ≡ g) × (a.right ≡ f))
 between_is f g a h = by ((a.left == f) && (a.right == g)) refl
   where
     by : (b : Bool) → ((a.left == f) && (a.right == g)) ≡ b → ((a.left ≡ f) × (a.right ≡ g)) ⊎ ((a.left ≡ g) × (a.right ≡ f))

@@ -11,5 +11,7 @@ mod points;
 
 pub use cause::Cause;
 pub use fusion::fuse_faces;
-pub use laws::{fusions_keep_maps, nodes_keep_maps};
+pub use laws::{
+    cuts_keep_inside, cuts_keep_maps, fusions_keep_inside, fusions_keep_maps, nodes_keep_maps,
+};
 pub use node::add_node;
