@@ -1,14 +1,18 @@
 -- Nodes, cuts and fusions of small maps, computed from the definitions.
-use Rattle.std.proofs.Common.{◌≡◌, ℕ, pos, List, [], ◌∷◌, map, Result, Ok, Err, refl}
+use Rattle.std.proofs.Common.{◌≡◌, ℕ, pos, Bool, true, false, ◌&&◌, nat_lt, List, [], ◌∷◌, length, map, Some, Result, Ok, Err, refl}
+use Rattle.std.specs.Option.{ok_or}
 use Rattle.tgap_model.specs.declared.geometry.Point.{Point}
 use Rattle.tgap_model.specs.declared.base.BaseArc.{BaseArc}
 use Rattle.tgap_model.specs.Base.{BaseMap}
 use Rattle.tgap_model.specs.Segment.{turns_before, is_higher}
 use Rattle.ring_walk.specs.Sides.{spokes_at}
-use Rattle.face_cuts.specs.Outcomes.{◌>>=◌}
-use Rattle.face_cuts.specs.Nodes.{add_node}
-use Rattle.face_cuts.specs.Fusions.{fuse_faces}
-use Rattle.face_cuts.specs.Cuts.{cut_face}
+use Rattle.face_cuts.specs.Outcomes.{◌>>=◌, ensured, has_room}
+use Rattle.face_cuts.specs.Nodes.{is_node, place_of, add_node}
+use Rattle.face_cuts.specs.Fusions.{is_face, fuse_faces}
+use Rattle.face_cuts.specs.Sectors.{spans_of}
+use Rattle.face_cuts.specs.Walks.{walk_between}
+use Rattle.face_cuts.specs.Cuts.{are_free, sectors_of, cut_face}
+use Rattle.face_cuts.proofs.CutsKeep.{cut_map}
 
 -- a row of points from their coordinates
 abbrev points : List ℕ → List Point
@@ -207,3 +211,25 @@ no_sector = refl
 no_walk : cut_face nested 1 0 (points (0 ∷ 0 ∷ 10 ∷ 10 ∷ [])) ≡ Err 12
 unfolding cut_face spokes_at turns_before
 no_walk = refl
+
+-- ---- a map that is as large as it may be
+
+-- a node wants room for an arc and a point more
+no_room_for_node : (m : BaseMap) (v : Point) (place : ℕ × ℕ) → place_of v m.arcs ≡ Some place → is_node v m.arcs ≡ false → has_room m 0 1 1 ≡ false → add_node m v ≡ Err 11
+unfolding add_node
+no_room_for_node m v place found inner full = rw (found, inner, full) refl
+
+-- a cut for a face and an arc more, and its points; that is told before what is wrong with the points
+no_room_for_cut : (m : BaseMap) (f k : ℕ) (line : List Point) → is_face m f ≡ true → nat_lt k (length m.rules.weights) ≡ true → has_room m 1 1 (length line) ≡ false → cut_face m f k line ≡ Err 11
+unfolding cut_face
+no_room_for_cut m f k line face class full = by (is_face m f) (nat_lt k (length m.rules.weights)) (has_room m 1 1 (length line)) face class full
+  where
+    rest : Result BaseMap ℕ
+    rest = ensured (are_free m.arcs line) 10 >>= λ free. ok_or (sectors_of (spans_of m.arcs) f line) 9 >>= λ sectors.
+        ok_or (walk_between (spans_of m.arcs) f sectors.0 sectors.1) 12 >>= λ walk. Ok (cut_map m f k line walk)
+
+    by : (a b c : Bool) → a ≡ true → b ≡ true → c ≡ false → (let cut : Result BaseMap ℕ = ensured (a && b) 2 >>= λ named. ensured c 11 >>= λ room. rest in cut) ≡ Err 11
+    by true true false e f g = refl
+    by true true true e f g = absurd cc
+    by true false c e f g = absurd cc
+    by false b c e f g = absurd cc

@@ -1,5 +1,6 @@
-//! Cuts and fusions of faces: an inner vertex becomes a node, a new arc cuts a face in two, and two faces become one. It stands
-//! on `ring_walk`, whose walks go round faces. The functions of `laws` do nothing: their contracts are laws of the three edits.
+//! Cuts and fusions of faces: an inner vertex becomes a node, a new arc cuts a face in two, and two faces become one. Of a cut there
+//! are the definition and its laws, and no call yet. It stands on `ring_walk`, whose walks go round faces. The functions of `laws` do
+//! nothing: their contracts are laws of the three edits.
 #![tactic(auto)]
 
 mod cause;
