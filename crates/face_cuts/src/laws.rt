@@ -1,0 +1,30 @@
+//! Laws of nodes, cuts and fusions. The functions do nothing: the contract of each is a law.
+
+ghost use Rattle.face_cuts.specs.EditLaws.{CutsKeepInside, CutsKeepMaps, FusionsKeepInside, FusionsKeepMaps, NodesKeepMaps};
+
+/// A base map with a node where it had an inner vertex is a base map.
+pub fn nodes_keep_maps()
+    ensures { NodesKeepMaps }
+{}
+
+/// A base map of which a face was cut in two is a base map.
+pub fn cuts_keep_maps()
+    ensures { CutsKeepMaps }
+{}
+
+/// A base map in which two faces became one is a base map.
+pub fn fusions_keep_maps()
+    ensures { FusionsKeepMaps }
+{}
+
+/// After a cut a point was inside the face exactly where it is inside one of the two parts alone, and every other face has
+/// it inside where it had it. It says nothing of the way that the cut takes.
+pub fn cuts_keep_inside()
+    ensures { CutsKeepInside }
+{}
+
+/// After a fusion a point is inside the fused face exactly where it was inside one of the two alone, and every other face
+/// has it inside where it had it.
+pub fn fusions_keep_inside()
+    ensures { FusionsKeepInside }
+{}

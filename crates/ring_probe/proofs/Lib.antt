@@ -1,0 +1,3 @@
+pub mod RowSegments
+pub mod Probes
+pub mod Turned
