@@ -6,7 +6,7 @@ ghost use Rattle.tgap_model.specs.declared.failure.Or.TheVariants.{Fault};
 use tgap_model::Or;
 
 /// The cause for which an edit is refused, by its number in 'Edit batches' of docs/formats.md.
-#[derive(Clone, Copy, Debug, PartialEq, Eq)]
+#[derive(Clone, Copy, PartialEq, Eq)]
 pub struct Cause {
     pub number: u8,
 }
