@@ -1,0 +1,5 @@
+pub mod Crash
+pub mod EntryBytes
+pub mod EntryExamples
+pub mod EntryLists
+pub mod Rest

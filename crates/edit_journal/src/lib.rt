@@ -1,0 +1,7 @@
+//! A journal of edits on a disk that may crash at any moment: each batch is stored before its version is published. It stands on
+//! `tgap_model` and `plain_io`.
+#![tactic(auto)]
+
+mod disk;
+
+pub use disk::Disk;
