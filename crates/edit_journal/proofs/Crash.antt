@@ -1,12 +1,12 @@
 -- What a crash leaves within the steps of an append, and while a journal is closed behind its entries.
-use Rattle.std.proofs.Common.{◌≡◌, ◌≢◌, ◌⊎◌, ℕ, ◌+◌, ◌<◌, ◌≤◌, List, [], ◌∷◌, ◌++◌, take, drop, get_or, length, sum_by, None, inl, inr, refl, sym, ◌∙◌, ap, subst, arith, append_assoc, length-append, take-append-drop}
+use Rattle.std.proofs.Common.{◌≡◌, ◌≢◌, ◌⊎◌, ℕ, ◌+◌, ◌<◌, ◌≤◌, List, [], ◌∷◌, ◌++◌, take, drop, get_or, length, sum_by, None, inl, inr, refl, sym, ◌∙◌, ap, subst, arith, append_assoc, length-append, length-drop, take-append-drop}
 use Rattle.std.proofs.lemmas.Bool.{cases_eq}
 use Rattle.std.proofs.lemmas.List.{take_at, drop_at, drop_more}
 use Rattle.std.specs.Int.{w32, w64, from_be_bytes}
 use Rattle.tgap_model.specs.Keeping.{KeptEntry}
 use Rattle.edit_journal.specs.Disk.{IsWritten, Torn}
 use Rattle.edit_journal.specs.Entries.{entry_at, entry_size, entries_of}
-use Rattle.edit_journal.proofs.EntryBytes.{EntryBytes, entry_long, none_whatever, none_alone, none_at_0}
+use Rattle.edit_journal.proofs.EntryBytes.{EntryBytes, none_whatever, none_alone, drop_twice}
 use Rattle.edit_journal.proofs.EntryLists.{Whole, whole_long, whole_more, whole_entries}
 use Rattle.edit_journal.proofs.Rest.{AtRest}
 
@@ -77,6 +77,9 @@ module _ (most : ℕ) (es : List KeptEntry) (front more : List ℕ) (whole : Who
     ∙ append_assoc front (0 ∷ []) (bytes ++ drop (end + 1 + length bytes) (front ++ 0 ∷ more)),
   )
 
+one_opens : ◌≢◌ {A = ℕ} 1 0
+one_opens is = omega arith
+
 -- with or without one entry more, a journal is at rest
 abbrev pub RestsEither : ℕ → List KeptEntry → KeptEntry → List ℕ → Type 0
 RestsEither most es e image = AtRest most es image ⊎ AtRest most (es ++ e ∷ []) image
@@ -121,8 +124,7 @@ module _ (most : ℕ) (es : List KeptEntry) (e : KeptEntry) (front body tail : L
       ∙ ap (λ (l : List ℕ). l ++ (1 ∷ []) ++ drop (end + 1) (staged 0)) (take_at front (0 ∷ (body ++ 0 ∷ tail)) end ends)
       ∙ ap (λ (l : List ℕ). front ++ (1 ∷ []) ++ l) (back_more front 0 (body ++ 0 ∷ tail) end ends)
       ∙ append_assoc front (1 ∷ []) (body ++ 0 ∷ tail) in
-      let opens : 1 ≢ 0 = λ is. omega arith in
-      open_rest 1 image opens split (omega (arith, ap length split, length-append front (0 ∷ (body ++ 0 ∷ tail)), length-append front (1 ∷ (body ++ 0 ∷ tail))))
+      open_rest 1 image one_opens split (omega (arith, ap length split, length-append front (0 ∷ (body ++ 0 ∷ tail)), length-append front (1 ∷ (body ++ 0 ∷ tail))))
 
 -- ---- while a journal is closed behind its entries
 
@@ -131,6 +133,39 @@ abbrev pub IsOpenEnd : List ℕ → Type 0
 IsOpenEnd [] = Unit {0}
 IsOpenEnd (byte ∷ more) = (byte ≢ 0) × (entry_at (byte ∷ more) ≡ None)
 
+torn_end : (rest after : List ℕ) → IsOpenEnd rest → drop 1 after ≡ drop 1 rest → length rest ≤ length after → entry_at after ≡ None
+torn_end [] [] open_end same long = refl
+torn_end [] (x ∷ []) open_end same long = none_alone x
+torn_end [] (x ∷ y ∷ after) open_end same long = absurd (cc)
+torn_end (byte ∷ more) [] open_end same long = absurd (omega arith)
+torn_end (byte ∷ more) (x ∷ after) open_end same long =
+    ap (λ (l : List ℕ). entry_at (x ∷ l)) same ∙ none_whatever byte x more open_end.0 open_end.1
+
+after_one : (front rest : List ℕ) (end : ℕ) → length front ≡ end → drop (end + 1) (front ++ rest) ≡ drop 1 rest
+after_one front rest end is = sym (drop_twice end 1 (front ++ rest)) ∙ ap (λ (l : List ℕ). drop 1 l) (drop_at front rest end is)
+
 module _ (most : ℕ) (es : List KeptEntry) (front rest : List ℕ) (whole : Whole front es) (end : ℕ) (ends : length front ≡ end) (open_end : IsOpenEnd rest) where
-  torn_rest : (after : List ℕ) → (rest' : List ℕ) → IsOpenEnd rest' → drop 1 after ≡ drop 1 rest' → length after ≤ length rest' ⊎ (length after ≤ 1) → entry_at after ≡ None
-  torn_rest after rest' o same short = ?
+  -- a torn byte at the end opens no entry
+  pub closing_torn : (image : List ℕ) → Torn end 1 (front ++ rest) image → entries_of image ≡ (es, sum_by entry_size es)
+  closing_torn image torn =
+      let start : take end image ≡ front = torn.before ∙ take_at front rest end ends in
+      let split : image ≡ front ++ drop end image = sym (take-append-drop end image) ∙ ap (λ (l : List ℕ). l ++ drop end image) start in
+      let same : drop 1 (drop end image) ≡ drop 1 rest = drop_twice end 1 image ∙ torn.after ∙ after_one front rest end ends in
+      let long : length rest ≤ length (drop end image) = omega (arith, torn.no_shorter, length-append front rest, length-drop end image) in
+      ap entries_of split ∙ whole_entries front (drop end image) es whole (torn_end rest (drop end image) open_end same long)
+
+  -- and one that was written closes the journal
+  pub closing_written : (image : List ℕ) → IsWritten (front ++ rest) end (0 ∷ []) image → end < most → length (front ++ rest) ≤ most → AtRest most es image
+  closing_written image written room within =
+      let split : image ≡ front ++ 0 ∷ drop (end + 1) (front ++ rest) =
+      written
+      ∙ ap (λ (l : List ℕ). l ++ (0 ∷ []) ++ drop (end + 1) (front ++ rest)) (take_at front rest end ends)
+      ∙ append_assoc front (0 ∷ []) (drop (end + 1) (front ++ rest)) in
+      record {
+        front = front;
+        rest = 0 ∷ drop (end + 1) (front ++ rest);
+        split = split;
+        whole = whole;
+        closing = refl;
+        within = omega (arith, ap length split, length-append front (0 ∷ drop (end + 1) (front ++ rest)), length-drop (end + 1) (front ++ rest), length-append front rest);
+      }

@@ -102,7 +102,7 @@ cond_some_last : {A : Type 0} (b : Bool) (x y : A) → cond b None (Some x) ≡ 
 cond_some_last true x y is = absurd (cc)
 cond_some_last false x y is = (refl, cc)
 
-drop_twice : (m n : ℕ) (l : List ℕ) → drop n (drop m l) ≡ drop (m + n) l
+pub drop_twice : (m n : ℕ) (l : List ℕ) → drop n (drop m l) ≡ drop (m + n) l
 drop_twice zero n l = let same : n ≡ zero + n = omega arith in ap (λ (k : ℕ). drop k l) same
 drop_twice (suc m) n [] = drop-nil n ∙ sym (drop-nil (suc m + n))
 drop_twice (suc m) n (x ∷ l) =
