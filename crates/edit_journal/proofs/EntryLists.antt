@@ -1,5 +1,5 @@
 -- The entries of bytes that are whole entries and then something that is none.
-use Rattle.std.proofs.Common.{◌≡◌, ℕ, zero, suc, ◌+◌, ◌≤◌, List, [], ◌∷◌, ◌++◌, drop, length, sum_by, Option, Some, None, refl, sym, ◌∙◌, ap, subst, arith, append_assoc, length-append}
+use Rattle.std.proofs.Common.{◌≡◌, ℕ, zero, suc, ◌+◌, ◌≤◌, List, [], ◌∷◌, ◌++◌, drop, length, sum_by, Option, Some, None, refl, sym, ◌∙◌, ap, subst, arith, append_assoc, length-append, length-drop}
 use Rattle.std.proofs.lemmas.List.{drop_at, append-nil}
 use Rattle.std.proofs.lemmas.List.Sums.{sum_by-cons}
 use Rattle.tgap_model.specs.Keeping.{KeptEntry}
@@ -80,3 +80,30 @@ split_from (suc most) bytes fits = split_on most (split_from most) bytes fits (e
 
 pub split_entries : (bytes : List ℕ) → Split bytes (entries_of bytes)
 split_entries bytes = split_from (length bytes) bytes (omega arith)
+
+-- however many entries are allowed, if they are enough
+same_from : (m n : ℕ) (bytes : List ℕ) → length bytes ≤ m → length bytes ≤ n → entries_from m bytes ≡ entries_from n bytes
+same_from m n bytes fits_m fits_n =
+    let s : Split bytes (entries_from n bytes) = split_from n bytes fits_n in
+    let any : (most : ℕ) → length bytes ≤ most → entries_from most bytes ≡ ((entries_from n bytes).0, sum_by entry_size (entries_from n bytes).0) =
+        λ most fits. ap (entries_from most) s.split ∙ whole_from most s.front s.rest (entries_from n bytes).0 s.whole s.none (omega (arith, fits, ap length s.split)) in
+    any m fits_m ∙ sym (any n fits_n)
+
+next_from : (bytes : List ℕ) (e : KeptEntry) → entry_at bytes ≡ Some e → (most : ℕ) → length bytes ≡ most → entries_from most bytes ≡ (e ∷ (entries_of (drop (entry_size e) bytes)).0, entry_size e + (entries_of (drop (entry_size e) bytes)).1)
+next_from bytes e is zero long = absurd (cc (ap entry_at (no_bytes bytes (omega arith))))
+next_from bytes e is (suc most) long =
+    let next : entries_from most (drop (entry_size e) bytes) ≡ entries_of (drop (entry_size e) bytes) = same_from most (length (drop (entry_size e) bytes)) (drop (entry_size e) bytes) (omega (arith, length-drop (entry_size e) bytes)) (omega arith) in
+    ap (λ (o : Option KeptEntry). with_entry o (λ k. entries_from most (drop (entry_size k) bytes))) is
+    ∙ (λ i. (e ∷ (next i).0, entry_size e + (next i).1))
+
+-- the entries where one stands at the front: that one, and those behind it
+pub next_entries : (bytes : List ℕ) (e : KeptEntry) → entry_at bytes ≡ Some e → entries_of bytes ≡ (e ∷ (entries_of (drop (entry_size e) bytes)).0, entry_size e + (entries_of (drop (entry_size e) bytes)).1)
+next_entries bytes e is = next_from bytes e is (length bytes) refl
+
+pub no_entries : (bytes : List ℕ) → entry_at bytes ≡ None → entries_of bytes ≡ ([], 0)
+no_entries bytes none = none_from (length bytes) bytes none
+
+pub entry_fits : (bytes : List ℕ) (e : KeptEntry) → entry_at bytes ≡ Some e → entry_size e ≤ length bytes
+entry_fits bytes e is =
+    let f : Found e bytes = found e bytes is in
+    omega (arith, ap length f.split, length-append f.front f.rest, entry_long e f.front f.entry)

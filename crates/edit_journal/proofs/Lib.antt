@@ -2,4 +2,5 @@ pub mod Crash
 pub mod EntryBytes
 pub mod EntryExamples
 pub mod EntryLists
+pub mod ReadSteps
 pub mod Rest

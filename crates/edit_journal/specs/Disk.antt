@@ -43,3 +43,7 @@ pub record LeavesOnly {D : Type 0} (moment : D → ℕ) (left_since : D → ℕ 
   pub each : (image : List ℕ) → left_since new (moment old) image → P image
   -- for a run of calls that began earlier
   pub before : (start : ℕ) (image : List ℕ) → start ≤ moment old → left_since new start image → left_since old start image ⊎ P image
+
+-- whatever a crash leaves now, it might have left before, with one such change or without
+abbrev pub LeftOrChanged : (List ℕ → List ℕ → Type 0) → (List ℕ → Type 0) → List ℕ → Type 0
+LeftOrChanged change old image = old image ⊎ ((earlier : List ℕ) × old earlier × change earlier image)

@@ -1,3 +1,4 @@
 pub mod Disk
 pub mod Entries
 pub mod Images
+pub mod Told

@@ -3,5 +3,8 @@
 #![tactic(auto)]
 
 mod disk;
+mod entry;
+mod reading;
 
 pub use disk::Disk;
+pub use entry::{AppendFail, Entry, JournalFail, NotOpened};
