@@ -5,6 +5,7 @@
 mod disk;
 mod entry;
 mod reading;
+mod written;
 
 pub use disk::Disk;
 pub use entry::{AppendFail, Entry, JournalFail, NotOpened};
