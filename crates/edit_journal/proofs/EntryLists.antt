@@ -107,3 +107,10 @@ pub entry_fits : (bytes : List ℕ) (e : KeptEntry) → entry_at bytes ≡ Some 
 entry_fits bytes e is =
     let f : Found e bytes = found e bytes is in
     omega (arith, ap length f.split, length-append f.front f.rest, entry_long e f.front f.entry)
+
+-- where they end
+pub ends_sized : (bytes : List ℕ) → (entries_of bytes).1 ≡ sum_by entry_size (entries_of bytes).0
+ends_sized bytes = let s : Split bytes (entries_of bytes) = split_entries bytes in sym s.end ∙ whole_long s.front (entries_of bytes).0 s.whole
+
+pub ends_within : (bytes : List ℕ) → (entries_of bytes).1 ≤ length bytes
+ends_within bytes = let s : Split bytes (entries_of bytes) = split_entries bytes in omega (arith, s.end, ap length s.split, length-append s.front s.rest)

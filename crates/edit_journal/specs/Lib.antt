@@ -1,4 +1,6 @@
+pub mod Counts
 pub mod Disk
 pub mod Entries
 pub mod Images
+pub mod Journals
 pub mod Told

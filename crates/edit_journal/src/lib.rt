@@ -4,8 +4,11 @@
 
 mod disk;
 mod entry;
+mod found;
+mod journal;
 mod reading;
 mod written;
 
 pub use disk::Disk;
 pub use entry::{AppendFail, Entry, JournalFail, NotOpened};
+pub use journal::Journal;
