@@ -1,7 +1,9 @@
+pub mod ClosingByte
 pub mod Crash
 pub mod EntryBytes
 pub mod EntryExamples
 pub mod EntryLists
 pub mod Moments
+pub mod Outcomes
 pub mod ReadSteps
 pub mod Rest

@@ -1,5 +1,5 @@
 -- A journal at rest: whole entries, and then a byte 0.
-use Rattle.std.proofs.Common.{◌≡◌, ◌≢◌, ◌⊎◌, ℕ, zero, suc, ◌+◌, ◌-◌, ◌<◌, ◌≤◌, max, Bool, true, false, nat_lt, nat_le, ◌||◌, ◌==◌, List, [], ◌∷◌, ◌++◌, take, drop, get_or, length, sum_by, inl, inr, ⊎_elim, refl, sym, ◌∙◌, ap, subst, arith, append_assoc, length-append, length-drop, take-append-drop, Option, Some, None}
+use Rattle.std.proofs.Common.{◌≡◌, ◌≢◌, ◌⊎◌, ℕ, zero, suc, ◌+◌, ◌-◌, ◌<◌, ◌≤◌, max, Bool, true, false, cond, nat_lt, nat_le, ◌||◌, ◌==◌, List, [], ◌∷◌, ◌++◌, take, drop, get_or, length, sum_by, inl, inr, ⊎_elim, refl, sym, ◌∙◌, ap, subst, arith, append_assoc, length-append, length-drop, take-append-drop, Option, Some, None}
 use Rattle.std.proofs.lemmas.Bool.{or_cases, eqb-true, eq-eqb, leb-true, le-leb, cases_eq}
 use Rattle.std.proofs.lemmas.List.{take_at, drop_at, take_all, drop_all, drop_more, append-nil, get_or-drop}
 use Rattle.std.specs.Int.{w32, w64, from_be_bytes}
@@ -39,7 +39,7 @@ or_second : (a b : Bool) → b ≡ true → (a || b) ≡ true
 or_second true b p = refl
 or_second false b p = p
 
-byte_behind : (front rest : List ℕ) (end : ℕ) → length front ≡ end → get_or (front ++ rest) end 1 ≡ get_or rest 0 1
+pub byte_behind : (front rest : List ℕ) (end : ℕ) → length front ≡ end → get_or (front ++ rest) end 1 ≡ get_or rest 0 1
 byte_behind front rest end is =
     let at : end + 0 ≡ end = omega arith in
     ap (λ (i : ℕ). get_or (front ++ rest) i 1) (sym at) ∙ sym (get_or-drop end (front ++ rest) 0 1) ∙ ap (λ (l : List ℕ). get_or l 0 1) (drop_at front rest end is)
@@ -85,3 +85,28 @@ at_rest most image closed within =
         subst (λ (n : ℕ). Closing most n s.rest) (sym s.end) (closing_from most (entries_of image).1 s.front s.rest s.end (subst (λ (l : List ℕ). ((get_or l (entries_of image).1 1 == 0) || nat_le most (entries_of image).1) ≡ true) s.split closed) (omega (arith, within, ap length s.split)));
       within = within;
     }
+
+cond_same : (b : Bool) → cond {A = List KeptEntry} b [] [] ≡ []
+cond_same true = refl
+cond_same false = refl
+
+-- a journal at rest is settled with its entries
+pub rest_settled : (most : ℕ) (es : List KeptEntry) (image : List ℕ) → AtRest most es image → IsLeft most es [] image
+rest_settled most es image r =
+    let has : (entries_of image).0 ≡ es = ap (λ (p : List KeptEntry × ℕ). p.0) (rest_entries most es image r) in
+    record {
+      has = has ∙ sym (append-nil es) ∙ ap (λ (l : List KeptEntry). es ++ l) (sym (cond_same (nat_lt (length es) (length (entries_of image).0))));
+      closed = rest_closed most es image r;
+      within = r.within;
+    }
+
+-- what is settled has its entries
+pub settled_has : (most : ℕ) (es : List KeptEntry) (image : List ℕ) → IsLeft most es [] image → (entries_of image).0 ≡ es
+settled_has most es image left = left.has ∙ ap (λ (l : List KeptEntry). es ++ l) (cond_same (nat_lt (length es) (length (entries_of image).0))) ∙ append-nil es
+
+pub settled_rest : (most : ℕ) (es : List KeptEntry) (image : List ℕ) → IsLeft most es [] image → AtRest most es image
+settled_rest most es image left = subst (λ (l : List KeptEntry). AtRest most l image) (settled_has most es image left) (at_rest most image left.closed left.within)
+
+-- and its entries end where their sizes say
+pub settled_end : (most : ℕ) (es : List KeptEntry) (image : List ℕ) → IsLeft most es [] image → entries_of image ≡ (es, sum_by entry_size es)
+settled_end most es image left = rest_entries most es image (settled_rest most es image left)
