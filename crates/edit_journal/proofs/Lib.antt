@@ -1,3 +1,4 @@
+pub mod Append
 pub mod ClosingByte
 pub mod Crash
 pub mod EntryBytes

@@ -1,6 +1,6 @@
 -- The entries of a journal in its bytes.
-use Rattle.std.specs.Prelude.{ℕ, zero, suc, ◌+◌, ◌||◌, ◌==◌, nat_lt, List, [], ◌∷◌, take, drop, length, Option, Some, None, if◌then◌else◌}
-use Rattle.std.specs.Int.{w32, w64, from_be_bytes}
+use Rattle.std.specs.Prelude.{ℕ, zero, suc, ◌+◌, ◌||◌, ◌==◌, nat_lt, List, [], ◌∷◌, ◌++◌, take, drop, length, Option, Some, None, if◌then◌else◌}
+use Rattle.std.specs.Int.{w32, w64, from_be_bytes, to_be_bytes}
 use Rattle.tgap_model.specs.Keeping.{KeptEntry}
 
 -- The entry at the front of some bytes: one byte that is not 0, the number in 8 bytes and the length of the batch in 4, both with
@@ -28,3 +28,7 @@ entries_from (suc most) bytes = with_entry (entry_at bytes) (λ e. entries_from 
 -- the entries of a journal, in order, and the place where they end
 abbrev pub entries_of : List ℕ → List KeptEntry × ℕ
 entries_of bytes = entries_from (length bytes) bytes
+
+-- the bytes of an entry behind its first one
+abbrev pub body_of : KeptEntry → List ℕ
+body_of e = to_be_bytes w64 e.number ++ (to_be_bytes w32 (length e.batch) ++ e.batch)

@@ -7,6 +7,8 @@ mod entry;
 mod found;
 mod journal;
 mod reading;
+mod row;
+mod store;
 mod written;
 
 pub use disk::Disk;

@@ -1,7 +1,7 @@
-//! Entries as bytes: how they are read, and how one is written.
+//! How entries are read from bytes.
 
-ghost use Rattle.std.specs.Prelude.{◌≡◌, ◌+◌, ◌<◌, ◌^◌, ◌++◌, ◌∷◌, [], length, option_map, IfOk};
-ghost use Rattle.std.specs.Int.{w32, w64, to_be_bytes, from_be_bytes};
+ghost use Rattle.std.specs.Prelude.{◌≡◌, length, option_map, IfOk};
+ghost use Rattle.std.specs.Int.{w32, w64, from_be_bytes};
 ghost use Rattle.edit_journal.specs.Entries.{entry_at as entry_there, entries_of};
 ghost use Rattle.edit_journal.specs.Told.{kept_of, read_of};
 
@@ -10,7 +10,7 @@ use std::alloc::Global;
 use tgap_model::{List, Memory, Text};
 
 /// The bytes of an entry beside its batch: the first one, the number and the length.
-const HEAD: usize = 13;
+pub const HEAD: usize = 13;
 
 /// The entry at the front of the bytes, if there is one.
 fn entry_at(alloc: Global, bytes: &[u8]) -> Result<Option<Entry>, Memory>
@@ -63,18 +63,4 @@ pub fn read_entries(alloc: Global, bytes: &[u8]) -> Result<(List<Entry>, usize),
         rest = behind;
     }
     Ok((entries, bytes.len() - rest.len()))
-}
-
-/// The bytes of an entry behind its first one, and a byte 0 behind them.
-pub fn record_of(alloc: Global, number: u64, batch: &[u8]) -> Result<Vec<u8>, Memory>
-    requires { length batch.now < 2 ^ 32 }
-    ensures { IfOk result (λ bytes. bytes.items
-        ≡ to_be_bytes w64 number ++ (to_be_bytes w32 (length batch.now) ++ (batch.now ++ 0 ∷ []))) }
-{
-    let mut bytes = Vec::with_capacity(alloc, HEAD + batch.len())?;
-    bytes.extend_from_slice(&number.to_be_bytes())?;
-    bytes.extend_from_slice(&(batch.len() as u32).to_be_bytes())?;
-    bytes.extend_from_slice(batch)?;
-    bytes.push(0)?;
-    Ok(bytes)
 }
