@@ -4,6 +4,7 @@ pub mod Crash
 pub mod EntryBytes
 pub mod EntryExamples
 pub mod EntryLists
+pub mod JournalSteps
 pub mod Moments
 pub mod Outcomes
 pub mod ReadSteps

@@ -8,6 +8,7 @@ mod found;
 mod journal;
 mod reading;
 mod row;
+mod rows;
 mod store;
 mod written;
 
