@@ -9,3 +9,4 @@ pub mod Moments
 pub mod Outcomes
 pub mod ReadSteps
 pub mod Rest
+pub mod RunLaws

@@ -3,4 +3,5 @@ pub mod Disk
 pub mod Entries
 pub mod Images
 pub mod Journals
+pub mod Runs
 pub mod Told
