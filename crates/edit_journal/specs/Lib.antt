@@ -1,7 +1,11 @@
 pub mod Counts
 pub mod Disk
+pub mod DiskLogs
 pub mod Entries
 pub mod Images
 pub mod Journals
+pub mod LogRoom
+pub mod MemoryDisks
+pub mod NamedBytes
 pub mod Runs
 pub mod Told

@@ -5,8 +5,16 @@ ghost use Rattle.plain_io.specs.Loads.{Loads, CountsLoad};
 ghost use Rattle.plain_io.specs.Puts.{CountsPut};
 ghost use Rattle.edit_journal.specs.Disk.{bytes_told, IsWritten, Torn, Follows, Stays, Only, Elapses};
 
+mod host;
+mod log;
+mod memory;
+mod sure;
+
+pub use host::HostDisk;
+pub use memory::MemoryDisk;
 use plain_io::{Failed, LoadFail};
 use std::alloc::Global;
+pub use sure::SureDisk;
 use tgap_model::Text;
 
 /// A disk. Where it is told what it holds, a read gives one of the images that a crash at that moment may leave. A crash may

@@ -3,6 +3,7 @@
 #![tactic(auto)]
 
 mod disk;
+mod disks;
 mod entry;
 mod found;
 mod journal;
@@ -13,7 +14,8 @@ mod rows;
 mod store;
 mod written;
 
-pub use disk::Disk;
+pub use disk::{Disk, HostDisk, MemoryDisk, SureDisk};
+pub use disks::{Disks, HostDisks, MemoryDisks};
 pub use entry::{AppendFail, Entry, JournalFail, NotOpened};
 pub use journal::Journal;
 pub use promise::crash_at_any_moment;
