@@ -5,6 +5,7 @@ pub mod EntryBytes
 pub mod EntryExamples
 pub mod EntryLists
 pub mod JournalSteps
+pub mod KeeperSteps
 pub mod LogSteps
 pub mod Moments
 pub mod Outcomes

@@ -4,6 +4,7 @@ pub mod DiskLogs
 pub mod Entries
 pub mod Images
 pub mod Journals
+pub mod Keepers
 pub mod LogRoom
 pub mod MemoryDisks
 pub mod NamedBytes
