@@ -72,9 +72,9 @@ module _ (most : ℕ) (es : List KeptEntry) (front more : List ℕ) (whole : Who
   behind_written bytes image written = (
     drop (end + 1 + length bytes) (front ++ 0 ∷ more),
     written
-    ∙ ap (λ (l : List ℕ). l ++ bytes ++ drop (end + 1 + length bytes) (front ++ 0 ∷ more)) (front_more front 0 more end ends)
-    ∙ append_assoc (front ++ 0 ∷ []) bytes (drop (end + 1 + length bytes) (front ++ 0 ∷ more))
-    ∙ append_assoc front (0 ∷ []) (bytes ++ drop (end + 1 + length bytes) (front ++ 0 ∷ more)),
+        ∙ ap (λ (l : List ℕ). l ++ bytes ++ drop (end + 1 + length bytes) (front ++ 0 ∷ more)) (front_more front 0 more end ends)
+        ∙ append_assoc (front ++ 0 ∷ []) bytes (drop (end + 1 + length bytes) (front ++ 0 ∷ more))
+        ∙ append_assoc front (0 ∷ []) (bytes ++ drop (end + 1 + length bytes) (front ++ 0 ∷ more)),
   )
 
 one_opens : ◌≢◌ {A = ℕ} 1 0

@@ -45,11 +45,12 @@ take_near p q n is = take_at p q n (sym is)
 parts_at : (number size batch any : List ℕ) (n s : ℕ) → length number ≡ n → length size ≡ s
     → (take n (number ++ (size ++ (batch ++ any))) ≡ number) × (take s (drop n (number ++ (size ++ (batch ++ any)))) ≡ size)
     × (drop (n + s) (number ++ (size ++ (batch ++ any))) ≡ batch ++ any)
-parts_at number size batch any n s is_n is_s =
-    (take_at number (size ++ (batch ++ any)) n is_n,
-    ap (λ (l : List ℕ). take s l) (drop_at number (size ++ (batch ++ any)) n is_n) ∙ take_at size (batch ++ any) s is_s,
-    ap (λ (l : List ℕ). drop (n + s) l) (sym (append_assoc number size (batch ++ any)))
-    ∙ drop_at (number ++ size) (batch ++ any) (n + s) (omega (arith, length-append number size)))
+parts_at number size batch any n s is_n is_s = (
+  take_at number (size ++ (batch ++ any)) n is_n,
+  ap (λ (l : List ℕ). take s l) (drop_at number (size ++ (batch ++ any)) n is_n) ∙ take_at size (batch ++ any) s is_s,
+  ap (λ (l : List ℕ). drop (n + s) l) (sym (append_assoc number size (batch ++ any)))
+      ∙ drop_at (number ++ size) (batch ++ any) (n + s) (omega (arith, length-append number size)),
+)
 
 -- an entry stands at the front, whatever follows its bytes
 module _ (e : KeptEntry) (bytes any : List ℕ) (b : EntryBytes e bytes) where
@@ -141,9 +142,9 @@ module _ (e : KeptEntry) (first : ℕ) (rest : List ℕ) (is : entry_at (first �
     front = first ∷ (take 8 rest ++ (take 4 (drop 8 rest) ++ e.batch));
     rest = drop (told_size rest) (drop 12 rest);
     split =
-      ap (λ (l : List ℕ). first ∷ l) (cut_up rest 8 4 (told_size rest) ∙ ap (λ (l : List ℕ). take 8 rest ++ (take 4 (drop 8 rest) ++ (l ++ drop (told_size rest) (drop 12 rest)))) batch_same
-      ∙ ap (λ (l : List ℕ). take 8 rest ++ l) (sym (append_assoc (take 4 (drop 8 rest)) e.batch (drop (told_size rest) (drop 12 rest))))
-      ∙ sym (append_assoc (take 8 rest) (take 4 (drop 8 rest) ++ e.batch) (drop (told_size rest) (drop 12 rest))));
+        ap (λ (l : List ℕ). first ∷ l) (cut_up rest 8 4 (told_size rest) ∙ ap (λ (l : List ℕ). take 8 rest ++ (take 4 (drop 8 rest) ++ (l ++ drop (told_size rest) (drop 12 rest)))) batch_same
+        ∙ ap (λ (l : List ℕ). take 8 rest ++ l) (sym (append_assoc (take 4 (drop 8 rest)) e.batch (drop (told_size rest) (drop 12 rest))))
+        ∙ sym (append_assoc (take 8 rest) (take 4 (drop 8 rest) ++ e.batch) (drop (told_size rest) (drop 12 rest))));
     entry = record {
       first = first;
       number = take 8 rest;
@@ -168,8 +169,10 @@ none_whatever first other rest opens none = cond-true _ _ _ (or_right (other == 
     none_chosen : {A : Type 0} (b : Bool) (x : A) → cond b None (Some x) ≡ None → b ≡ true
     none_chosen true x is = refl
     none_chosen false x is = absurd (cc)
+
     or_left : (a b : Bool) → a ≡ false → (a || b) ≡ true → b ≡ true
     or_left a b p q = cc
+
     short : nat_lt (length rest) (12 + told_size rest) ≡ true
     short = or_left _ _ (ne_eqb first 0 opens) (none_chosen _ _ none)
 

@@ -86,7 +86,7 @@ same_from : (m n : ℕ) (bytes : List ℕ) → length bytes ≤ m → length byt
 same_from m n bytes fits_m fits_n =
     let s : Split bytes (entries_from n bytes) = split_from n bytes fits_n in
     let any : (most : ℕ) → length bytes ≤ most → entries_from most bytes ≡ ((entries_from n bytes).0, sum_by entry_size (entries_from n bytes).0) =
-        λ most fits. ap (entries_from most) s.split ∙ whole_from most s.front s.rest (entries_from n bytes).0 s.whole s.none (omega (arith, fits, ap length s.split)) in
+    λ most fits. ap (entries_from most) s.split ∙ whole_from most s.front s.rest (entries_from n bytes).0 s.whole s.none (omega (arith, fits, ap length s.split)) in
     any m fits_m ∙ sym (any n fits_n)
 
 next_from : (bytes : List ℕ) (e : KeptEntry) → entry_at bytes ≡ Some e → (most : ℕ) → length bytes ≡ most → entries_from most bytes ≡ (e ∷ (entries_of (drop (entry_size e) bytes)).0, entry_size e + (entries_of (drop (entry_size e) bytes)).1)

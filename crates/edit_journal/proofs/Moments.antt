@@ -14,7 +14,7 @@ module _ {D : Type 0} (moment : D → ℕ) (left_since : D → ℕ → List ℕ 
     later = omega (arith, so_far.later, time.later);
     each = λ image left. ⊎_elim (so_far.each image) (here image) (time.nothing_else (moment old) image so_far.later left);
     before =
-      λ start image le left. ⊎_elim (so_far.before start image le) (λ now. inr (here image now)) (time.nothing_else start image (omega (arith, le, so_far.later)) left);
+        λ start image le left. ⊎_elim (so_far.before start image le) (λ now. inr (here image now)) (time.nothing_else start image (omega (arith, le, so_far.later)) left);
   }
 
   -- and one that says as much of itself
@@ -24,7 +24,7 @@ module _ {D : Type 0} (moment : D → ℕ) (left_since : D → ℕ → List ℕ 
     later = omega (arith, first.later, next.later);
     each = λ image left. ⊎_elim (first.each image) (here image) (next.before (moment old) image first.later left);
     before =
-      λ start image le left. ⊎_elim (first.before start image le) (λ q. inr (here image q)) (next.before start image (omega (arith, le, first.later)) left);
+        λ start image le left. ⊎_elim (first.before start image le) (λ q. inr (here image q)) (next.before start image (omega (arith, le, first.later)) left);
   }
 
   -- what has P has Q

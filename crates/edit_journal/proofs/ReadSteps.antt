@@ -19,9 +19,9 @@ read_more bytes entries rest entry so_far is =
     let behind : List KeptEntry × ℕ = entries_of (drop (entry_size e) rest) in
     let next : entries_of rest ≡ (e ∷ behind.0, entry_size e + behind.1) = next_entries rest e is in
     let listed : all_kept entries ++ (e ∷ behind.0) ≡ all_kept (entries ++ entry ∷ []) ++ behind.0 =
-        sym (append_assoc (all_kept entries) (e ∷ []) behind.0) ∙ ap (λ (l : List KeptEntry). l ++ behind.0) (sym (map-append kept_of entries (entry ∷ []))) in
+    sym (append_assoc (all_kept entries) (e ∷ []) behind.0) ∙ ap (λ (l : List KeptEntry). l ++ behind.0) (sym (map-append kept_of entries (entry ∷ []))) in
     let placed : length bytes - length rest + (entry_size e + behind.1) ≡ length bytes - length (drop (entry_size e) rest) + behind.1 =
-        omega (arith, so_far.short, length-drop (entry_size e) rest, entry_fits rest e is) in
+    omega (arith, so_far.short, length-drop (entry_size e) rest, entry_fits rest e is) in
     record {
       found = so_far.found ∙ (λ i. (all_kept entries ++ (next i).0, length bytes - length rest + (next i).1)) ∙ (λ i. (listed i, placed i));
       short = omega (arith, so_far.short, length-drop (entry_size e) rest);

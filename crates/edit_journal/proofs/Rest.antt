@@ -82,7 +82,7 @@ at_rest most image closed within =
       split = s.split;
       whole = s.whole;
       closing =
-        subst (λ (n : ℕ). Closing most n s.rest) (sym s.end) (closing_from most (entries_of image).1 s.front s.rest s.end (subst (λ (l : List ℕ). ((get_or l (entries_of image).1 1 == 0) || nat_le most (entries_of image).1) ≡ true) s.split closed) (omega (arith, within, ap length s.split)));
+          subst (λ (n : ℕ). Closing most n s.rest) (sym s.end) (closing_from most (entries_of image).1 s.front s.rest s.end (subst (λ (l : List ℕ). ((get_or l (entries_of image).1 1 == 0) || nat_le most (entries_of image).1) ≡ true) s.split closed) (omega (arith, within, ap length s.split)));
       within = within;
     }
 

@@ -31,5 +31,4 @@ pub fn crash_at_any_moment<D: Disk>()
         → Run D.moment D.left_since D.may_leave (disk, sure_of entries) calls now
         → Called D.moment D.left_since D.may_leave now next call
         → (image : List ℕ) → D.left_since next.0 (D.moment now.0) image → IsHistory entries (calls ++ ended_by_crash call) (entries_of image).0 }
-{
-}
+{}

@@ -110,12 +110,7 @@ impl Disk for MemoryDisk {
             self.log.tore(at, bytes.len());
             return Err(Failed);
         }
-        let Ok(()) = overwritten(
-            &mut self.spare,
-            self.held.as_slice(),
-            at as usize,
-            bytes,
-        ) else {
+        let Ok(()) = overwritten(&mut self.spare, self.held.as_slice(), at as usize, bytes) else {
             self.faults = self.faults.saturating_add(1);
             self.log.tore(at, bytes.len());
             return Err(Failed);

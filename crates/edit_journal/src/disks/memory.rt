@@ -24,12 +24,7 @@ pub struct MemoryDisks {
 impl MemoryDisks {
     /// Disks with these bytes. The calls for a disk with the listed numbers, counted from 0, fail. Of the first disk that is
     /// given the calls listed as `failing` fail, and each disk has room to remember so much.
-    pub fn new(
-        files: List<MemoryFile>,
-        refused: List<u64>,
-        failing: List<u64>,
-        room: usize,
-    ) -> Self
+    pub fn new(files: List<MemoryFile>, refused: List<u64>, failing: List<u64>, room: usize) -> Self
         ensures held { (name : _) → ⟦<MemoryDisks as Disks>⟧.held result name ≡ bytes_of files name }
         ensures told { ⟦<MemoryDisks as Disks>⟧.told result ≡ true }
         ensures faults { ⟦<MemoryDisks as Disks>⟧.faults result ≡ 0 }

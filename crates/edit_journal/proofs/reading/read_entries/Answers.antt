@@ -9,6 +9,6 @@ pub loop-entries-preserved : goal.loop-entries-preserved
 loop-entries-preserved c =
     let more : ReadSoFar c.args.bytes.now (c.loop-entries.entries ++ c.in-Some.entry ∷ []) (drop (entry_size (kept_of c.in-Some.entry)) c.loop-entries.rest.now) = read_more c.args.bytes.now c.loop-entries.entries c.loop-entries.rest.now c.in-Some.entry c.loop-entries.invariant (search rules) in
     let behind : drop (entry_size (kept_of c.in-Some.entry)) c.loop-entries.rest.now ≡ c.split_at.result.1.now =
-        ap (λ (n : ℕ). drop (13 + n) c.loop-entries.rest.now) (sym c.len.ensures) ∙ sym c.split_at.ensures.back in
+    ap (λ (n : ℕ). drop (13 + n) c.loop-entries.rest.now) (sym c.len.ensures) ∙ sym c.split_at.ensures.back in
     let pushed : c.loop-entries.entries ++ c.in-Some.entry ∷ [] ≡ c.push.new.self = sym (c.in_ok-push.ensures) in
     subst (λ (entries : List Entry). ReadSoFar c.args.bytes.now entries c.split_at.result.1.now) pushed (subst (λ (rest : List ℕ). ReadSoFar c.args.bytes.now (c.loop-entries.entries ++ c.in-Some.entry ∷ []) rest) behind more)

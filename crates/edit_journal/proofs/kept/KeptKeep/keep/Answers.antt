@@ -29,9 +29,9 @@ returns-in-Ok-clause-kept g c =
 pub returns-in-Err-Full-clause-full : goal.returns-in-Err-Full-clause-full
 returns-in-Err-Full-clause-full g c =
     λ most same.
-        let is_full : c.append.result ≡ Err (Append.Full c.in-Err-Full.limit) = cc in
-        let limit : c.in-Err-Full.limit ≡ 67108864 = ((c.append.ensures.full c.in-Err-Full.limit).0 is_full).0 in
-        cc
+    let is_full : c.append.result ≡ Err (Append.Full c.in-Err-Full.limit) = cc in
+    let limit : c.in-Err-Full.limit ≡ 67108864 = ((c.append.ensures.full c.in-Err-Full.limit).0 is_full).0 in
+    cc
 
 pub returns-in-Err-Full-clause-kept : goal.returns-in-Err-Full-clause-kept
 returns-in-Err-Full-clause-kept g c =
