@@ -1,16 +1,16 @@
 -- What stands on the disk within the steps of an append.
-use Rattle.std.proofs.Common.{◌≡◌, ◌⊎◌, ℕ, ◌+◌, ◌<◌, ◌≤◌, ◌^◌, Bool, true, false, cond, nat_lt, List, [], ◌∷◌, ◌++◌, length, sum_by, inl, inr, ⊎_elim, refl, sym, ◌∙◌, ap, subst, arith, append_assoc, length-append}
+use Rattle.std.proofs.Common.{◌≡◌, ℕ, ◌+◌, ◌<◌, ◌≤◌, ◌^◌, true, false, nat_lt, List, [], ◌∷◌, ◌++◌, length, ⊎_elim, refl, sym, ◌∙◌, ap, subst, arith, append_assoc, length-append}
 use Rattle.std.proofs.lemmas.Bool.{cond-true, cond-false, lt-ltb, le-ltb}
 use Rattle.std.proofs.lemmas.List.{append-nil}
 use Rattle.std.proofs.lemmas.Nat.{from_be_bytes-to_be_bytes_4, from_be_bytes-to_be_bytes_8}
 use Rattle.std.specs.Int.{w32, w64, to_be_bytes}
 use Rattle.tgap_model.specs.Keeping.{KeptEntry}
 use Rattle.edit_journal.specs.Disk.{IsWritten, Torn, Follows, Only, LeftOrChanged}
-use Rattle.edit_journal.specs.Entries.{entry_size, entries_of, body_of}
-use Rattle.edit_journal.specs.Images.{IsLeft, IsWithOrWithout}
+use Rattle.edit_journal.specs.Entries.{entries_of, body_of}
+use Rattle.edit_journal.specs.Images.{IsLeft}
 use Rattle.edit_journal.proofs.EntryLists.{Whole, whole_long}
-use Rattle.edit_journal.proofs.Rest.{AtRest, Closing, rest_entries, rest_closed, rest_settled, settled_rest, settled_end}
-use Rattle.edit_journal.proofs.Crash.{Body, body_long, behind_torn, behind_written, staged, open_torn, open_written, RestsEither}
+use Rattle.edit_journal.proofs.Rest.{AtRest, Closing, rest_entries, rest_closed, settled_rest}
+use Rattle.edit_journal.proofs.Crash.{Body, body_long, behind_torn, behind_written, open_torn, open_written, RestsEither}
 
 -- a row's bytes are those of its entry
 pub row_body : (e : KeptEntry) → e.number < 2 ^ 64 → length e.batch < 2 ^ 32 → Body e (body_of e)

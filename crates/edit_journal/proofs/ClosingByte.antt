@@ -1,9 +1,8 @@
 -- What the closing of a journal behind its entries does to its bytes.
-use Rattle.std.proofs.Common.{◌≡◌, ◌≢◌, ℕ, ◌+◌, ◌<◌, ◌≤◌, Bool, true, false, nat_le, ◌||◌, ◌==◌, List, [], ◌∷◌, ◌++◌, get_or, length, sum_by, None, refl, sym, ◌∙◌, ap, subst, arith}
+use Rattle.std.proofs.Common.{◌≡◌, ℕ, ◌<◌, ◌≤◌, Bool, true, false, nat_le, ◌||◌, ◌==◌, List, [], ◌∷◌, ◌++◌, get_or, length, None, refl, sym, ◌∙◌, ap, subst}
 use Rattle.std.proofs.lemmas.Bool.{eqb-false, leb-false}
-use Rattle.tgap_model.specs.Keeping.{KeptEntry}
 use Rattle.edit_journal.specs.Disk.{IsWritten, Torn}
-use Rattle.edit_journal.specs.Entries.{entry_at, entry_size, entries_of}
+use Rattle.edit_journal.specs.Entries.{entry_at, entries_of}
 use Rattle.edit_journal.specs.Images.{is_closed}
 use Rattle.edit_journal.proofs.EntryLists.{Split, split_entries, ends_sized}
 use Rattle.edit_journal.proofs.Rest.{AtRest, byte_behind}

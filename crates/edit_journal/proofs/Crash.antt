@@ -1,5 +1,5 @@
 -- What a crash leaves within the steps of an append, and while a journal is closed behind its entries.
-use Rattle.std.proofs.Common.{◌≡◌, ◌≢◌, ◌⊎◌, ℕ, ◌+◌, ◌<◌, ◌≤◌, List, [], ◌∷◌, ◌++◌, take, drop, get_or, length, sum_by, None, inl, inr, refl, sym, ◌∙◌, ap, subst, arith, append_assoc, length-append, length-drop, take-append-drop}
+use Rattle.std.proofs.Common.{◌≡◌, ◌≢◌, ◌⊎◌, ℕ, ◌+◌, ◌<◌, ◌≤◌, List, [], ◌∷◌, ◌++◌, take, drop, get_or, length, sum_by, None, inl, inr, refl, sym, ◌∙◌, ap, arith, append_assoc, length-append, length-drop, take-append-drop}
 use Rattle.std.proofs.lemmas.Bool.{cases_eq}
 use Rattle.std.proofs.lemmas.List.{take_at, drop_at, drop_more}
 use Rattle.std.specs.Int.{w32, w64, from_be_bytes}
@@ -7,7 +7,7 @@ use Rattle.tgap_model.specs.Keeping.{KeptEntry}
 use Rattle.edit_journal.specs.Disk.{IsWritten, Torn}
 use Rattle.edit_journal.specs.Entries.{entry_at, entry_size, entries_of}
 use Rattle.edit_journal.proofs.EntryBytes.{EntryBytes, none_whatever, none_alone, drop_twice}
-use Rattle.edit_journal.proofs.EntryLists.{Whole, whole_long, whole_more, whole_entries}
+use Rattle.edit_journal.proofs.EntryLists.{Whole, whole_more, whole_entries}
 use Rattle.edit_journal.proofs.Rest.{AtRest}
 
 -- the bytes of an entry behind its first one

@@ -1,16 +1,14 @@
 -- How the facts that a journal keeps go on.
-use Rattle.std.proofs.Common.{◌≡◌, ◌⊎◌, ℕ, ◌+◌, ◌<◌, ◌≤◌, Bool, true, false, cond, nat_lt, List, [], ◌∷◌, ◌++◌, length, map, sum_by, Option, Some, None, is_none, option_map, inl, inr, refl, sym, ◌∙◌, ap, subst, arith}
+use Rattle.std.proofs.Common.{◌≡◌, ℕ, ◌+◌, Bool, true, false, cond, nat_lt, List, [], ◌∷◌, ◌++◌, length, sum_by, Option, Some, None, is_none, option_map, inl, inr, refl, ◌∙◌, ap, subst}
 use Rattle.std.proofs.lemmas.List.{append-nil, map-append}
 use Rattle.std.proofs.lemmas.List.Sums.{sum_by_push}
 use Rattle.edit_journal.specs.declared.entry.Entry.{Entry}
 use Rattle.tgap_model.specs.Keeping.{KeptEntry, Kept, IsStart}
-use Rattle.edit_journal.specs.Disk.{LeavesOnly}
 use Rattle.edit_journal.specs.Entries.{entry_size, entries_of}
 use Rattle.edit_journal.specs.Images.{IsLeft, IsWithOrWithout}
 use Rattle.edit_journal.specs.Journals.{IsOf, doubting}
 use Rattle.edit_journal.specs.Told.{kept_of, all_kept, doubted}
-use Rattle.edit_journal.proofs.Moments.{weaker}
-use Rattle.edit_journal.proofs.Rest.{settled_end, settled_has}
+use Rattle.edit_journal.proofs.Rest.{settled_end}
 
 -- where no entry is in doubt
 pub none_doubted : (doubt : Option Entry) → is_none (option_map kept_of doubt) ≡ true → doubted doubt ≡ []

@@ -1,5 +1,5 @@
 -- What a keeper over a journal tells after a call.
-use Rattle.std.proofs.Common.{◌≡◌, ◌⊎◌, ℕ, ◌<◌, ◌≤◌, Bool, true, false, cond, List, [], ◌∷◌, ◌++◌, Option, Some, None, is_none, Result, Ok, Err, MatchOption, inl, inr, ⊎_elim, refl, sym, ◌∙◌, ap, subst, arith}
+use Rattle.std.proofs.Common.{◌≡◌, ℕ, ◌<◌, Bool, true, false, cond, List, [], ◌∷◌, ◌++◌, Option, Some, None, is_none, Result, Ok, Err, MatchOption, inl, inr, ⊎_elim, refl, ◌∙◌, ap}
 use Rattle.std.proofs.lemmas.Bool.{cases_lt}
 use Rattle.tgap_model.specs.declared.keep.KeepFail.{KeepFail}
 use Rattle.tgap_model.specs.declared.keep.KeepFail.TheVariants.{Failed, Full, Memory}

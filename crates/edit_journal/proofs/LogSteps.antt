@@ -1,5 +1,5 @@
 -- How the log of a disk in memory goes on.
-use Rattle.std.proofs.Common.{◌≡◌, ℕ, Bool, true, List, ◌∷◌, sym, subst}
+use Rattle.std.proofs.Common.{◌≡◌, ℕ, true, List, ◌∷◌, sym, subst}
 use Rattle.edit_journal.specs.Disk.{Stays}
 use Rattle.edit_journal.specs.DiskLogs.{Logged, MadeSure, left_after, are_within, seen_left}
 

@@ -1,14 +1,12 @@
 -- A journal at rest: whole entries, and then a byte 0.
-use Rattle.std.proofs.Common.{◌≡◌, ◌≢◌, ◌⊎◌, ℕ, zero, suc, ◌+◌, ◌-◌, ◌<◌, ◌≤◌, max, Bool, true, false, cond, nat_lt, nat_le, ◌||◌, ◌==◌, List, [], ◌∷◌, ◌++◌, take, drop, get_or, length, sum_by, inl, inr, ⊎_elim, refl, sym, ◌∙◌, ap, subst, arith, append_assoc, length-append, length-drop, take-append-drop, Option, Some, None}
-use Rattle.std.proofs.lemmas.Bool.{or_cases, eqb-true, eq-eqb, leb-true, le-leb, cases_eq}
-use Rattle.std.proofs.lemmas.List.{take_at, drop_at, take_all, drop_all, drop_more, append-nil, get_or-drop}
-use Rattle.std.specs.Int.{w32, w64, from_be_bytes}
+use Rattle.std.proofs.Common.{◌≡◌, ℕ, ◌+◌, ◌≤◌, Bool, true, false, cond, nat_lt, nat_le, ◌||◌, ◌==◌, List, [], ◌∷◌, ◌++◌, get_or, length, sum_by, inl, inr, refl, sym, ◌∙◌, ap, subst, arith, length-append, None}
+use Rattle.std.proofs.lemmas.Bool.{or_cases, eqb-true, eq-eqb, leb-true, le-leb}
+use Rattle.std.proofs.lemmas.List.{drop_at, append-nil, get_or-drop}
 use Rattle.tgap_model.specs.Keeping.{KeptEntry}
-use Rattle.edit_journal.specs.Disk.{IsWritten, Torn}
 use Rattle.edit_journal.specs.Entries.{entry_at, entry_size, entries_of}
 use Rattle.edit_journal.specs.Images.{is_closed, IsLeft}
-use Rattle.edit_journal.proofs.EntryBytes.{EntryBytes, entry_long, none_whatever, none_alone, none_at_0}
-use Rattle.edit_journal.proofs.EntryLists.{Whole, whole_long, whole_more, whole_entries, Split, split_entries}
+use Rattle.edit_journal.proofs.EntryBytes.{none_at_0}
+use Rattle.edit_journal.proofs.EntryLists.{Whole, whole_long, whole_entries, Split, split_entries}
 
 -- nothing behind the entries, which take all the room, or a byte 0 and anything behind it
 abbrev pub Closing : ℕ → ℕ → List ℕ → Type 0

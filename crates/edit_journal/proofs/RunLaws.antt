@@ -1,11 +1,11 @@
 -- Laws of runs of calls of a journal.
-use Rattle.std.proofs.Common.{◌≡◌, ◌⊎◌, ℕ, List, [], ◌∷◌, ◌++◌, Bool, true, Option, Some, None, Result, Ok, Err, inl, inr, ⊎_elim, refl, sym, ◌∙◌, ap, subst}
+use Rattle.std.proofs.Common.{◌≡◌, ◌⊎◌, ℕ, List, [], ◌∷◌, ◌++◌, Ok, Err, inl, inr, refl, sym, ◌∙◌, ap, subst}
 use Rattle.std.proofs.lemmas.List.{append-nil}
 use Rattle.edit_journal.specs.declared.entry.AppendFail.TheVariants.{Failed, Full, Memory}
 use Rattle.tgap_model.specs.Keeping.{KeptEntry, Kept, IsStart, sure_of}
 use Rattle.edit_journal.specs.Entries.{entries_of}
-use Rattle.edit_journal.specs.Journals.{is_sure, IsOf, doubting}
-use Rattle.edit_journal.specs.Runs.{Call, Append, Settle, Changes, during, Called, Run, acknowledged, unsettled, held_after, IsHistory, ended_by_crash}
+use Rattle.edit_journal.specs.Journals.{IsOf, doubting}
+use Rattle.edit_journal.specs.Runs.{Call, Append, Settle, Changes, Called, Run, acknowledged, unsettled, IsHistory, ended_by_crash}
 
 -- what is held after a list of calls, without the disks
 abbrev pub Goes : Kept → List Call → Kept → Type 0

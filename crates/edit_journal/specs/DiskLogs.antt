@@ -1,12 +1,12 @@
 -- The calls that a disk in memory has seen, the newest first, and what a crash at each moment leaves.
-use Rattle.std.specs.Prelude.{◌≡◌, ◌⊎◌, ℕ, suc, ◌+◌, ◌-◌, ◌≤◌, max, nat_le, Bool, true, ◌&&◌, List, [], ◌∷◌, ◌++◌, reverse, length, take, drop, refl}
-use Rattle.std.proofs.Common.{inl, inr, ⊎_elim, sym, ◌∙◌, ap, subst, arith, length-append, length-drop, append_assoc}
+use Rattle.std.specs.Prelude.{◌≡◌, ◌⊎◌, ℕ, ◌+◌, ◌-◌, ◌≤◌, nat_le, Bool, true, ◌&&◌, List, [], ◌∷◌, ◌++◌, reverse, length, take, drop, refl}
+use Rattle.std.proofs.Common.{inl, inr, sym, ◌∙◌, ap, subst, arith, length-append, length-drop, append_assoc}
 use Rattle.std.proofs.lemmas.Bool.{and_parts, leb-true}
 use Rattle.std.proofs.lemmas.List.{take_at, drop_at, length-take-le}
 use Rattle.edit_journal.specs.declared.disk.log.Step.{Step}
 use Rattle.edit_journal.specs.declared.disk.log.Step.TheVariants.{Wrote, Tore, Sure}
 use Rattle.edit_journal.specs.declared.disk.log.DiskLog.{DiskLog}
-use Rattle.edit_journal.specs.Disk.{IsWritten, Torn, Follows, Elapses}
+use Rattle.edit_journal.specs.Disk.{Torn}
 
 -- a write that succeeded, one that failed, of so many bytes, and a sync that succeeded
 pub data Logged : Type 0 where

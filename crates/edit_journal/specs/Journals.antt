@@ -1,5 +1,5 @@
 -- What a journal tells: its disk, its entries, and the one that is in doubt; and what its calls do.
-use Rattle.std.specs.Prelude.{◌≡◌, ◌⊎◌, ◌≤◌, ◌<◌, ℕ, List, [], ◌∷◌, ◌++◌, length, Bool, Option, Some, None, option_map, is_none, Result, Ok, Err}
+use Rattle.std.specs.Prelude.{◌≡◌, ◌≤◌, ◌<◌, ℕ, List, [], ◌∷◌, ◌++◌, length, Bool, Some, option_map, is_none, Result, Ok, Err}
 use Rattle.edit_journal.specs.declared.journal.Journal.{Journal}
 use Rattle.edit_journal.specs.declared.entry.JournalFail.{JournalFail}
 use Rattle.edit_journal.specs.declared.entry.JournalFail.TheVariants.{Failed, TooLong, Memory}

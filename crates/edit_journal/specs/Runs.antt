@@ -1,5 +1,5 @@
 -- Runs of calls of a journal, and what a crash leaves of them.
-use Rattle.std.specs.Prelude.{◌≡◌, ◌⊎◌, ℕ, List, [], ◌∷◌, ◌++◌, Bool, true, Option, Some, None, Result, Ok, Err}
+use Rattle.std.specs.Prelude.{◌≡◌, ◌⊎◌, ℕ, List, [], ◌∷◌, ◌++◌, true, Option, Some, None, Result, Ok, Err}
 use Rattle.edit_journal.specs.declared.entry.JournalFail.{JournalFail}
 use Rattle.edit_journal.specs.declared.entry.AppendFail.{AppendFail}
 use Rattle.edit_journal.specs.declared.entry.AppendFail.TheVariants.{Failed, Full, Memory}

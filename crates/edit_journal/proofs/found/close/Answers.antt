@@ -1,4 +1,4 @@
-use Rattle.std.proofs.Common.{◌≡◌, ◌⊎◌, ℕ, ◌+◌, ◌≤◌, List, [], ◌∷◌, length, Bool, true, sym, ◌∙◌, ap, subst, ⊎_elim, arith}
+use Rattle.std.proofs.Common.{◌≡◌, ℕ, List, [], ◌∷◌, ap, subst, ⊎_elim, arith}
 use Rattle.edit_journal.specs.Disk.{Torn, IsWritten, LeftOrChanged}
 use Rattle.edit_journal.specs.Entries.{entries_of}
 use Rattle.edit_journal.proofs.EntryLists.{ends_within}

@@ -1,6 +1,6 @@
-use Rattle.std.proofs.Common.{◌≡◌, ℕ, List, sum_by, sym, ◌∙◌, ap, arith}
+use Rattle.std.proofs.Common.{ℕ, List, sum_by, sym, ◌∙◌, ap, arith}
 use Rattle.tgap_model.specs.Keeping.{KeptEntry}
-use Rattle.edit_journal.specs.Entries.{entry_size, entries_of}
+use Rattle.edit_journal.specs.Entries.{entry_size}
 use Rattle.edit_journal.proofs.EntryLists.{ends_sized, ends_within}
 use Rattle.edit_journal.proofs.found.found_in.Goals as goal
 

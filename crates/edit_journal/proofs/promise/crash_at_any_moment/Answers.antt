@@ -1,5 +1,5 @@
-use Rattle.std.proofs.Common.{◌≡◌, ℕ, List, ◌++◌, subst}
-use Rattle.tgap_model.specs.Keeping.{KeptEntry, Kept, sure_of}
+use Rattle.std.proofs.Common.{subst}
+use Rattle.tgap_model.specs.Keeping.{Kept, sure_of}
 use Rattle.edit_journal.specs.Entries.{entries_of}
 use Rattle.edit_journal.specs.Journals.{IsOf}
 use Rattle.edit_journal.specs.Runs.{during}

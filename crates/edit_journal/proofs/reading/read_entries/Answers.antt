@@ -1,4 +1,4 @@
-use Rattle.std.proofs.Common.{◌≡◌, ◌∙◌, ℕ, ◌+◌, List, [], ◌∷◌, ◌++◌, drop, length, subst, sym, ap, rules}
+use Rattle.std.proofs.Common.{◌≡◌, ◌∙◌, ℕ, ◌+◌, List, [], ◌∷◌, ◌++◌, drop, subst, sym, ap, rules}
 use Rattle.edit_journal.specs.declared.entry.Entry.{Entry}
 use Rattle.edit_journal.specs.Told.{kept_of}
 use Rattle.edit_journal.specs.Entries.{entry_size}

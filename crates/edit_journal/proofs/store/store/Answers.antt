@@ -1,4 +1,4 @@
-use Rattle.std.proofs.Common.{◌≡◌, ℕ, ◌+◌, ◌≤◌, ◌++◌, ◌∷◌, [], List, length, Bool, true, sym, ◌∙◌, ap, subst, arith}
+use Rattle.std.proofs.Common.{◌≡◌, ℕ, ◌+◌, ◌++◌, ◌∷◌, [], List, length, true, sym, ◌∙◌, subst, arith}
 use Rattle.tgap_model.specs.Keeping.{KeptEntry}
 use Rattle.edit_journal.specs.Disk.{IsWritten, Torn, LeavesOnly, LeftOrChanged}
 use Rattle.edit_journal.specs.Entries.{entries_of, body_of}

@@ -1,6 +1,5 @@
-use Rattle.std.proofs.Common.{◌≡◌, ℕ, ◌<◌, Bool, true, Some, Ok, Err, refl, sym, ◌∙◌, ap, subst, Result}
+use Rattle.std.proofs.Common.{◌≡◌, Ok, Err, refl, ◌∙◌, subst, Result}
 use Rattle.std.proofs.lemmas.Result.{err_from_is_err_and}
-use Rattle.tgap_model.specs.declared.keep.KeepFail.{KeepFail}
 use Rattle.tgap_model.specs.declared.keep.KeepFail.TheVariants.{Full}
 use Rattle.tgap_model.specs.Keeping.{KeptEntry, Kept}
 use Rattle.edit_journal.specs.declared.entry.AppendFail.{AppendFail}
