@@ -1,0 +1,14 @@
+pub mod Append
+pub mod ClosingByte
+pub mod Crash
+pub mod EntryBytes
+pub mod EntryExamples
+pub mod EntryLists
+pub mod JournalSteps
+pub mod KeeperSteps
+pub mod LogSteps
+pub mod Moments
+pub mod Outcomes
+pub mod ReadSteps
+pub mod Rest
+pub mod RunLaws

@@ -1,0 +1,12 @@
+pub mod Counts
+pub mod Disk
+pub mod DiskLogs
+pub mod Entries
+pub mod Images
+pub mod Journals
+pub mod Keepers
+pub mod LogRoom
+pub mod MemoryDisks
+pub mod NamedBytes
+pub mod Runs
+pub mod Told
