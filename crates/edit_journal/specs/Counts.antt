@@ -1,6 +1,6 @@
 -- What the answers of a journal do to the count of faults of its disk.
 use Rattle.std.specs.Prelude.{◌≡◌, ℕ, Result, Ok, Err}
-use Rattle.plain_io.specs.Faults.{Rises}
+use Rattle.tgap_model.specs.Faults.{Rises}
 use Rattle.plain_io.specs.declared.files.LoadFail.{LoadFail}
 use Rattle.plain_io.specs.declared.files.LoadFail.TheVariants as Load
 use Rattle.edit_journal.specs.declared.entry.JournalFail.{JournalFail}

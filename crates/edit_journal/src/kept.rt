@@ -14,7 +14,6 @@ use tgap_model::{Keep, KeepFail, MAX_TEXT_BYTES};
 #[derive(Drop)]
 pub struct Kept<D: Disk> {
     journal: Journal<D>,
-    alloc: Global,
 }
 
 impl<D: Disk> Kept<D> {
@@ -24,10 +23,10 @@ impl<D: Disk> Kept<D> {
     ghost use Rattle.edit_journal.specs.Keepers.{journal_of};
 
     /// A keeper over this journal.
-    pub fn new(alloc: Global, journal: Journal<D>) -> Self
+    pub fn new(journal: Journal<D>) -> Self
         ensures { journal_of result ≡ journal }
     {
-        Kept { journal, alloc }
+        Kept { journal }
     }
 
     /// The journal, as it is.
@@ -38,7 +37,7 @@ impl<D: Disk> Kept<D> {
     }
 
     /// Settles the journal, where it is not sure.
-    fn make_sure(&mut self) -> Result<(), KeepFail>
+    fn make_sure(&mut self, alloc: Global) -> Result<(), KeepFail>
         ensures told { D.told (disk_of (journal_of self.new)) ≡ D.told (disk_of (journal_of self.old)) }
         ensures sure { OnOk result (is_sure (held_by (journal_of self.new)) ≡ true) }
         ensures start { D.told (disk_of (journal_of self.old)) ≡ true
@@ -51,7 +50,7 @@ impl<D: Disk> Kept<D> {
         if self.journal.sure() {
             return Ok(());
         }
-        match self.journal.settle(self.alloc) {
+        match self.journal.settle(alloc) {
             Ok(()) => Ok(()),
             Err(JournalFail::Failed) => Err(KeepFail::Failed),
             Err(JournalFail::TooLong { .. }) => Err(KeepFail::Full {
@@ -69,9 +68,9 @@ impl<D: Disk + Send> Keep for Kept<D> {
 
     ghost told = { λ keeper. if D.told (disk_of keeper.journal) then Some (held_by keeper.journal) else None };
 
-    fn keep(&mut self, number: u64, batch: &[u8]) -> Result<(), KeepFail> {
-        self.make_sure()?;
-        match self.journal.append(self.alloc, number, batch) {
+    fn keep(&mut self, alloc: Global, number: u64, batch: &[u8]) -> Result<(), KeepFail> {
+        self.make_sure(alloc)?;
+        match self.journal.append(alloc, number, batch) {
             Ok(()) => Ok(()),
             Err(AppendFail::Failed) => Err(KeepFail::Failed),
             Err(AppendFail::Full { limit }) => Err(KeepFail::Full { limit }),
