@@ -9,14 +9,14 @@ use plain_io::{Failed, LoadFail};
 use tgap_model::{Memory, Text};
 
 /// A batch of an edit, with the number of the version that it makes.
-#[derive(Debug, Drop)]
+#[derive(Drop)]
 pub struct Entry {
     pub number: u64,
     pub batch: Text,
 }
 
 /// Why a journal was not opened or settled.
-#[derive(Clone, Copy, Debug, PartialEq, Eq)]
+#[derive(Clone, Copy, PartialEq, Eq)]
 pub enum JournalFail {
     /// A call of the disk failed.
     Failed,
@@ -27,14 +27,14 @@ pub enum JournalFail {
 }
 
 /// A disk of which no journal was made, with the cause.
-#[derive(Debug, Drop)]
+#[derive(Drop)]
 pub struct NotOpened<D> {
     pub disk: D,
     pub cause: JournalFail,
 }
 
 /// Why an entry was not appended.
-#[derive(Clone, Copy, Debug, PartialEq, Eq)]
+#[derive(Clone, Copy, PartialEq, Eq)]
 pub enum AppendFail {
     /// A call of the disk failed. The entry may stand in the journal all the same.
     Failed,

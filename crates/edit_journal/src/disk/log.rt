@@ -6,7 +6,7 @@ use std::alloc::Global;
 use tgap_model::Memory;
 
 /// A call that changed what a crash may leave.
-#[derive(Clone, Copy, Debug, PartialEq, Eq)]
+#[derive(Clone, Copy, PartialEq, Eq)]
 pub enum Step {
     /// A write at this place, of so many bytes.
     Wrote { at: u64, len: u64 },
@@ -17,7 +17,7 @@ pub enum Step {
 }
 
 /// The calls so far, with the bytes of the writes that succeeded, one after the other, in room that is taken at first.
-#[derive(Debug, Drop)]
+#[derive(Drop)]
 pub struct DiskLog {
     steps: Vec<Step>,
     bytes: Vec<u8>,

@@ -13,7 +13,7 @@ use tgap_model::{List, Memory, Text};
 /// A disk in memory. It tells its bytes, and what a crash at each moment may leave. A listed call fails, and so does a write or
 /// a sync that finds no room left in which to remember it. A write that fails writes nothing that a read gives, but a crash may
 /// leave any bytes in its place.
-#[derive(Debug, Drop)]
+#[derive(Drop)]
 pub struct MemoryDisk {
     first: Text,
     held: Vec<u8>,

@@ -8,7 +8,7 @@ use std::alloc::Global;
 use tgap_model::Text;
 
 /// A disk that never fails and keeps nothing: a read gives no byte. It tells nothing.
-#[derive(Clone, Copy, Debug, PartialEq, Eq)]
+#[derive(Clone, Copy, PartialEq, Eq)]
 pub struct SureDisk;
 
 impl Disk for SureDisk {

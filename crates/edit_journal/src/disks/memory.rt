@@ -11,7 +11,7 @@ use std::mem;
 use tgap_model::List;
 
 /// Disks in memory. They tell the bytes of each name, and keep the disk that came back last. A listed call for a disk fails.
-#[derive(Debug, Drop)]
+#[derive(Drop)]
 pub struct MemoryDisks {
     files: List<MemoryFile>,
     calls: Calls,
