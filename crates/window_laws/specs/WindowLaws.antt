@@ -1,5 +1,5 @@
 -- Laws of one record of a window: it fits the window of the slice of its step, and leads it back to the window of the slice one
--- step before.
+-- step before; and where what comes with it is from.
 use Rattle.std.specs.Prelude.{◌≡◌, ◌≤◌, ℕ, ◌-◌, ◌==◌, true, ◌||◌, not, ◌++◌, flat_map, filter, length, IsTrue, None}
 use Rattle.std.specs.List.{list_all, list_any}
 use Rattle.lemmas.specs.Sorting.{sort_by}
