@@ -1,5 +1,5 @@
 -- The edges of the window of a slice, led back by the record of the window, are those of the window one step before.
-use Rattle.std.proofs.Common.{◌≡◌, ℕ, ◌-◌, ◌≤◌, ◌==◌, ◌&&◌, ◌||◌, Bool, true, false, not, nat_lt, cond, List, [], ◌∷◌, ◌++◌, map, filter, length, count_by, All, IsPermutation, eq-eqb, refl, sym, ap, ap₂, ◌∙◌, subst, arith}
+use Rattle.std.proofs.Common.{◌≡◌, ℕ, ◌-◌, ◌≤◌, ◌==◌, ◌&&◌, ◌||◌, Bool, true, false, not, nat_lt, cond, List, [], ◌∷◌, ◌++◌, map, filter, length, IsPermutation, eq-eqb, refl, sym, ap, ap₂, ◌∙◌, subst}
 use Rattle.std.specs.Prelude.{⊤, flat_map, Option, Some, None}
 use Rattle.std.proofs.lemmas.Bool.{eqb-true, false_from_ne_true}
 use Rattle.std.proofs.lemmas.List.{append-nil}
@@ -20,25 +20,21 @@ use Rattle.tgap_model.specs.Base.{BaseMap, is_base}
 use Rattle.tgap_model.specs.Partition.{IsPartition, base_segments}
 use Rattle.tgap_model.specs.History.{history_of}
 use Rattle.tgap_model.specs.Merged.{MergedMap, merged, step_number}
-use Rattle.tgap_model.specs.Chains.{Link, Chain, key, turned_round, chains_at}
+use Rattle.tgap_model.specs.Chains.{Chain, key, chains_at}
 use Rattle.tgap_model.specs.Removals.{edge_of, removals_to}
 use Rattle.tgap_model.specs.Slice.{meets_window, window_of, slice}
-use Rattle.tgap_model.specs.Records.{is_edge_between, chain_of, runs, step_record, put_in, in_place_of, cut_piece, cut_pieces, mend_for, refined, edge_before}
+use Rattle.tgap_model.specs.Records.{is_edge_between, runs, step_record, put_in, in_place_of, cut_piece, cut_pieces, mend_for, refined, edge_before}
 use Rattle.tgap_model.specs.WindowRecords.{window_at, has_key, key_after, is_coming, window_step, whole_record, refined_in, edges_back}
-use Rattle.map_laws.proofs.ChainMembers.{Among, any_among, filter_among, among_counts}
+use Rattle.map_laws.proofs.ChainMembers.{Among, any_among, filter_among}
 use Rattle.map_laws.proofs.ChainLinks.{chains_sorted}
 use Rattle.map_laws.proofs.ChainsExist.{chains_exist}
-use Rattle.map_laws.proofs.JoinPaths.{among_turned}
-use Rattle.map_laws.proofs.JoinTests.{key_of}
-use Rattle.map_laws.proofs.Lists.{all_members, members_all, any_from, kept_among, among_kept, map_among, among_map, among_flat}
-use Rattle.removal_laws.proofs.ChainEnds.{chain_links}
-use Rattle.record_laws.specs.RunLaws.{IsRun, chain_of_run, is_turned_run, all_runs}
-use Rattle.record_laws.proofs.Holders.{same_key, holder}
+use Rattle.map_laws.proofs.Lists.{all_members, any_from, kept_among, among_kept, map_among, among_map}
+use Rattle.record_laws.specs.RunLaws.{chain_of_run}
+use Rattle.record_laws.proofs.Holders.{same_key}
 use Rattle.record_laws.proofs.Refined.{refined_is}
-use Rattle.record_laws.proofs.RunsAreChains.{runs_are_chains}
-use Rattle.record_laws.proofs.StepFacts.{run_is_part, run_member, run_within}
 use Rattle.record_laws.proofs.UndoStep.{edges_back as whole_edges_back}
 use Rattle.window_laws.specs.WindowLaws.{WindowComesAre}
+use Rattle.window_laws.proofs.ComesOf.{not_between, comes_of}
 use Rattle.window_laws.proofs.Filters.{mapped_each, filter-flat_map, flat_map-filter, flat_map-agree, filter_and, filter_twice, find_filtered, both_parts}
 
 module _ (m : BaseMap) (base : is_base m ≡ true) (planar : IsPartition (base_segments m)) (j : ℕ) (one : 1 ≤ j) (last : j ≤ length (history_of m)) where
@@ -62,44 +58,6 @@ module _ (m : BaseMap) (base : is_base m ≡ true) (planar : IsPartition (base_s
 
   abbrev record_here : StepRecord
   record_here = step_record h j
-
-  -- ---- what comes back of the edge of a chain
-
-  module _ (c : Chain) (n : Among c (chains_at h j)) (r : Chain) (o : Among r (runs finer c)) where
-    abbrev f : Chain
-    f = chain_of_run finer r
-
-    f_there : Among f finer
-    f_there = run_member m base planar j one last r (run_is_part m base planar j one last c n r o)
-
-    -- it does not lie between loser and winner
-    not_between : is_edge_between s.loser s.winner (edge_back f) ≡ false
-    not_between = by (is_edge_between s.loser s.winner (edge_back f)) (members_all (λ f. count_by (λ q. key (chain_of_run finer q) == key f) (all_runs h j) ≡ cond (is_edge_between s.loser s.winner (edge_of h k [] f)) 0 1) finer f
-        (runs_are_chains m base planar j one last).once f_there)
-        (among_counts (λ (q : Chain). key (chain_of_run finer q) == key f) (all_runs h j) r (among_flat (runs finer) (chains_at h j) c r n o) (eq-eqb (key f) (key f) refl))
-      where
-        by : (b : Bool) {i : ℕ} → i ≡ cond b 0 1 → 1 ≤ i → b ≡ false
-        by true e few = absurd (omega (arith, e, few))
-        by false e few = refl
-
-    run : IsRun finer r
-    run = members_all (IsRun finer) (runs finer c) r (members_all (λ c. All (IsRun finer) (runs finer c)) (chains_at h j) c (runs_are_chains m base planar j one last).each n) o
-
-    -- the arc of its key is one of the run's
-    key_link : (d : Link) × Among d r × (d.arc ≡ key f)
-    key_link =
-        let low = key_of f (chain_links h k f f_there) in
-        by (is_turned_run finer r) run.same low.0 low.1 low.2
-      where
-        by : (t : Bool) → r ≡ cond t (turned_round f) f → (d : Link) → Among d f → d.arc ≡ key f → (e : Link) × Among e r × (e.arc ≡ key f)
-        by true e d l same = (_, subst (Among _) (sym e) (among_turned f d l), same)
-        by false e d l same = (d, subst (Among d) (sym e) l, same)
-
-    -- so the chain is the one that it comes of
-    comes_of : key_after h j (edge_back f) ≡ key c
-    comes_of =
-        ap (λ (i : ℕ). key (chain_of (chains_at h j) i)) (sym key_link.2)
-        ∙ ap key (holder h j c n key_link.0 (run_within m base planar j one last c n r o key_link.0 key_link.1))
 
   module _ (area : Window) where
     abbrev meets : Edge → Bool
@@ -128,7 +86,9 @@ module _ (m : BaseMap) (base : is_base m ≡ true) (planar : IsPartition (base_s
     }
 
     -- an edge is in the window where the key of its chain is there
-    key_there : (c : Chain) → Among c (chains_at h j) → has_key there (key c) ≡ meets (edge_here c)
+    pub key_there : (c : Chain) → Among c (chains_at (merged m) j)
+        → has_key (filter (meets_window area) (map (edge_of (merged m) j (removals_to (merged m) j)) (chains_at (merged m) j))) (key c)
+        ≡ meets_window area (edge_of (merged m) j (removals_to (merged m) j) c)
     key_there c n = by (meets (edge_here c)) refl
       where
         by : (b : Bool) → meets (edge_here c) ≡ b → has_key there (key c) ≡ b
@@ -151,8 +111,8 @@ module _ (m : BaseMap) (base : is_base m ≡ true) (planar : IsPartition (base_s
         mapped_each edge_here (λ e. (x : Edge) → Among x (refined record_here e) → coming x ≡ not (meets e)) (chains_at h j) (λ c n x o.
         let r = map_among (λ r. edge_back (chain_of_run finer r)) (runs finer c) x (subst (Among x) (refined_is m base planar j one last c n) o) in
         ap coming (sym r.2)
-        ∙ ap₂ (λ (a b : Bool). a || b) (not_between c n r.0 r.1)
-        (ap (λ (i : ℕ). not (has_key there i)) (comes_of c n r.0 r.1) ∙ ap not (key_there c n)))
+        ∙ ap₂ (λ (a b : Bool). a || b) (not_between m base planar j one last c n r.0 r.1)
+        (ap (λ (i : ℕ). not (has_key there i)) (comes_of m base planar j one last c n r.0 r.1) ∙ ap not (key_there c n)))
 
     -- an ended edge comes
     ended_comes : (e : Edge) → Among e record_here.ended → coming e ≡ true

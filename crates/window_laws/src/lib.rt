@@ -7,4 +7,6 @@ mod packets;
 mod steps;
 
 pub use packets::{window_packets_fit, window_packets_join, window_packets_lead};
-pub use steps::{window_comes_are, window_steps_fit, window_undo_goes_back};
+pub use steps::{
+    window_comes_are, window_faces_come_with_edges, window_steps_fit, window_undo_goes_back,
+};
