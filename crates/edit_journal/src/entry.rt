@@ -16,7 +16,7 @@ pub struct Entry {
 }
 
 /// Why a journal was not opened or settled.
-#[derive(Clone, Copy, PartialEq, Eq)]
+#[derive(Clone, Copy, Debug, PartialEq, Eq)]
 pub enum JournalFail {
     /// A call of the disk failed.
     Failed,
@@ -34,7 +34,7 @@ pub struct NotOpened<D> {
 }
 
 /// Why an entry was not appended.
-#[derive(Clone, Copy, PartialEq, Eq)]
+#[derive(Clone, Copy, Debug, PartialEq, Eq)]
 pub enum AppendFail {
     /// A call of the disk failed. The entry may stand in the journal all the same.
     Failed,
