@@ -8,7 +8,7 @@ from lib import SECONDS, TOP
 
 # The tools of the shell that tests/run uses; python3 is none of them.
 TOOLS = ["sh", "cat", "dirname", "grep", "head", "id", "mktemp", "mv", "rm", "sed", "tail", "tee", "timeout", "tr"]
-SUITES = ["cli", "tools", "http", "deploy", "launcher", "web", "sweep_first", "growth"]
+SUITES = ["cli", "tools", "http", "deploy", "launcher", "web", "sweep_first", "growth", "package"]
 LINE = "{} passed, {} failed, {} skipped"
 # Each case: what the suites print, with their statuses, and the closing line of all with the status.
 CASES = [
@@ -26,10 +26,12 @@ CASES = [
 
 
 def made_up(folder, suites):
-    """A copy of tests/run beside made-up suites, each a script of the shell."""
-    tests = pathlib.Path(folder).resolve() / "tests"
+    """A copy of tests/run, and of what it reads, beside made-up suites, each a script of the shell."""
+    tests, release = (pathlib.Path(folder).resolve() / name for name in ("tests", "release"))
     tests.mkdir(parents=True)
+    release.mkdir()
     shutil.copy(TOP / "tests/run", tests / "run")
+    shutil.copy(TOP / "release/library.sh", release / "library.sh")
     for name, (text, status) in suites.items():
         path = tests / name / "run"
         path.parent.mkdir()
@@ -63,7 +65,6 @@ def executables_that_are_none(tests):
         told = error.startswith(f"tests/run: there is no executable {path}\n")
         tests.same(f"tests/run with an executable that is none: {name}", (last, told, code), ("", True, 1))
     tests.same("tests/run with two words", outcome(script, "a", "b"), ("", "usage: tests/run [EXECUTABLE]\n", 1))
-    released.parent.mkdir()
     released.symlink_to(tests.executable)
     last, _, code = outcome(script)
     tests.same("tests/run takes the released executable", (last, code), (LINE.format(1, 0, 0), 0))
