@@ -5,6 +5,7 @@ import re
 import signal
 import subprocess
 import tempfile
+import time
 
 from front import COLUMBUS, HISTORY, TOP, Front, Program, exchanged, until
 from large_map import LARGE, written
@@ -56,6 +57,13 @@ def edits_of_a_town(tests):
         bodies(tests, front)
 
 
+def lead(front, program, history):
+    """Leads the front server to another program. Its processes of before take connections for a moment longer, after which nothing goes to the other one."""
+    front.begin("columbus", program.port, history)
+    until(lambda: front.ask("GET", "/map/info").headers["Tgap-History"] == history)
+    time.sleep(1)
+
+
 def after_a_restart(tests, program, front, batches):
     """What was kept is sent through the front server, so that it is kept as the first of the next history."""
     status, said, parts = joined(log_of(front), "columbus")
@@ -63,15 +71,13 @@ def after_a_restart(tests, program, front, batches):
     edited = program.ask("GET", "/slice/0").text
     tests.holds("it is another map than the file's", edited != tests.text("slice", COLUMBUS[0], 0, *COLUMBUS[1:]))
     with Program(tests.executable, COLUMBUS) as again:
-        front.begin("columbus", again.port, NEXT)
-        until(lambda: front.ask("GET", "/map/info").headers["Tgap-History"] == NEXT)
+        lead(front, again, NEXT)
         tests.same("they are sent again", [front.edit(part).told for part in parts], [(200, b"published 1\n")])
         tests.same("the map after a restart", again.ask("GET", "/slice/0").text, edited)
         tests.same("an edit after that", front.edit(OWN_BATCH).told, (200, b"published 2\n"))
         until(lambda: len(kept(front)) == 7, AT_ONCE)
         tests.same("the second history has the first", joined(log_of(front), "columbus"), (0, "", [parts[0] + OWN_BATCH]))
-        front.begin("columbus", program.port, HISTORY)
-        until(lambda: front.ask("GET", "/map/info").headers["Tgap-History"] == HISTORY)
+        lead(front, program, HISTORY)
 
 
 def bodies(tests, front):
