@@ -1,5 +1,5 @@
-//! Tests of `plain_io` over its public calls: links, doors and harbours in memory, each used once from end to end, and
-//! those of the network over loopback.
+//! Tests of `plain_io` over its public calls: links, doors and harbours in memory, each used once from end to end, those of the
+//! network over loopback, and files and a writer of the system.
 #![tactic(auto)]
 
 #[cfg(test)]
@@ -8,3 +8,5 @@ mod doors;
 mod links;
 #[cfg(test)]
 mod network;
+#[cfg(test)]
+mod outside;
