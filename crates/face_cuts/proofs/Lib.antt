@@ -16,3 +16,4 @@ pub mod WalkRows
 pub mod LastSpokes
 pub mod FreePoints
 pub mod LeastSegments
+pub mod FusedAgain

@@ -21,6 +21,7 @@ pub use cause::Cause;
 pub use cut::cut_face;
 pub use fusion::fuse_faces;
 pub use laws::{
-    cuts_keep_inside, cuts_keep_maps, fusions_keep_inside, fusions_keep_maps, nodes_keep_maps,
+    cuts_fuse_again, cuts_keep_inside, cuts_keep_maps, fusions_keep_inside, fusions_keep_maps,
+    nodes_keep_maps,
 };
 pub use node::add_node;
