@@ -44,3 +44,10 @@ pub record IsFusedInside (m e : BaseMap) (f g : ℕ) (p : Fraction) : Type 0 whe
 
 abbrev pub FusionsKeepInside : Type 0
 FusionsKeepInside = (m e : BaseMap) (f g : ℕ) (p : Fraction) → IsTrue (is_base m) → fuse_faces m f g ≡ Ok e → IsFusedInside m e f g p
+
+-- ---- a cut is taken back
+
+-- Where a cut of face f is not refused, the fusion of f and the new face gives the map as it was.
+abbrev pub CutsFuseAgain : Type 0
+CutsFuseAgain =
+    (m e : BaseMap) (f k : ℕ) (points : List Point) → IsTrue (is_base m) → cut_face m f k points ≡ Ok e → fuse_faces e f (length m.classes + 1) ≡ Ok m

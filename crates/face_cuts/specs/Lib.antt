@@ -5,3 +5,7 @@ pub mod Sectors
 pub mod Walks
 pub mod Cuts
 pub mod EditLaws
+pub mod PointSets
+pub mod Spokes
+pub mod NewRings
+pub mod Partings

@@ -1,6 +1,6 @@
 //! Laws of nodes, cuts and fusions. The functions do nothing: the contract of each is a law.
 
-ghost use Rattle.face_cuts.specs.EditLaws.{CutsKeepInside, CutsKeepMaps, FusionsKeepInside, FusionsKeepMaps, NodesKeepMaps};
+ghost use Rattle.face_cuts.specs.EditLaws.{CutsFuseAgain, CutsKeepInside, CutsKeepMaps, FusionsKeepInside, FusionsKeepMaps, NodesKeepMaps};
 
 /// A base map with a node where it had an inner vertex is a base map.
 pub fn nodes_keep_maps()
@@ -27,4 +27,9 @@ pub fn cuts_keep_inside()
 /// has it inside where it had it.
 pub fn fusions_keep_inside()
     ensures { FusionsKeepInside }
+{}
+
+/// The fusion of a face that was cut with its new part gives the base map as it was.
+pub fn cuts_fuse_again()
+    ensures { CutsFuseAgain }
 {}

@@ -1,18 +1,27 @@
-//! Cuts and fusions of faces: an inner vertex becomes a node, a new arc cuts a face in two, and two faces become one. Of a cut there
-//! are the definition and its laws, and no call yet. It stands on `ring_walk`, whose walks go round faces. The functions of `laws` do
-//! nothing: their contracts are laws of the three edits.
+//! Cuts and fusions of faces: an inner vertex becomes a node, a new arc cuts a face in two, and two faces become one. It stands on
+//! `ring_walk`, whose rings go round faces, and on `ring_probe`, which finds what of a ring passes above a segment. The functions of
+//! `laws` do nothing: their contracts are laws of the three edits.
 #![tactic(auto)]
 
 mod cause;
+mod cut;
+mod free;
 mod fusion;
 mod laws;
+mod new_ring;
 mod node;
+mod over;
 mod parts;
 mod points;
+mod sector;
+mod spans;
+mod walk;
 
 pub use cause::Cause;
+pub use cut::cut_face;
 pub use fusion::fuse_faces;
 pub use laws::{
-    cuts_keep_inside, cuts_keep_maps, fusions_keep_inside, fusions_keep_maps, nodes_keep_maps,
+    cuts_fuse_again, cuts_keep_inside, cuts_keep_maps, fusions_keep_inside, fusions_keep_maps,
+    nodes_keep_maps,
 };
 pub use node::add_node;
