@@ -1,5 +1,5 @@
 -- A slice has its form after a step is undone, and room for the records that follow.
-use Rattle.std.proofs.Common.{◌≡◌, ◌⊎◌, inl, inr, ℕ, ◌+◌, ◌-◌, ◌^◌, ◌<◌, ◌≤◌, Bool, true, false, ◌&&◌, ◌||◌, cond, nat_lt, List, [], ◌∷◌, map, filter, length, get_or, All, Contains, Option, Some, None, refl, sym, ap, ap₂, subst, ◌∙◌, sum_by, arith}
+use Rattle.std.proofs.Common.{◌≡◌, ◌⊎◌, inl, inr, ℕ, ◌+◌, ◌-◌, ◌^◌, ◌<◌, ◌≤◌, Bool, true, false, ◌&&◌, ◌||◌, cond, nat_lt, List, [], ◌∷◌, ◌++◌, map, filter, length, get_or, All, Contains, Option, Some, None, refl, sym, ap, ap₂, subst, ◌∙◌, sum_by, arith}
 use Rattle.std.specs.Prelude.{⊤, nat_le, ◌==◌, find, flat_map, not}
 use Rattle.std.specs.List.{list_all, list_any}
 use Rattle.std.specs.Cmp.Derive.{both_true}
@@ -22,9 +22,8 @@ use Rattle.slice_forms.specs.SliceForms.{is_number, is_slice_row, is_record_row,
 use Rattle.client_replay.specs.Coming.{faces_before, lowered, pieces_of}
 use Rattle.client_replay.specs.Rules.{are_in_order, has_made, mend_puts_fit, mend_pieces_fit, reaches_end}
 use Rattle.client_replay.proofs.Found.{ascend_by, find_at}
-use Rattle.client_replay.proofs.Failures.{KeepsSix}
+use Rattle.client_replay.proofs.Failures.{KeepsMends}
 use Rattle.client_replay.proofs.Rows.{row_parts, lowered_row, AreRows, pieces_of_rows, puts_of, puts_bounded}
-use Rattle.client_replay.proofs.Seventh.{all_edges}
 
 -- ---- the parts of the forms
 
@@ -79,6 +78,10 @@ record_parts r h =
     let p1 = and_parts a1 (is_number r.loser_class) p2.0 in
     let p0 = and_parts (is_number r.step) (is_number r.loser) p1.0 in
     record { loser = p0.1; loser_class = p1.1; winner = p2.1; winner_class = p3.1; mends = p7.1; ended = p8.1 }
+
+-- all edges of the finer slice
+abbrev pub all_edges : Slice → StepRecord → List Edge
+all_edges s r = flat_map (refined r) s.edges ++ r.ended
 
 -- ---- the faces
 
@@ -221,12 +224,12 @@ face_facts s r h =
 above_zero : (n : ℕ) → (n == 0) ≡ false → 1 ≤ n
 above_zero n h = let ne = eqb-false n 0 h in omega (arith, ne)
 
-module _ (s : Slice) (r : StepRecord) (row : is_slice_row s ≡ true) (record_row : is_record_row r ≡ true) (six : KeepsSix s r) where
-  faces_form : AreFaces (faces_before s.faces r)
-  faces_form =
+module _ (s : Slice) (r : StepRecord) (row : is_slice_row s ≡ true) (record_row : is_record_row r ≡ true) (keeps : KeepsMends s r) where
+  faces_form : fits_faces s r ≡ true → AreFaces (faces_before s.faces r)
+  faces_form fits =
       let p = slice_parts s row in
       let q = record_parts r record_row in
-      let facts = face_facts s r six.faces in
+      let facts = face_facts s r fits in
       let loser : FaceRow = record { face = r.loser; class = r.loser_class } in
       let winner : FaceRow = record { face = r.winner; class = r.winner_class } in
       let rest = filter (λ f. not (f.face == r.made)) s.faces in
@@ -266,9 +269,9 @@ module _ (s : Slice) (r : StepRecord) (row : is_slice_row s ≡ true) (record_ro
       let same = eqb-true m.key e.key at.1 in
       let named = edge_named i d m l same in
       let puts = and_parts (is_sorted_by nat_lt (map (λ p. p.at) m.puts)) (elim (edge_with s m.key) [ None ↦ true | Some f ↦ puts_fit f.points m.puts ])
-      (All-contains (λ n. mend_puts_fit s n ≡ true) r.mends m (AllPass-from_list_all (mend_puts_fit s) r.mends six.puts) at.0) in
+      (All-contains (λ n. mend_puts_fit s n ≡ true) r.mends m (AllPass-from_list_all (mend_puts_fit s) r.mends keeps.puts) at.0) in
       let p2 = and_parts (is_sorted_by nat_lt (map (λ p. p.last) m.pieces) && starts_after_zero (map (λ p. p.last) m.pieces) && reaches_end s m) (list_all (λ p. (p.side == r.loser) || (p.side == r.winner)) m.pieces)
-      (All-contains (λ n. mend_pieces_fit s r n ≡ true) r.mends m (AllPass-from_list_all (mend_pieces_fit s r) r.mends six.pieces) at.0) in
+      (All-contains (λ n. mend_pieces_fit s r n ≡ true) r.mends m (AllPass-from_list_all (mend_pieces_fit s r) r.mends keeps.pieces) at.0) in
       let p1 = and_parts (is_sorted_by nat_lt (map (λ p. p.last) m.pieces) && starts_after_zero (map (λ p. p.last) m.pieces)) (reaches_end s m) p2.0 in
       let p0 = and_parts (is_sorted_by nat_lt (map (λ p. p.last) m.pieces)) (starts_after_zero (map (λ p. p.last) m.pieces)) p1.0 in
       let fit = ap (fits_at m) (sym named) ∙ puts.1 in
@@ -311,11 +314,11 @@ module _ (s : Slice) (r : StepRecord) (row : is_slice_row s ≡ true) (record_ro
       lt-ltb (segment_count (sort_by edge_before (all_edges s r)) + sum_by record_load records) (2 ^ 32 - 1)
       (omega (arith, load, sum_by-cons record_load r records, load_bound alone, sum_by-sort_by edge_before (λ e. length e.points - 1) (all_edges s r)))
 
-  pub undone_form : has_room s (r ∷ []) ≡ true → fits_keys s r ≡ true → is_slice_row (undo s r) ≡ true
+  pub undone_form : has_room s (r ∷ []) ≡ true → fits_faces s r ≡ true → fits_keys s r ≡ true → is_slice_row (undo s r) ≡ true
   unfolding undo
-  undone_form room keys =
+  undone_form room fits keys =
       let p = slice_parts s row in
-      let faces = faces_form in
+      let faces = faces_form fits in
       let edges = edges_form room in
       let sorted = sort_by edge_before (all_edges s r) in
       let load = ltb-true (replay_load s (r ∷ [])) (2 ^ 32 - 1) room in
