@@ -45,7 +45,7 @@ left_stay r t es left is =
 
 -- edges in the order of their keys differ in these
 pub in_order_apart : (edges : List Edge) → are_in_order edges ≡ true → AllPairs DifferInKey edges
-in_order_apart edges h = sorted_apart edges (sym (ascend_by (λ (e : Edge). e.key) edges) ∙ h)
+in_order_apart edges h = sorted_apart (λ (e : Edge). e.key) edges (sym (ascend_by (λ (e : Edge). e.key) edges) ∙ h)
 
 -- two lists in that order, of the same edges, are one
 pub same_in_order : (t : Labels) (edges : List Edge) (es : List (ℕ × Line)) → are_in_order edges ≡ true → IsStrictlySortedBy nat_cmp (keys_of es)

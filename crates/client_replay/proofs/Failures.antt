@@ -16,7 +16,7 @@ pub failed : (i : ℕ) (a : Bool) (tests : List Bool) → a ≡ false → Some i
 failed i a tests h = sym (ap (λ (b : Bool). cond b (first_failure (i + 1) tests) (Some i)) h)
 
 -- what fails among the first tests fails among all
-failure_kept : (i : ℕ) (tests more : List Bool) (k : ℕ) → first_failure i tests ≡ Some k → first_failure i (tests ++ more) ≡ Some k
+pub failure_kept : (i : ℕ) (tests more : List Bool) (k : ℕ) → first_failure i tests ≡ Some k → first_failure i (tests ++ more) ≡ Some k
 failure_kept i [] more k e = cc
 failure_kept i (true ∷ tests) more k e = failure_kept (i + 1) tests more k e
 failure_kept i (false ∷ tests) more k e = e
@@ -24,7 +24,7 @@ failure_kept i (false ∷ tests) more k e = e
 some_is_not_none : (i : ℕ) → Some i ≡ None → ⊥
 some_is_not_none i e = cc
 
-failure_later : (i : ℕ) (tests more : List Bool) → first_failure i tests ≡ None → (first_failure i (tests ++ more) ≡ first_failure (i + length tests) more) × (list_all (λ b. b) tests ≡ true)
+pub failure_later : (i : ℕ) (tests more : List Bool) → first_failure i tests ≡ None → (first_failure i (tests ++ more) ≡ first_failure (i + length tests) more) × (list_all (λ b. b) tests ≡ true)
 failure_later i [] more e = (ap (λ n. first_failure n more) (omega arith), refl)
 failure_later i (true ∷ tests) more e =
     let rest = failure_later (i + 1) tests more e in (rest.0 ∙ ap (λ n. first_failure n more) (omega arith), rest.1)
@@ -54,7 +54,7 @@ pub record KeepsMends (s : Slice) (r : StepRecord) : Type 0 where
 pub keeps_mends : (s : Slice) (r : StepRecord) → KeepsSix s r → KeepsMends s r
 keeps_mends s r six = record { mends = six.mends; puts = six.puts; pieces = six.pieces }
 
-six_of : (a b c d e f : Bool) → list_all (λ b. b) (a ∷ b ∷ c ∷ d ∷ e ∷ f ∷ []) ≡ true
+pub six_of : (a b c d e f : Bool) → list_all (λ b. b) (a ∷ b ∷ c ∷ d ∷ e ∷ f ∷ []) ≡ true
     → (a ≡ true) × (b ≡ true) × (c ≡ true) × (d ≡ true) × (e ≡ true) × (f ≡ true)
 six_of true true true true true true h = (refl, refl, refl, refl, refl, refl)
 six_of true true true true true false h = absurd (true≢false (sym h))

@@ -21,6 +21,7 @@ use Rattle.tgap_model.specs.Records.{undo, refined, edge_before, face_before, ha
 use Rattle.slice_forms.specs.SliceForms.{is_number, is_slice_row, is_record_row, is_face_row, is_edge_row, is_mend_row, segment_count, record_load, replay_load, has_room}
 use Rattle.client_replay.specs.Coming.{faces_before, lowered, pieces_of}
 use Rattle.client_replay.specs.Rules.{are_in_order, has_made, mend_puts_fit, mend_pieces_fit, reaches_end}
+use Rattle.client_replay.proofs.FaceRows.{face_order}
 use Rattle.client_replay.proofs.Found.{ascend_by, find_at}
 use Rattle.client_replay.proofs.Failures.{KeepsMends}
 use Rattle.client_replay.proofs.Rows.{row_parts, lowered_row, AreRows, pieces_of_rows, puts_of, puts_bounded}
@@ -85,9 +86,6 @@ all_edges s r = flat_map (refined r) s.edges ++ r.ended
 
 -- ---- the faces
 
-face_order : IsStrictOrderOn (λ (f : FaceRow). ⊤) face_before
-face_order = order_by_key (λ f. f.face) nat_lt_order
-
 -- faces with ascending numbers below a bound are not more than those
 rows_few : (n : ℕ) (f : FaceRow) (faces : List FaceRow) → is_sorted_by face_before (f ∷ faces) ≡ true → All (λ g. g.face < n) (f ∷ faces) → f.face + length (f ∷ faces) ≤ n
 rows_few n f [] s h = omega (arith, All-head (λ g. g.face < n) f [] h)
@@ -115,7 +113,7 @@ put_face f faces row apart are = record {
         by (inr (inr more)) = or_right (face_before f g) (face_before g f) (lt-ltb g.face f.face more)
 
 -- none of these faces has this number
-none_has : (k : ℕ) (faces : List FaceRow) → list_any (λ f. f.face == k) faces ≡ false → All (λ f. f.face ≡ k → ⊥) faces
+pub none_has : (k : ℕ) (faces : List FaceRow) → list_any (λ f. f.face == k) faces ≡ false → All (λ f. f.face ≡ k → ⊥) faces
 none_has k [] h = All-nil (λ f. f.face ≡ k → ⊥)
 none_has k (f ∷ faces) h =
     let parts = or_parts (f.face == k) (list_any (λ g. g.face == k) faces) h in All-cons (λ g. g.face ≡ k → ⊥) f faces (eqb-false f.face k parts.0) (none_has k faces parts.1)

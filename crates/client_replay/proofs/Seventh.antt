@@ -65,7 +65,7 @@ module _ (s : Slice) (r : StepRecord) (cut : Edge → Mend → List Edge) (more 
   stay_is = kept_is r r.mends s.edges edges_sorted sorted_mends (mends_named s r fits)
 
   -- they are those that stay, and those that come
-  pub all-permutation : (edges : List Edge) → IsPermutation (coming_by r cut s.edges more) edges → IsPermutation (all_edges_by r cut s.edges more) (kept r r.mends s.edges ++ edges)
+  all-permutation : (edges : List Edge) → IsPermutation (coming_by r cut s.edges more) edges → IsPermutation (all_edges_by r cut s.edges more) (kept r r.mends s.edges ++ edges)
   all-permutation edges h =
       let put = flat_map (mended_by r cut s.edges) r.mends in
       let first = IsPermutation-append_left more (flat_map (refined_by r cut r.mends) s.edges) (kept r r.mends s.edges ++ put)
@@ -78,6 +78,10 @@ module _ (s : Slice) (r : StepRecord) (cut : Edge → Mend → List Edge) (more 
   stays_is k = sym (key_stays r k r.mends s.edges edges_sorted sorted_mends (mends_named s r fits))
 
   module _ (edges : List Edge) (moved : IsPermutation (coming_by r cut s.edges more) edges) where
+    -- all edges of the finer slice are those that stay and these
+    pub all_are : IsPermutation (all_edges_by r cut s.edges more) (staying r s.edges ++ edges)
+    all_are = subst (λ (zs : List Edge). IsPermutation (all_edges_by r cut s.edges more) (zs ++ edges)) stay_is (all-permutation edges moved)
+
     -- the test passes: those that come have keys of their own
     own_keys : list_any (λ e. stays s r e.key) edges ≡ false → All (λ e. All (λ f. f.key ≡ e.key → ⊥) edges) (kept r r.mends s.edges)
     own_keys h k d l i x m same =
@@ -95,8 +99,8 @@ module _ (s : Slice) (r : StepRecord) (cut : Edge → Mend → List Edge) (more 
     own_apart h =
         let parts = and_parts (are_in_order edges) (not (list_any (λ e. stays s r e.key) edges)) h in
         let own = own_keys (not-true (list_any (λ e. stays s r e.key) edges) parts.1) in
-        AllPairs-append DifferInKey (kept r r.mends s.edges) edges (sorted_apart (kept r r.mends s.edges) stay_sorted) (sorted_apart edges (sym (ascend_by (λ e. e.key) edges) ∙ parts.0))
-        (λ k d l i x m. differ_in_key (get_or (kept r r.mends s.edges) k d) (get_or edges i x) (own k d l i x m))
+        AllPairs-append DifferInKey (kept r r.mends s.edges) edges (sorted_apart (λ (e : Edge). e.key) (kept r r.mends s.edges) stay_sorted) (sorted_apart (λ (e : Edge). e.key) edges (sym (ascend_by (λ e. e.key) edges) ∙ parts.0))
+        (λ k d l i x m. differ_in_key (λ (e : Edge). e.key) (get_or (kept r r.mends s.edges) k d) (get_or edges i x) (own k d l i x m))
 
     -- and those of the finer slice are sorted
     both_sorted : (are_in_order edges && not (list_any (λ e. stays s r e.key) edges)) ≡ true → is_sorted_by edge_before (sort_by edge_before (all_edges_by r cut s.edges more)) ≡ true
@@ -111,10 +115,10 @@ module _ (s : Slice) (r : StepRecord) (cut : Edge → Mend → List Edge) (more 
       all_apart : AllPairs DifferInKey (kept r r.mends s.edges ++ edges)
       all_apart =
           let sorted = sort_by edge_before (all_edges_by r cut s.edges more) in
-          AllPairs-permutation DifferInKey differ_turned sorted (kept r r.mends s.edges ++ edges)
+          AllPairs-permutation DifferInKey (differ_turned (λ (e : Edge). e.key)) sorted (kept r r.mends s.edges ++ edges)
           (IsPermutation-trans sorted (all_edges_by r cut s.edges more) (kept r r.mends s.edges ++ edges)
           (IsPermutation-sym (all_edges_by r cut s.edges more) sorted (sort_by-permutation edge_before (all_edges_by r cut s.edges more))) (all-permutation edges moved))
-          (sorted_apart sorted differ)
+          (sorted_apart (λ (e : Edge). e.key) sorted differ)
 
       parted : (xs ys : List Edge) → AllPairs DifferInKey (xs ++ ys) → AllPairs DifferInKey ys × All (λ x. All (DifferInKey x) ys) xs
       parted [] ys h = (h, All-nil (λ x. All (DifferInKey x) ys))
@@ -128,12 +132,12 @@ module _ (s : Slice) (r : StepRecord) (cut : Edge → Mend → List Edge) (more 
           both_true
           (ascend_by (λ e. e.key) edges ∙ sorted_from_adjacent edge_before edges (λ k d l.
           let le = rising k (k + 1) d (omega arith) l in
-          let ne = keys_differ (get_or edges k d) (get_or edges (k + 1) d) (parts.0 k (k + 1) d (omega arith) l) in
+          let ne = keys_differ (λ (e : Edge). e.key) (get_or edges k d) (get_or edges (k + 1) d) (parts.0 k (k + 1) d (omega arith) l) in
           lt-ltb (get_or edges k d).key (get_or edges (k + 1) d).key (omega arith)))
           (not_from_false (list_any (λ e. stays s r e.key) edges) (list_any_none (λ e. stays s r e.key) edges (λ k d l.
           let f = get_or edges k d in
           stays_is f.key ∙ list_any_none (λ g. g.key == f.key) (kept r r.mends s.edges) (λ i x m.
-          ne_eqb (get_or (kept r r.mends s.edges) i x).key f.key (keys_differ (get_or (kept r r.mends s.edges) i x) f (parts.1 i x m k d l))))))
+          ne_eqb (get_or (kept r r.mends s.edges) i x).key f.key (keys_differ (λ (e : Edge). e.key) (get_or (kept r r.mends s.edges) i x) f (parts.1 i x m k d l))))))
 
     -- the test is that of the rule
     pub seventh : IsNonDecreasingBy (λ (e : Edge). e.key) edges → (are_in_order edges && not (list_any (λ e. stays s r e.key) edges)) ≡ is_sorted_by nat_lt (map (λ e. e.key) (sort_by edge_before (all_edges_by r cut s.edges more)))
@@ -157,5 +161,4 @@ module _ (s : Slice) (r : StepRecord) (cut : Edge → Mend → List Edge) (more 
     pub undone_are : (all : List Edge) → is_sorted_by edge_before all ≡ true → IsPermutation (staying r s.edges ++ edges) all → sort_by edge_before (all_edges_by r cut s.edges more) ≡ all
     undone_are all sorted perm =
         sort_by-permuted edge_order (all_edges_by r cut s.edges more) all (λ k d l. tt) sorted
-        (IsPermutation-trans (all_edges_by r cut s.edges more) (kept r r.mends s.edges ++ edges) all (all-permutation edges moved)
-        (subst (λ (zs : List Edge). IsPermutation (zs ++ edges) all) (sym stay_is) perm))
+        (IsPermutation-trans (all_edges_by r cut s.edges more) (staying r s.edges ++ edges) all all_are perm)
