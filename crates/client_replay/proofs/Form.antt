@@ -169,14 +169,14 @@ rows_flat_map f g (e ∷ edges) h =
     }
 
 -- each edge has a segment
-edges_few : (edges : List Edge) → All (λ e. is_edge_row e ≡ true) edges → length edges ≤ segment_count edges
+pub edges_few : (edges : List Edge) → All (λ e. is_edge_row e ≡ true) edges → length edges ≤ segment_count edges
 edges_few [] h = omega arith
 edges_few (e ∷ edges) h =
     let long = leb-true 2 (length e.points) (row_parts e (All-head (λ d. is_edge_row d ≡ true) e edges h)).long in
     omega (arith, long, edges_few edges (All-tail (λ d. is_edge_row d ≡ true) e edges h), sum_by-cons (λ (d : Edge). length d.points - 1) e edges)
 
 -- faces of different numbers, each at least 1, are fewer than the numbers
-faces_few : (faces : List FaceRow) → All (λ f. is_face_row f ≡ true) faces → is_sorted_by face_before faces ≡ true → length faces < 2 ^ 32
+pub faces_few : (faces : List FaceRow) → All (λ f. is_face_row f ≡ true) faces → is_sorted_by face_before faces ≡ true → length faces < 2 ^ 32
 faces_few [] h s = omega arith
 faces_few (f ∷ faces) h s =
     let bound : All (λ g. g.face < 2 ^ 32) (f ∷ faces) = λ k d l. ltb-true (get_or (f ∷ faces) k d).face (2 ^ 32) (number (get_or (f ∷ faces) k d) (h k d l)).1 in
@@ -219,7 +219,7 @@ face_facts s r h =
       winner = not-true (r.winner == 0) p7.1;
     }
 
-above_zero : (n : ℕ) → (n == 0) ≡ false → 1 ≤ n
+pub above_zero : (n : ℕ) → (n == 0) ≡ false → 1 ≤ n
 above_zero n h = let ne = eqb-false n 0 h in omega (arith, ne)
 
 module _ (s : Slice) (r : StepRecord) (row : is_slice_row s ≡ true) (record_row : is_record_row r ≡ true) (keeps : KeepsMends s r) where
@@ -289,7 +289,7 @@ module _ (s : Slice) (r : StepRecord) (row : is_slice_row s ≡ true) (record_ro
       by (Some m) found = refined_mended room i d m l found
 
   -- all edges
-  edges_form : has_room s (r ∷ []) ≡ true → AreRows (all_edges s r) (sum_by (λ e. length e.points - 1 + puts_of r.mends e) s.edges + segment_count r.ended)
+  pub edges_form : has_room s (r ∷ []) ≡ true → AreRows (all_edges s r) (sum_by (λ e. length e.points - 1 + puts_of r.mends e) s.edges + segment_count r.ended)
   edges_form room =
       let refined_all = rows_flat_map (refined r) (λ e. length e.points - 1 + puts_of r.mends e) s.edges (refined_rows room) in
       record {
@@ -298,7 +298,7 @@ module _ (s : Slice) (r : StepRecord) (row : is_slice_row s ≡ true) (record_ro
       }
 
   -- the slice one step back has no more segments than there is room for
-  load_bound : has_room s (r ∷ []) ≡ true → segment_count (all_edges s r) ≤ segment_count s.edges + record_load r
+  pub load_bound : has_room s (r ∷ []) ≡ true → segment_count (all_edges s r) ≤ segment_count s.edges + record_load r
   load_bound room =
       let sum = sum_by-add (λ e. length e.points - 1) (puts_of r.mends) s.edges in
       let bound = puts_bounded r.mends s.edges (sym (ascend_by (λ e. e.key) s.edges) ∙ (slice_parts s row).edge_order) in

@@ -20,3 +20,5 @@ pub mod Replays
 pub mod WindowRules
 pub mod WindowEdges
 pub mod WindowFaces
+pub mod WindowForm
+pub mod WindowChanging

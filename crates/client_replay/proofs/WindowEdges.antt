@@ -48,13 +48,20 @@ module _ (area : Window) (r : WindowStep) where
   cut_alike e points first [] = refl
   cut_alike e points first (p ∷ pieces) = ap (λ (zs : List Edge). cut_piece (whole_record r) e points first p ∷ zs) (cut_alike e points p.last pieces)
 
+  abbrev by_mend : Edge → Option Mend → List Edge
+  by_mend e o = elim o [ None ↦ lowered (whole_record r) e ∷ [] | Some m ↦ pieces_of (whole_record r) e m ]
+
+  -- of the edges that an edge becomes by a mend, those that meet the window
+  abbrev pub kept_by : Option Mend → List Edge → List Edge
+  kept_by o edges = elim o [ None ↦ edges | Some m ↦ filter (meets_window area) edges ]
+
+  abbrev by_cut_in : Edge → Option Mend → List Edge
+  by_cut_in e o = elim o [ None ↦ lowered (mending_of r) e ∷ [] | Some m ↦ cut_in area (mending_of r) e m ]
+
   pub refined_is : (e : Edge) → refined_in area r e ≡ refined_by (mending_of r) (cut_in area (mending_of r)) r.mends e
   refined_is e = by (mend_for (whole_record r) e)
     where
-      by : (o : Option Mend) → elim o [
-        | None ↦ elim o [ None ↦ lowered (whole_record r) e ∷ [] | Some m ↦ pieces_of (whole_record r) e m ]
-        | Some n ↦ filter (meets_window area) (elim o [ None ↦ lowered (whole_record r) e ∷ [] | Some m ↦ pieces_of (whole_record r) e m ])
-      ] ≡ elim o [ None ↦ lowered (mending_of r) e ∷ [] | Some m ↦ cut_in area (mending_of r) e m ]
+      by : (o : Option Mend) → kept_by o (by_mend e o) ≡ by_cut_in e o
       by None = refl
       by (Some m) = ap (filter (meets_window area)) (cut_alike e (put_in m.puts e.points) 0 m.pieces)
 

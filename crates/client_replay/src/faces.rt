@@ -132,11 +132,7 @@ fn is_known(faces: &BTreeMap<u32, u32>, rows: &[FaceRow], face: u32) -> bool
 }
 
 /// Whether each of some faces is the outside or has a row, one of these or of those beside them, whose numbers ascend.
-pub fn are_known(
-    faces: &BTreeMap<u32, u32>,
-    rows: &[FaceRow],
-    asked: &BTreeSet<u32>,
-) -> bool
+pub fn are_known(faces: &BTreeMap<u32, u32>, rows: &[FaceRow], asked: &BTreeSet<u32>) -> bool
     requires { IsTrue (is_sorted_by nat_lt (map (λ f. f.face) rows.now)) }
     ensures { result ≡ list_all (is_known (rows_of faces.now.entries ++ rows.now)) asked.now.keys }
 {

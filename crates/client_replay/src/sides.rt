@@ -44,7 +44,11 @@ fn add_line(
         return Ok(());
     }
     let left = in_place_of(step_record.made, step_record.winner, labels.face(line.left));
-    let right = in_place_of(step_record.made, step_record.winner, labels.face(line.right));
+    let right = in_place_of(
+        step_record.made,
+        step_record.winner,
+        labels.face(line.right),
+    );
     add_sides(sides, left, right)
 }
 

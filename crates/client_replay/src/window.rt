@@ -21,9 +21,7 @@ use crate::window_rules::broken_before_in;
 use crate::working::Working;
 use std::alloc::Global;
 use std::collections::BTreeSet;
-use tgap_model::{
-    Edge, FaceRow, List, Memory, Mend, Or, Slice, StepRecord, Window, WindowStep,
-};
+use tgap_model::{Edge, FaceRow, List, Memory, Mend, Or, Slice, StepRecord, Window, WindowStep};
 
 /// A copy of a mend.
 fn copied_mend(alloc: Global, mend: &Mend) -> Result<Mend, Memory>
