@@ -1,5 +1,5 @@
 -- Faces by their numbers, seen as rows in the order of the numbers.
-use Rattle.std.proofs.Common.{◌≡◌, ℕ, suc, ◌+◌, ◌<◌, Bool, true, false, ◌&&◌, ◌||◌, cond, nat_lt, nat_cmp, List, [], ◌∷◌, map, filter, length, get_or, take, All, Option, Some, None, refl, sym, ap, ◌∙◌, arith}
+use Rattle.std.proofs.Common.{◌≡◌, ℕ, suc, ◌+◌, ◌<◌, Bool, true, false, ◌&&◌, ◌||◌, cond, nat_lt, nat_cmp, List, [], ◌∷◌, map, filter, length, get_or, take, All, IsPermutation, Option, Some, None, refl, sym, ap, ◌∙◌, arith}
 use Rattle.std.specs.Prelude.{⊤, ◌==◌, not, is_some}
 use Rattle.std.specs.List.{list_any}
 use Rattle.std.specs.Map.{lookup, remove_entry}
@@ -7,12 +7,12 @@ use Rattle.std.specs.BTreeMap.{is_at}
 use Rattle.std.proofs.lemmas.Bool.{eqb-true, ne_eqb, ltb-true, le-ltb}
 use Rattle.std.proofs.lemmas.List.{append-nil, take_more, get_or-take, get_or_default, length-take-le}
 use Rattle.std.proofs.lemmas.List.Folds.{list_any_none}
-use Rattle.lemmas.specs.Sorting.{is_sorted_by, insert_by, IsStrictOrderOn}
-use Rattle.lemmas.proofs.Sorting.{sorted_tail, sorted_pairs, insert_by-between}
-use Rattle.lemmas.proofs.Orders.{nat_lt_order, order_by_key}
+use Rattle.lemmas.specs.Sorting.{is_sorted_by, insert_by, sort_by, IsStrictOrderOn}
+use Rattle.lemmas.proofs.Sorting.{sorted_tail, sorted_pairs, insert_by-between, map-is_sorted, sort_by-permuted}
 use Rattle.tgap_model.specs.declared.slice.FaceRow.{FaceRow}
 use Rattle.tgap_model.specs.Records.{face_before}
 use Rattle.client_replay.specs.Working.{row_of, rows_of}
+use Rattle.client_replay.proofs.Apart.{key_order}
 use Rattle.client_replay.proofs.Found.{above_first, ascend_by}
 use Rattle.client_replay.proofs.Tables.{Ascend, at_is, any_lookup, removed, filter-map}
 
@@ -51,8 +51,12 @@ not_some (Some x) e = cc
 pub not_found : (k : ℕ) (es : List (ℕ × ℕ)) → list_any (λ f. f.face == k) (rows_of es) ≡ false → lookup (is_at (nat_cmp k)) es ≡ None
 not_found k es h = not_some (lookup (is_at (nat_cmp k)) es) (any_lookup row_of (λ n f. f.face == n) (λ n p. refl) k es ∙ h)
 
-face_order : IsStrictOrderOn (λ (f : FaceRow). ⊤) face_before
-face_order = order_by_key (λ f. f.face) nat_lt_order
+pub face_order : IsStrictOrderOn (λ (f : FaceRow). ⊤) face_before
+face_order = key_order (λ f. f.face)
+
+-- the rows of entries in the order of their keys are so too
+pub rows_sorted : (es : List (ℕ × ℕ)) → Ascend es → is_sorted_by face_before (rows_of es) ≡ true
+rows_sorted es s = map-is_sorted (λ _. ⊤) (λ p q. nat_lt p.0 q.0) face_before row_of (λ x y p q. refl) es (λ k d l. tt) ∙ s
 
 -- the face that follows some first ones
 module _ (rows : List FaceRow) (i : ℕ) (d : FaceRow) (sorted : is_sorted_by nat_lt (map (λ f. f.face) rows) ≡ true) (within : i < length rows) where
@@ -82,3 +86,11 @@ module _ (rows : List FaceRow) (i : ℕ) (d : FaceRow) (sorted : is_sorted_by na
 -- the faces without the new one
 pub without_face : (k : ℕ) (es : List (ℕ × ℕ)) → Ascend es → rows_of (remove_entry (is_at (nat_cmp k)) es) ≡ filter (λ f. not (f.face == k)) (rows_of es)
 without_face k es s = ap rows_of (removed k es s) ∙ filter-map row_of (λ p. not (p.0 == k)) (λ f. not (f.face == k)) (λ p. refl) es
+
+-- faces in the order of their numbers are those that were put in, sorted
+pub rows_put : (all : List FaceRow) (es : List (ℕ × ℕ)) → Ascend es → IsPermutation all (rows_of es) → rows_of es ≡ sort_by face_before all
+rows_put all es s moved = sym (sort_by-permuted face_order all (rows_of es) (λ k d l. tt) (rows_sorted es s) moved)
+
+-- those that are among some faces
+pub rows_kept : (p : ℕ → Bool) (es : List (ℕ × ℕ)) → rows_of (filter (λ e. p e.0) es) ≡ filter (λ f. p f.face) (rows_of es)
+rows_kept p es = filter-map row_of (λ e. p e.0) (λ f. p f.face) (λ e. refl) es

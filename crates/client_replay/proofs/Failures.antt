@@ -16,7 +16,7 @@ pub failed : (i : ℕ) (a : Bool) (tests : List Bool) → a ≡ false → Some i
 failed i a tests h = sym (ap (λ (b : Bool). cond b (first_failure (i + 1) tests) (Some i)) h)
 
 -- what fails among the first tests fails among all
-failure_kept : (i : ℕ) (tests more : List Bool) (k : ℕ) → first_failure i tests ≡ Some k → first_failure i (tests ++ more) ≡ Some k
+pub failure_kept : (i : ℕ) (tests more : List Bool) (k : ℕ) → first_failure i tests ≡ Some k → first_failure i (tests ++ more) ≡ Some k
 failure_kept i [] more k e = cc
 failure_kept i (true ∷ tests) more k e = failure_kept (i + 1) tests more k e
 failure_kept i (false ∷ tests) more k e = e
@@ -24,7 +24,7 @@ failure_kept i (false ∷ tests) more k e = e
 some_is_not_none : (i : ℕ) → Some i ≡ None → ⊥
 some_is_not_none i e = cc
 
-failure_later : (i : ℕ) (tests more : List Bool) → first_failure i tests ≡ None → (first_failure i (tests ++ more) ≡ first_failure (i + length tests) more) × (list_all (λ b. b) tests ≡ true)
+pub failure_later : (i : ℕ) (tests more : List Bool) → first_failure i tests ≡ None → (first_failure i (tests ++ more) ≡ first_failure (i + length tests) more) × (list_all (λ b. b) tests ≡ true)
 failure_later i [] more e = (ap (λ n. first_failure n more) (omega arith), refl)
 failure_later i (true ∷ tests) more e =
     let rest = failure_later (i + 1) tests more e in (rest.0 ∙ ap (λ n. first_failure n more) (omega arith), rest.1)
@@ -45,7 +45,16 @@ pub record KeepsSix (s : Slice) (r : StepRecord) : Type 0 where
   pub pieces : fits_pieces s r ≡ true
   pub ended : fits_ended s r ≡ true
 
-six_of : (a b c d e f : Bool) → list_all (λ b. b) (a ∷ b ∷ c ∷ d ∷ e ∷ f ∷ []) ≡ true
+-- those of them that speak of mends
+pub record KeepsMends (s : Slice) (r : StepRecord) : Type 0 where
+  pub mends : fits_mends s r ≡ true
+  pub puts : fits_puts s r ≡ true
+  pub pieces : fits_pieces s r ≡ true
+
+pub keeps_mends : (s : Slice) (r : StepRecord) → KeepsSix s r → KeepsMends s r
+keeps_mends s r six = record { mends = six.mends; puts = six.puts; pieces = six.pieces }
+
+pub six_of : (a b c d e f : Bool) → list_all (λ b. b) (a ∷ b ∷ c ∷ d ∷ e ∷ f ∷ []) ≡ true
     → (a ≡ true) × (b ≡ true) × (c ≡ true) × (d ≡ true) × (e ≡ true) × (f ≡ true)
 six_of true true true true true true h = (refl, refl, refl, refl, refl, refl)
 six_of true true true true true false h = absurd (true≢false (sym h))
@@ -82,32 +91,36 @@ none_before s r e = by (broken_before s r) refl
     by None f = refl
     by (Some k) f = let told = broken_first s r k f in cc
 
--- the rule that is told, by the first test that fails
-module _ (s : Slice) (r : StepRecord) where
-  pub first : fits_step s r ≡ false → Some 1 ≡ broken_before s r
-  unfolding broken_before
-  first h1 = failed 1 (fits_step s r) (fits_faces s r ∷ fits_mends s r ∷ fits_puts s r ∷ fits_pieces s r ∷ fits_ended s r ∷ []) h1
+-- the rule that is told, by the first of six tests that fails
+module _ (a b c d e f : Bool) where
+  abbrev pub told : Option ℕ
+  told = first_failure 1 (a ∷ b ∷ c ∷ d ∷ e ∷ f ∷ [])
 
-  pub second : fits_step s r ≡ true → fits_faces s r ≡ false → Some 2 ≡ broken_before s r
-  unfolding broken_before
-  second h1 h2 = passed 1 (fits_step s r) (fits_faces s r ∷ fits_mends s r ∷ fits_puts s r ∷ fits_pieces s r ∷ fits_ended s r ∷ []) (Some 2) h1 (failed 2 (fits_faces s r) (fits_mends s r ∷ fits_puts s r ∷ fits_pieces s r ∷ fits_ended s r ∷ []) h2)
+  pub first : a ≡ false → Some 1 ≡ told
+  first h1 = failed 1 a (b ∷ c ∷ d ∷ e ∷ f ∷ []) h1
 
-  pub third : fits_step s r ≡ true → fits_faces s r ≡ true → fits_mends s r ≡ false → Some 3 ≡ broken_before s r
-  unfolding broken_before
-  third h1 h2 h3 = passed 1 (fits_step s r) (fits_faces s r ∷ fits_mends s r ∷ fits_puts s r ∷ fits_pieces s r ∷ fits_ended s r ∷ []) (Some 3) h1 (passed 2 (fits_faces s r) (fits_mends s r ∷ fits_puts s r ∷ fits_pieces s r ∷ fits_ended s r ∷ []) (Some 3) h2 (failed 3 (fits_mends s r) (fits_puts s r ∷ fits_pieces s r ∷ fits_ended s r ∷ []) h3))
+  pub second : a ≡ true → b ≡ false → Some 2 ≡ told
+  second h1 h2 = passed 1 a (b ∷ c ∷ d ∷ e ∷ f ∷ []) (Some 2) h1 (failed 2 b (c ∷ d ∷ e ∷ f ∷ []) h2)
 
-  pub fourth : fits_step s r ≡ true → fits_faces s r ≡ true → fits_mends s r ≡ true → fits_puts s r ≡ false → Some 4 ≡ broken_before s r
-  unfolding broken_before
-  fourth h1 h2 h3 h4 = passed 1 (fits_step s r) (fits_faces s r ∷ fits_mends s r ∷ fits_puts s r ∷ fits_pieces s r ∷ fits_ended s r ∷ []) (Some 4) h1 (passed 2 (fits_faces s r) (fits_mends s r ∷ fits_puts s r ∷ fits_pieces s r ∷ fits_ended s r ∷ []) (Some 4) h2 (passed 3 (fits_mends s r) (fits_puts s r ∷ fits_pieces s r ∷ fits_ended s r ∷ []) (Some 4) h3 (failed 4 (fits_puts s r) (fits_pieces s r ∷ fits_ended s r ∷ []) h4)))
+  pub third : a ≡ true → b ≡ true → c ≡ false → Some 3 ≡ told
+  third h1 h2 h3 = passed 1 a (b ∷ c ∷ d ∷ e ∷ f ∷ []) (Some 3) h1 (passed 2 b (c ∷ d ∷ e ∷ f ∷ []) (Some 3) h2 (failed 3 c (d ∷ e ∷ f ∷ []) h3))
 
-  pub fifth : fits_step s r ≡ true → fits_faces s r ≡ true → fits_mends s r ≡ true → fits_puts s r ≡ true → fits_pieces s r ≡ false → Some 5 ≡ broken_before s r
-  unfolding broken_before
-  fifth h1 h2 h3 h4 h5 = passed 1 (fits_step s r) (fits_faces s r ∷ fits_mends s r ∷ fits_puts s r ∷ fits_pieces s r ∷ fits_ended s r ∷ []) (Some 5) h1 (passed 2 (fits_faces s r) (fits_mends s r ∷ fits_puts s r ∷ fits_pieces s r ∷ fits_ended s r ∷ []) (Some 5) h2 (passed 3 (fits_mends s r) (fits_puts s r ∷ fits_pieces s r ∷ fits_ended s r ∷ []) (Some 5) h3 (passed 4 (fits_puts s r) (fits_pieces s r ∷ fits_ended s r ∷ []) (Some 5) h4 (failed 5 (fits_pieces s r) (fits_ended s r ∷ []) h5))))
+  pub fourth : a ≡ true → b ≡ true → c ≡ true → d ≡ false → Some 4 ≡ told
+  fourth h1 h2 h3 h4 =
+      passed 1 a (b ∷ c ∷ d ∷ e ∷ f ∷ []) (Some 4) h1 (passed 2 b (c ∷ d ∷ e ∷ f ∷ []) (Some 4) h2
+      (passed 3 c (d ∷ e ∷ f ∷ []) (Some 4) h3 (failed 4 d (e ∷ f ∷ []) h4)))
 
-  pub sixth : fits_step s r ≡ true → fits_faces s r ≡ true → fits_mends s r ≡ true → fits_puts s r ≡ true → fits_pieces s r ≡ true → fits_ended s r ≡ false → Some 6 ≡ broken_before s r
-  unfolding broken_before
-  sixth h1 h2 h3 h4 h5 h6 = passed 1 (fits_step s r) (fits_faces s r ∷ fits_mends s r ∷ fits_puts s r ∷ fits_pieces s r ∷ fits_ended s r ∷ []) (Some 6) h1 (passed 2 (fits_faces s r) (fits_mends s r ∷ fits_puts s r ∷ fits_pieces s r ∷ fits_ended s r ∷ []) (Some 6) h2 (passed 3 (fits_mends s r) (fits_puts s r ∷ fits_pieces s r ∷ fits_ended s r ∷ []) (Some 6) h3 (passed 4 (fits_puts s r) (fits_pieces s r ∷ fits_ended s r ∷ []) (Some 6) h4 (passed 5 (fits_pieces s r) (fits_ended s r ∷ []) (Some 6) h5 (failed 6 (fits_ended s r) ([]) h6)))))
+  pub fifth : a ≡ true → b ≡ true → c ≡ true → d ≡ true → e ≡ false → Some 5 ≡ told
+  fifth h1 h2 h3 h4 h5 =
+      passed 1 a (b ∷ c ∷ d ∷ e ∷ f ∷ []) (Some 5) h1 (passed 2 b (c ∷ d ∷ e ∷ f ∷ []) (Some 5) h2
+      (passed 3 c (d ∷ e ∷ f ∷ []) (Some 5) h3 (passed 4 d (e ∷ f ∷ []) (Some 5) h4 (failed 5 e (f ∷ []) h5))))
 
-  pub none_fails : fits_step s r ≡ true → fits_faces s r ≡ true → fits_mends s r ≡ true → fits_puts s r ≡ true → fits_pieces s r ≡ true → fits_ended s r ≡ true → None ≡ broken_before s r
-  unfolding broken_before
-  none_fails h1 h2 h3 h4 h5 h6 = passed 1 (fits_step s r) (fits_faces s r ∷ fits_mends s r ∷ fits_puts s r ∷ fits_pieces s r ∷ fits_ended s r ∷ []) (None) h1 (passed 2 (fits_faces s r) (fits_mends s r ∷ fits_puts s r ∷ fits_pieces s r ∷ fits_ended s r ∷ []) (None) h2 (passed 3 (fits_mends s r) (fits_puts s r ∷ fits_pieces s r ∷ fits_ended s r ∷ []) (None) h3 (passed 4 (fits_puts s r) (fits_pieces s r ∷ fits_ended s r ∷ []) (None) h4 (passed 5 (fits_pieces s r) (fits_ended s r ∷ []) (None) h5 (passed 6 (fits_ended s r) ([]) (None) h6 (refl))))))
+  pub sixth : a ≡ true → b ≡ true → c ≡ true → d ≡ true → e ≡ true → f ≡ false → Some 6 ≡ told
+  sixth h1 h2 h3 h4 h5 h6 =
+      passed 1 a (b ∷ c ∷ d ∷ e ∷ f ∷ []) (Some 6) h1 (passed 2 b (c ∷ d ∷ e ∷ f ∷ []) (Some 6) h2
+      (passed 3 c (d ∷ e ∷ f ∷ []) (Some 6) h3 (passed 4 d (e ∷ f ∷ []) (Some 6) h4 (passed 5 e (f ∷ []) (Some 6) h5 (failed 6 f [] h6)))))
+
+  pub none_fails : a ≡ true → b ≡ true → c ≡ true → d ≡ true → e ≡ true → f ≡ true → None ≡ told
+  none_fails h1 h2 h3 h4 h5 h6 =
+      passed 1 a (b ∷ c ∷ d ∷ e ∷ f ∷ []) None h1 (passed 2 b (c ∷ d ∷ e ∷ f ∷ []) None h2
+      (passed 3 c (d ∷ e ∷ f ∷ []) None h3 (passed 4 d (e ∷ f ∷ []) None h4 (passed 5 e (f ∷ []) None h5 (passed 6 f [] None h6 refl)))))

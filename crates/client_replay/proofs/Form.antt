@@ -1,5 +1,5 @@
 -- A slice has its form after a step is undone, and room for the records that follow.
-use Rattle.std.proofs.Common.{◌≡◌, ◌⊎◌, inl, inr, ℕ, ◌+◌, ◌-◌, ◌^◌, ◌<◌, ◌≤◌, Bool, true, false, ◌&&◌, ◌||◌, cond, nat_lt, List, [], ◌∷◌, map, filter, length, get_or, All, Contains, Option, Some, None, refl, sym, ap, ap₂, subst, ◌∙◌, sum_by, arith}
+use Rattle.std.proofs.Common.{◌≡◌, ◌⊎◌, inl, inr, ℕ, ◌+◌, ◌-◌, ◌^◌, ◌<◌, ◌≤◌, Bool, true, false, ◌&&◌, ◌||◌, cond, nat_lt, List, [], ◌∷◌, ◌++◌, map, filter, length, get_or, All, Contains, Option, Some, None, refl, sym, ap, ap₂, subst, ◌∙◌, sum_by, arith}
 use Rattle.std.specs.Prelude.{⊤, nat_le, ◌==◌, find, flat_map, not}
 use Rattle.std.specs.List.{list_all, list_any}
 use Rattle.std.specs.Cmp.Derive.{both_true}
@@ -21,10 +21,10 @@ use Rattle.tgap_model.specs.Records.{undo, refined, edge_before, face_before, ha
 use Rattle.slice_forms.specs.SliceForms.{is_number, is_slice_row, is_record_row, is_face_row, is_edge_row, is_mend_row, segment_count, record_load, replay_load, has_room}
 use Rattle.client_replay.specs.Coming.{faces_before, lowered, pieces_of}
 use Rattle.client_replay.specs.Rules.{are_in_order, has_made, mend_puts_fit, mend_pieces_fit, reaches_end}
+use Rattle.client_replay.proofs.FaceRows.{face_order}
 use Rattle.client_replay.proofs.Found.{ascend_by, find_at}
-use Rattle.client_replay.proofs.Failures.{KeepsSix}
+use Rattle.client_replay.proofs.Failures.{KeepsMends}
 use Rattle.client_replay.proofs.Rows.{row_parts, lowered_row, AreRows, pieces_of_rows, puts_of, puts_bounded}
-use Rattle.client_replay.proofs.Seventh.{all_edges}
 
 -- ---- the parts of the forms
 
@@ -80,10 +80,11 @@ record_parts r h =
     let p0 = and_parts (is_number r.step) (is_number r.loser) p1.0 in
     record { loser = p0.1; loser_class = p1.1; winner = p2.1; winner_class = p3.1; mends = p7.1; ended = p8.1 }
 
--- ---- the faces
+-- all edges of the finer slice
+abbrev pub all_edges : Slice → StepRecord → List Edge
+all_edges s r = flat_map (refined r) s.edges ++ r.ended
 
-face_order : IsStrictOrderOn (λ (f : FaceRow). ⊤) face_before
-face_order = order_by_key (λ f. f.face) nat_lt_order
+-- ---- the faces
 
 -- faces with ascending numbers below a bound are not more than those
 rows_few : (n : ℕ) (f : FaceRow) (faces : List FaceRow) → is_sorted_by face_before (f ∷ faces) ≡ true → All (λ g. g.face < n) (f ∷ faces) → f.face + length (f ∷ faces) ≤ n
@@ -112,7 +113,7 @@ put_face f faces row apart are = record {
         by (inr (inr more)) = or_right (face_before f g) (face_before g f) (lt-ltb g.face f.face more)
 
 -- none of these faces has this number
-none_has : (k : ℕ) (faces : List FaceRow) → list_any (λ f. f.face == k) faces ≡ false → All (λ f. f.face ≡ k → ⊥) faces
+pub none_has : (k : ℕ) (faces : List FaceRow) → list_any (λ f. f.face == k) faces ≡ false → All (λ f. f.face ≡ k → ⊥) faces
 none_has k [] h = All-nil (λ f. f.face ≡ k → ⊥)
 none_has k (f ∷ faces) h =
     let parts = or_parts (f.face == k) (list_any (λ g. g.face == k) faces) h in All-cons (λ g. g.face ≡ k → ⊥) f faces (eqb-false f.face k parts.0) (none_has k faces parts.1)
@@ -168,14 +169,14 @@ rows_flat_map f g (e ∷ edges) h =
     }
 
 -- each edge has a segment
-edges_few : (edges : List Edge) → All (λ e. is_edge_row e ≡ true) edges → length edges ≤ segment_count edges
+pub edges_few : (edges : List Edge) → All (λ e. is_edge_row e ≡ true) edges → length edges ≤ segment_count edges
 edges_few [] h = omega arith
 edges_few (e ∷ edges) h =
     let long = leb-true 2 (length e.points) (row_parts e (All-head (λ d. is_edge_row d ≡ true) e edges h)).long in
     omega (arith, long, edges_few edges (All-tail (λ d. is_edge_row d ≡ true) e edges h), sum_by-cons (λ (d : Edge). length d.points - 1) e edges)
 
 -- faces of different numbers, each at least 1, are fewer than the numbers
-faces_few : (faces : List FaceRow) → All (λ f. is_face_row f ≡ true) faces → is_sorted_by face_before faces ≡ true → length faces < 2 ^ 32
+pub faces_few : (faces : List FaceRow) → All (λ f. is_face_row f ≡ true) faces → is_sorted_by face_before faces ≡ true → length faces < 2 ^ 32
 faces_few [] h s = omega arith
 faces_few (f ∷ faces) h s =
     let bound : All (λ g. g.face < 2 ^ 32) (f ∷ faces) = λ k d l. ltb-true (get_or (f ∷ faces) k d).face (2 ^ 32) (number (get_or (f ∷ faces) k d) (h k d l)).1 in
@@ -218,15 +219,15 @@ face_facts s r h =
       winner = not-true (r.winner == 0) p7.1;
     }
 
-above_zero : (n : ℕ) → (n == 0) ≡ false → 1 ≤ n
+pub above_zero : (n : ℕ) → (n == 0) ≡ false → 1 ≤ n
 above_zero n h = let ne = eqb-false n 0 h in omega (arith, ne)
 
-module _ (s : Slice) (r : StepRecord) (row : is_slice_row s ≡ true) (record_row : is_record_row r ≡ true) (six : KeepsSix s r) where
-  faces_form : AreFaces (faces_before s.faces r)
-  faces_form =
+module _ (s : Slice) (r : StepRecord) (row : is_slice_row s ≡ true) (record_row : is_record_row r ≡ true) (keeps : KeepsMends s r) where
+  faces_form : fits_faces s r ≡ true → AreFaces (faces_before s.faces r)
+  faces_form fits =
       let p = slice_parts s row in
       let q = record_parts r record_row in
-      let facts = face_facts s r six.faces in
+      let facts = face_facts s r fits in
       let loser : FaceRow = record { face = r.loser; class = r.loser_class } in
       let winner : FaceRow = record { face = r.winner; class = r.winner_class } in
       let rest = filter (λ f. not (f.face == r.made)) s.faces in
@@ -266,9 +267,9 @@ module _ (s : Slice) (r : StepRecord) (row : is_slice_row s ≡ true) (record_ro
       let same = eqb-true m.key e.key at.1 in
       let named = edge_named i d m l same in
       let puts = and_parts (is_sorted_by nat_lt (map (λ p. p.at) m.puts)) (elim (edge_with s m.key) [ None ↦ true | Some f ↦ puts_fit f.points m.puts ])
-      (All-contains (λ n. mend_puts_fit s n ≡ true) r.mends m (AllPass-from_list_all (mend_puts_fit s) r.mends six.puts) at.0) in
+      (All-contains (λ n. mend_puts_fit s n ≡ true) r.mends m (AllPass-from_list_all (mend_puts_fit s) r.mends keeps.puts) at.0) in
       let p2 = and_parts (is_sorted_by nat_lt (map (λ p. p.last) m.pieces) && starts_after_zero (map (λ p. p.last) m.pieces) && reaches_end s m) (list_all (λ p. (p.side == r.loser) || (p.side == r.winner)) m.pieces)
-      (All-contains (λ n. mend_pieces_fit s r n ≡ true) r.mends m (AllPass-from_list_all (mend_pieces_fit s r) r.mends six.pieces) at.0) in
+      (All-contains (λ n. mend_pieces_fit s r n ≡ true) r.mends m (AllPass-from_list_all (mend_pieces_fit s r) r.mends keeps.pieces) at.0) in
       let p1 = and_parts (is_sorted_by nat_lt (map (λ p. p.last) m.pieces) && starts_after_zero (map (λ p. p.last) m.pieces)) (reaches_end s m) p2.0 in
       let p0 = and_parts (is_sorted_by nat_lt (map (λ p. p.last) m.pieces)) (starts_after_zero (map (λ p. p.last) m.pieces)) p1.0 in
       let fit = ap (fits_at m) (sym named) ∙ puts.1 in
@@ -288,7 +289,7 @@ module _ (s : Slice) (r : StepRecord) (row : is_slice_row s ≡ true) (record_ro
       by (Some m) found = refined_mended room i d m l found
 
   -- all edges
-  edges_form : has_room s (r ∷ []) ≡ true → AreRows (all_edges s r) (sum_by (λ e. length e.points - 1 + puts_of r.mends e) s.edges + segment_count r.ended)
+  pub edges_form : has_room s (r ∷ []) ≡ true → AreRows (all_edges s r) (sum_by (λ e. length e.points - 1 + puts_of r.mends e) s.edges + segment_count r.ended)
   edges_form room =
       let refined_all = rows_flat_map (refined r) (λ e. length e.points - 1 + puts_of r.mends e) s.edges (refined_rows room) in
       record {
@@ -297,7 +298,7 @@ module _ (s : Slice) (r : StepRecord) (row : is_slice_row s ≡ true) (record_ro
       }
 
   -- the slice one step back has no more segments than there is room for
-  load_bound : has_room s (r ∷ []) ≡ true → segment_count (all_edges s r) ≤ segment_count s.edges + record_load r
+  pub load_bound : has_room s (r ∷ []) ≡ true → segment_count (all_edges s r) ≤ segment_count s.edges + record_load r
   load_bound room =
       let sum = sum_by-add (λ e. length e.points - 1) (puts_of r.mends) s.edges in
       let bound = puts_bounded r.mends s.edges (sym (ascend_by (λ e. e.key) s.edges) ∙ (slice_parts s row).edge_order) in
@@ -311,11 +312,11 @@ module _ (s : Slice) (r : StepRecord) (row : is_slice_row s ≡ true) (record_ro
       lt-ltb (segment_count (sort_by edge_before (all_edges s r)) + sum_by record_load records) (2 ^ 32 - 1)
       (omega (arith, load, sum_by-cons record_load r records, load_bound alone, sum_by-sort_by edge_before (λ e. length e.points - 1) (all_edges s r)))
 
-  pub undone_form : has_room s (r ∷ []) ≡ true → fits_keys s r ≡ true → is_slice_row (undo s r) ≡ true
+  pub undone_form : has_room s (r ∷ []) ≡ true → fits_faces s r ≡ true → fits_keys s r ≡ true → is_slice_row (undo s r) ≡ true
   unfolding undo
-  undone_form room keys =
+  undone_form room fits keys =
       let p = slice_parts s row in
-      let faces = faces_form in
+      let faces = faces_form fits in
       let edges = edges_form room in
       let sorted = sort_by edge_before (all_edges s r) in
       let load = ltb-true (replay_load s (r ∷ [])) (2 ^ 32 - 1) room in

@@ -13,6 +13,12 @@ pub mod Tables
 pub mod Labelling
 pub mod FaceRows
 pub mod Relabelled
+pub mod PutOnce
 pub mod LineTables
 pub mod Changing
 pub mod Replays
+pub mod WindowRules
+pub mod WindowEdges
+pub mod WindowFaces
+pub mod WindowForm
+pub mod WindowChanging

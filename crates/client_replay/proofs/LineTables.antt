@@ -43,36 +43,6 @@ line_put t k l es new =
     inserted (edge_of t) edge_before (λ p q. refl) k l es
     (not_some (lookup (is_at (nat_cmp k)) es) (any_lookup (edge_of t) (λ n e. e.key == n) (λ n p. refl) k es ∙ new))
 
--- ---- edges whose keys differ are put in one after the other
-
-pub record IsPutting (all now left : List Edge) : Type 0 where
-  pub moved : IsPermutation all (now ++ left)
-  pub apart : AllPairs DifferInKey (now ++ left)
-
-in_front : (now left : List Edge) (e : Edge) → AllPairs DifferInKey (now ++ e ∷ left) → All (λ f. DifferInKey f e) now
-in_front now left e h i d l =
-    let n = length now in
-    let here : get_or (now ++ e ∷ left) n d ≡ e = get_or-append_seam now e left d in
-    let there : get_or (now ++ e ∷ left) i d ≡ get_or now i d = get_or-append now (e ∷ left) d i l in
-    let both = h i n d l (let c = length-append now (e ∷ left) in omega (arith, c)) in
-    subst (λ f. DifferInKey f e) there (subst (DifferInKey (get_or (now ++ e ∷ left) i d)) here both)
-
-pub next_new : (all now left : List Edge) (e : Edge) → IsPutting all now (e ∷ left) → list_any (λ f. f.key == e.key) now ≡ false
-next_new all now left e h =
-    let apart = in_front now left e h.apart in
-    list_any_none (λ f. f.key == e.key) now (λ i d l. ne_eqb (get_or now i d).key e.key (keys_differ (get_or now i d) e (apart i d l)))
-
-pub put_next : (all now left next : List Edge) (e : Edge) → IsPutting all now (e ∷ left) → next ≡ insert_by edge_before e now → IsPutting all next left
-put_next all now left next e h is = record {
-  moved = IsPermutation-trans all (now ++ e ∷ left) (next ++ left) h.moved both;
-  apart = AllPairs-permutation DifferInKey differ_turned (now ++ e ∷ left) (next ++ left) both h.apart;
-}
-  where
-    both : IsPermutation (now ++ e ∷ left) (next ++ left)
-    both =
-        IsPermutation-trans (now ++ e ∷ left) ((e ∷ now) ++ left) (next ++ left) (IsPermutation-middle now e left)
-        (IsPermutation-append_left left (e ∷ now) next (subst (IsPermutation (e ∷ now)) (sym is) (insert_by-permutation edge_before e now)))
-
 -- ---- edges are taken out
 
 any_more : {A : Type 0} (p : A → Bool) (xs : List A) (x : A) → list_any p (xs ++ x ∷ []) ≡ (list_any p xs || p x)

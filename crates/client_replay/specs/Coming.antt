@@ -1,5 +1,5 @@
 -- The edges of the finer slice: those that stay, and those that come.
-use Rattle.std.specs.Prelude.{ℕ, Bool, ◌&&◌, not, ◌==◌, List, [], ◌++◌, flat_map, filter, find, Some, None}
+use Rattle.std.specs.Prelude.{ℕ, Bool, ◌&&◌, not, ◌==◌, List, [], ◌++◌, map, flat_map, filter, find, Some, None}
 use Rattle.std.specs.List.{list_any}
 use Rattle.lemmas.specs.Sorting.{insert_by}
 use Rattle.tgap_model.specs.declared.slice.Edge.{Edge}
@@ -30,6 +30,10 @@ coming s r = flat_map (mended s.edges r) r.mends ++ r.ended
 -- an edge that stays, where the winner takes the new face's place
 abbrev pub lowered : StepRecord → Edge → Edge
 lowered r e = record e { left = in_place_of r.made r.winner e.left; right = in_place_of r.made r.winner e.right }
+
+-- the edges that stay: those that no mend names
+abbrev pub staying : StepRecord → List Edge → List Edge
+staying r edges = map (lowered r) (filter (λ e. not (list_any (λ m. m.key == e.key) r.mends)) edges)
 
 -- an edge with this key stays
 abbrev pub stays : Slice → StepRecord → ℕ → Bool

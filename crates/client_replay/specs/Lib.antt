@@ -4,3 +4,4 @@ pub mod Labels
 pub mod Rules
 pub mod Replaying
 pub mod Working
+pub mod Windows

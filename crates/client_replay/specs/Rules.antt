@@ -22,12 +22,12 @@ abbrev pub has_faces : Slice → StepRecord → Bool
 has_faces s r = has_made s r && not (has_face s r.loser) && not (has_face s r.winner)
 
 -- rule 2: the three faces differ
-abbrev pub are_apart : StepRecord → Bool
-are_apart r = not (r.loser == r.winner) && not (r.loser == r.made) && not (r.winner == r.made)
+abbrev pub are_apart : ℕ → ℕ → ℕ → Bool
+are_apart loser winner made = not (loser == winner) && not (loser == made) && not (winner == made)
 
 -- rule 2: none is the outside
-abbrev pub are_faces : StepRecord → Bool
-are_faces r = not (r.loser == 0) && not (r.winner == 0) && not (r.made == 0)
+abbrev pub are_faces : ℕ → ℕ → ℕ → Bool
+are_faces loser winner made = not (loser == 0) && not (winner == 0) && not (made == 0)
 
 -- rule 3 for one mend
 abbrev pub names_edge : Slice → StepRecord → Mend → Bool

@@ -1,5 +1,5 @@
 -- A slice while records are undone on it: its faces by number, and its edges by key.
-use Rattle.std.specs.Prelude.{◌≡◌, ◌||◌, ℕ, true, List, map, All}
+use Rattle.std.specs.Prelude.{◌≡◌, ◌||◌, ℕ, true, nat_lt, List, map, All}
 use Rattle.std.specs.BTreeMap.{IsOrdered}
 use Rattle.std.specs.Ordering.{nat_cmp}
 use Rattle.tgap_model.specs.declared.slice.Edge.{Edge}
@@ -39,6 +39,10 @@ pub record IsSound (w : Working) : Type 0 where
   pub lines : IsOrdered nat_cmp w.lines
   pub exact : AreExact w.labels
   pub labelled : AreLabelled w.labels w.lines.entries
+
+-- the key of one of the two is below that of the other
+abbrev pub DifferBy : {A : Type 0} → (A → ℕ) → A → A → Type 0
+DifferBy key x y = (nat_lt (key x) (key y) || nat_lt (key y) (key x)) ≡ true
 
 -- one of two edges stands before the other
 abbrev pub DifferInKey : Edge → Edge → Type 0

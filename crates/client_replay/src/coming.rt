@@ -1,16 +1,19 @@
 //! The edges that come by a record: the pieces of mended edges, and the edges that the step ended; and whether their keys
 //! differ from each other and from those of the edges that stay.
 
-ghost use Rattle.std.specs.Prelude.{◌≡◌, ◌&&◌, ◌++◌, [], not, nat_lt, map, flat_map, IsPermutation, IfOk, OnOk, IsTrue};
+ghost use Rattle.std.specs.Prelude.{◌≡◌, ◌&&◌, ◌++◌, [], not, nat_lt, map, flat_map, filter, IsPermutation, IfOk, OnOk, IsTrue};
 ghost use Rattle.lemmas.specs.Sorting.{is_sorted_by};
 ghost use Rattle.std.specs.List.{list_any};
 ghost use Rattle.std.specs.List.Sorted.{IsNonDecreasingBy};
 ghost use Rattle.tgap_model.specs.declared.slice.Edge.{Edge};
 ghost use Rattle.tgap_model.specs.Records.{fits_puts};
+ghost use Rattle.tgap_model.specs.Slice.{meets_window};
 ghost use Rattle.client_replay.specs.Coming.{mended, coming, stays};
 ghost use Rattle.client_replay.specs.Rules.{are_in_order, mends_in_order};
+ghost use Rattle.client_replay.specs.Windows.{coming_in};
 ghost use Rattle.client_replay.specs.Working.{edge_of, slice_of};
 
+use crate::boxes::meets_window;
 use crate::find::has_mend;
 use crate::lines::Line;
 use crate::order::edges_ascend;
@@ -18,7 +21,7 @@ use crate::pieces::cut_pieces;
 use crate::puts::put_in;
 use crate::working::Working;
 use std::alloc::Global;
-use tgap_model::{Edge, List, Memory, Mend, StepRecord, copied_edge};
+use tgap_model::{Edge, List, Memory, Mend, StepRecord, Window, copied_edge};
 
 /// The edge of a line, without its points. It takes no memory.
 fn edge_without_points(alloc: Global, working: &Working, key: u32, line: &Line) -> Edge
@@ -99,6 +102,33 @@ pub fn coming(
     let mut edges = Vec::new(alloc);
     add_mended(alloc, working, step_record, &mut edges)?;
     add_copies(alloc, step_record.ended.as_slice(), &mut edges)?;
+    sort_by_key(&mut edges);
+    Ok(edges)
+}
+
+/// Keeps the edges whose bounding box meets the window.
+fn keep_meeting(area: Window, edges: &mut Vec<Edge>)
+    ensures { edges.new.items ≡ filter (meets_window area) edges.old.items }
+{
+    edges.retain(|edge| meets_window(area, edge));
+}
+
+/// The edges that come in a window, in the order of their keys: the pieces that meet it, and these. Two may have one key.
+pub fn coming_in(
+    alloc: Global,
+    working: &Working,
+    area: Window,
+    step_record: &StepRecord,
+    comes: &[Edge],
+) -> Result<Vec<Edge>, Memory>
+    requires puts { IsTrue (fits_puts (slice_of working.now) step_record.now) }
+    ensures permutation { IfOk result (λ edges. IsPermutation (coming_in area (slice_of working.now) step_record.now comes.now) edges.items) }
+    ensures sorted { IfOk result (λ edges. IsNonDecreasingBy (λ (e : Edge). e.key) edges.items) }
+{
+    let mut edges = Vec::new(alloc);
+    add_mended(alloc, working, step_record, &mut edges)?;
+    keep_meeting(area, &mut edges);
+    add_copies(alloc, comes, &mut edges)?;
     sort_by_key(&mut edges);
     Ok(edges)
 }

@@ -3,6 +3,7 @@
 //! keeps where it fits.
 #![tactic(auto)]
 
+mod boxes;
 mod coming;
 mod faces;
 mod find;
@@ -13,10 +14,14 @@ mod packet;
 mod pieces;
 mod puts;
 mod rules;
+mod sides;
 mod undo;
 mod unfit;
+mod window;
+mod window_rules;
 mod working;
 
 pub use packet::replay;
 pub use undo::apply;
 pub use unfit::Unfit;
+pub use window::apply_window;

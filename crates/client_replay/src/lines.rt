@@ -6,7 +6,7 @@ ghost use Rattle.std.specs.BTreeMap.{IsOrdered};
 ghost use Rattle.std.specs.Ordering.{nat_cmp};
 ghost use Rattle.lemmas.specs.Sorting.{insert_by};
 ghost use Rattle.tgap_model.specs.Records.{edge_before, in_place_of};
-ghost use Rattle.client_replay.specs.Coming.{lowered};
+ghost use Rattle.client_replay.specs.Coming.{lowered, staying};
 ghost use Rattle.client_replay.specs.Labels.{AreExact};
 ghost use Rattle.client_replay.specs.Working.{edges_of, AreLabelled, DifferInKey, moved};
 
@@ -131,4 +131,26 @@ pub fn lower(
             Ok(())
         }
     }
+}
+
+/// Takes out the edges that mends name, lets the winner take the place of the new face at the others, and puts in edges whose keys
+/// are new then and differ.
+pub fn change_edges(
+    lines: &mut BTreeMap<u32, Line>,
+    labels: &mut Labels,
+    step_record: &StepRecord,
+    edges: Vec<Edge>,
+) -> Result<(), Memory>
+    requires ordered { IsOrdered nat_cmp lines.old }
+    requires exact { AreExact labels.old }
+    requires labelled { AreLabelled labels.old lines.old.entries }
+    requires apart { AllPairs DifferInKey (staying step_record.now (edges_of labels.old lines.old.entries) ++ edges.items) }
+    ensures ordered { OnOk result (IsOrdered nat_cmp lines.new) }
+    ensures exact { OnOk result (AreExact labels.new) }
+    ensures labelled { OnOk result (AreLabelled labels.new lines.new.entries) }
+    ensures put { OnOk result (IsPermutation (staying step_record.now (edges_of labels.old lines.old.entries) ++ edges.items) (edges_of labels.new lines.new.entries)) }
+{
+    take_mended(lines, step_record.mends.as_slice());
+    lower(lines, labels, step_record)?;
+    put_all(lines, labels, edges)
 }

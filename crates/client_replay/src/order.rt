@@ -4,7 +4,7 @@ ghost use Rattle.std.specs.Prelude.{◌≡◌, map, nat_lt};
 ghost use Rattle.lemmas.specs.Sorting.{is_sorted_by};
 ghost use Rattle.client_replay.specs.Rules.{are_in_order, mends_in_order};
 
-use tgap_model::{Edge, Mend, Piece, Put};
+use tgap_model::{Edge, FaceRow, Mend, Piece, Put};
 
 /// Whether the keys of these edges ascend.
 pub fn edges_ascend(edges: &[Edge]) -> bool
@@ -32,4 +32,11 @@ pub fn pieces_ascend(pieces: &[Piece]) -> bool
     ensures { result ≡ is_sorted_by nat_lt (map (λ p. p.last) pieces.now) }
 {
     pieces.is_sorted_by(|piece, next| piece.last < next.last)
+}
+
+/// Whether the numbers of these faces ascend.
+pub fn faces_ascend(rows: &[FaceRow]) -> bool
+    ensures { result ≡ is_sorted_by nat_lt (map (λ f. f.face) rows.now) }
+{
+    rows.is_sorted_by(|row, next| row.face < next.face)
 }

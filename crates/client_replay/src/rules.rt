@@ -17,7 +17,7 @@ use crate::working::Working;
 use tgap_model::{Edge, Mend, StepRecord};
 
 /// Rule 1: whether the step is the slice's, and at least 1.
-fn fits_step(working: &Working, step_record: &StepRecord) -> bool
+pub fn fits_step(working: &Working, step_record: &StepRecord) -> bool
     ensures { result ≡ fits_step (slice_of working.now) step_record.now }
 {
     working.step == step_record.step && 1 <= step_record.step
@@ -42,19 +42,24 @@ fn has_faces(working: &Working, step_record: &StepRecord) -> bool
 }
 
 /// Whether loser, winner and new face differ.
-fn are_apart(step_record: &StepRecord) -> bool
-    ensures { result ≡ are_apart step_record.now }
+fn are_apart(loser: u32, winner: u32, made: u32) -> bool
+    ensures { result ≡ are_apart loser winner made }
 {
-    step_record.loser != step_record.winner
-        && step_record.loser != step_record.made
-        && step_record.winner != step_record.made
+    loser != winner && loser != made && winner != made
 }
 
 /// Whether neither loser nor winner nor the new face is the outside.
-fn are_faces(step_record: &StepRecord) -> bool
-    ensures { result ≡ are_faces step_record.now }
+fn are_faces(loser: u32, winner: u32, made: u32) -> bool
+    ensures { result ≡ are_faces loser winner made }
 {
-    step_record.loser != 0 && step_record.winner != 0 && step_record.made != 0
+    loser != 0 && winner != 0 && made != 0
+}
+
+/// Whether loser, winner and new face are three faces, none of which is the outside.
+pub fn are_three(loser: u32, winner: u32, made: u32) -> bool
+    ensures { result ≡ (are_apart loser winner made && are_faces loser winner made) }
+{
+    are_apart(loser, winner, made) && are_faces(loser, winner, made)
 }
 
 /// Rule 2: whether the slice has the faces that the record wants, and no others of it.
@@ -62,7 +67,8 @@ fn fits_faces(working: &Working, step_record: &StepRecord) -> bool
     requires { IsOrdered nat_cmp working.now.faces }
     ensures { result ≡ fits_faces (slice_of working.now) step_record.now }
 {
-    has_faces(working, step_record) && are_apart(step_record) && are_faces(step_record)
+    has_faces(working, step_record)
+        && are_three(step_record.loser, step_record.winner, step_record.made)
 }
 
 /// Whether the face is on exactly one side, of these two.
@@ -99,7 +105,7 @@ fn name_edges(working: &Working, step_record: &StepRecord) -> bool
 }
 
 /// Rule 3: whether the keys of the mends ascend, and each names an edge that has the new face on exactly one side.
-fn fits_mends(working: &Working, step_record: &StepRecord) -> bool
+pub fn fits_mends(working: &Working, step_record: &StepRecord) -> bool
     ensures { result ≡ fits_mends (slice_of working.now) step_record.now }
 {
     mends_ascend(step_record.mends.as_slice()) && name_edges(working, step_record)

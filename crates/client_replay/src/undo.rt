@@ -12,7 +12,7 @@ ghost use Rattle.client_replay.specs.Working.{slice_of, IsSound};
 
 use crate::coming::{coming, keys_differ};
 use crate::faces::part;
-use crate::lines::{lower, put_all, take_mended};
+use crate::lines::change_edges;
 use crate::rules::broken_before;
 use crate::unfit::Unfit;
 use crate::working::Working;
@@ -28,9 +28,7 @@ fn change(working: &mut Working, step_record: &StepRecord, edges: Vec<Edge>) -> 
     ensures done { OnOk result (slice_of working.new ≡ undo (slice_of working.old) step_record.now) }
     ensures sound { OnOk result (IsSound working.new) }
 {
-    take_mended(&mut working.lines, step_record.mends.as_slice());
-    lower(&mut working.lines, &mut working.labels, step_record)?;
-    put_all(&mut working.lines, &mut working.labels, edges)?;
+    change_edges(&mut working.lines, &mut working.labels, step_record, edges)?;
     part(&mut working.faces, step_record)?;
     working.step -= 1;
     Ok(())

@@ -67,7 +67,7 @@ fn put_step(out: &mut Text, step: &StepRecord) -> Result<(), Memory>
 }
 
 /// Appends the lines of all mends.
-fn put_mends(out: &mut Text, mends: &[Mend]) -> Result<(), Memory>
+pub fn put_mends(out: &mut Text, mends: &[Mend]) -> Result<(), Memory>
     ensures { OnOk result (out.new ≡ out.old ++ lines (flat_map mend_rows mends.now)) }
 {
     for mend in mends {

@@ -63,6 +63,13 @@ fn put_faces(out: &mut Text, faces: &[FaceRow]) -> Result<(), Memory>
         (out.new ≡ out.old ++ lines (count_words (codes "faces") (length faces.now) ∷ map face_words faces.now)) }
 {
     put_count_line(out, b"faces", faces.len())?;
+    put_face_rows(out, faces)
+}
+
+/// Appends a line for each face.
+pub fn put_face_rows(out: &mut Text, faces: &[FaceRow]) -> Result<(), Memory>
+    ensures { OnOk result (out.new ≡ out.old ++ lines (map face_words faces.now)) }
+{
     for face in faces {
         put_face(out, face)?;
     }

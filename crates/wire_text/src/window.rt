@@ -32,7 +32,7 @@ fn put_window(alloc: Global, out: &mut Text, step: u32, area: Window) -> Result<
 }
 
 /// Appends the corners of a window, each coordinate with a space before it.
-fn put_area(alloc: Global, out: &mut Text, area: Window) -> Result<(), Memory>
+pub fn put_area(alloc: Global, out: &mut Text, area: Window) -> Result<(), Memory>
     ensures { OnOk result (out.new ≡ out.old
         ++ fields (signed_decimal area.x0 ∷ signed_decimal area.y0 ∷ signed_decimal area.x1 ∷ signed_decimal area.y1 ∷ [])) }
 {

@@ -12,3 +12,5 @@ mod readings;
 mod rows;
 #[cfg(test)]
 mod texts;
+#[cfg(test)]
+mod window_packets;

@@ -8,7 +8,7 @@ use tgap_model::{
 };
 
 /// The points with these coordinates.
-fn points(alloc: Global, places: &[(i64, i64)]) -> Result<List<Point>, Memory> {
+pub fn points(alloc: Global, places: &[(i64, i64)]) -> Result<List<Point>, Memory> {
     let mut points = List::new(alloc);
     for (x, y) in places {
         points.push(Point { x: *x, y: *y })?;
@@ -59,7 +59,7 @@ fn between(alloc: Global) -> Result<Edge, Memory> {
 }
 
 /// The edge of this key, between these faces, with these points.
-fn edge(
+pub fn edge(
     alloc: Global,
     (key, left, right): (u32, u32, u32),
     places: &[(i64, i64)],

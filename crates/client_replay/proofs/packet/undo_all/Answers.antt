@@ -5,7 +5,7 @@ use Rattle.slice_forms.specs.SliceForms.{has_room, is_record_row}
 use Rattle.tgap_model.specs.Records.{broken_rule, undo}
 use Rattle.client_replay.specs.Replaying.{undone, after}
 use Rattle.client_replay.specs.Working.{slice_of}
-use Rattle.client_replay.proofs.Failures.{keeps_six, none_before}
+use Rattle.client_replay.proofs.Failures.{keeps_six, keeps_mends, none_before}
 use Rattle.client_replay.proofs.Form.{undone_room}
 use Rattle.client_replay.proofs.Replays.{first_fits}
 use Rattle.client_replay.proofs.Walks.{drop_step}
@@ -29,5 +29,5 @@ loop-step_record-preserved c =
       left = c.loop-step_record.invariant.left ∙ ap (undone now) next ∙ first_fits now r rest fits ∙ ap (λ (t : Slice). undone t rest) (sym done);
       form = c.in_ok-rule.ensures.form;
       room = ap (λ (t : Slice). has_room t rest) done
-          ∙ undone_room now r c.loop-step_record.invariant.form (ap is_record_row is ∙ row) (keeps_six now r (none_before now r fits)) rest (sym (ap (has_room now) next) ∙ c.loop-step_record.invariant.room);
+          ∙ undone_room now r c.loop-step_record.invariant.form (ap is_record_row is ∙ row) (keeps_mends now r (keeps_six now r (none_before now r fits))) rest (sym (ap (has_room now) next) ∙ c.loop-step_record.invariant.room);
     }

@@ -2,9 +2,9 @@ use Rattle.std.proofs.Common.{ℕ, Bool, true, false, cond, Some, None, Option, 
 use Rattle.slice_forms.specs.SliceForms.{is_slice_row}
 use Rattle.client_replay.specs.Working.{slice_of}
 use Rattle.client_replay.proofs.Form.{undone_form}
-use Rattle.client_replay.proofs.Changing.{keys_tested}
+use Rattle.client_replay.proofs.Changing.{rule_tested}
 use Rattle.client_replay.proofs.Seventh.{mends_sorted}
-use Rattle.client_replay.proofs.Failures.{keeps_six, broken_first, broken_seventh}
+use Rattle.client_replay.proofs.Failures.{keeps_six, keeps_mends, broken_first, broken_seventh}
 use Rattle.client_replay.proofs.undo.undo_record.Goals as goal
 
 pub returns-in-Some-clause-rule : goal.returns-in-Some-clause-rule
@@ -24,7 +24,7 @@ returns-then-not-keys_differ-clause-rule c =
     let w = c.args.working.now in
     let r = c.args.step_record.now in
     let none = sym c.in_default.ensures in
-    let keys = keys_tested w r c.requires.sound none c.in_ok-edges.edges.items c.as_slice.result.now c.in_ok-edges.ensures.permutation c.in_ok-edges.ensures.sorted
+    let keys = rule_tested w r c.requires.sound (keeps_six (slice_of w) r none).mends c.in_ok-edges.edges.items c.as_slice.result.now c.in_ok-edges.ensures.permutation c.in_ok-edges.ensures.sorted
     c.as_slice.ensures.value c.keys_differ.result false c.keys_differ.ensures c.if-not-keys_differ.true in
     broken_seventh (slice_of w) r none ∙ ap (λ (b : Bool). cond {A = Option ℕ} b None (Some 7)) keys
 
@@ -33,7 +33,7 @@ returns-clause-rule c =
     let w = c.args.working.now in
     let r = c.args.step_record.now in
     let none = sym c.in_default.ensures in
-    let keys = keys_tested w r c.requires.sound none c.in_ok-edges.edges.items c.as_slice.result.now c.in_ok-edges.ensures.permutation c.in_ok-edges.ensures.sorted
+    let keys = rule_tested w r c.requires.sound (keeps_six (slice_of w) r none).mends c.in_ok-edges.edges.items c.as_slice.result.now c.in_ok-edges.ensures.permutation c.in_ok-edges.ensures.sorted
     c.as_slice.ensures.value c.keys_differ.result true c.keys_differ.ensures c.if-not-keys_differ.false in
     broken_seventh (slice_of w) r none ∙ ap (λ (b : Bool). cond {A = Option ℕ} b None (Some 7)) keys
 
@@ -42,6 +42,7 @@ returns-clause-form c =
     let w = c.args.working.now in
     let r = c.args.step_record.now in
     let none = sym c.in_default.ensures in
-    let keys = keys_tested w r c.requires.sound none c.in_ok-edges.edges.items c.as_slice.result.now c.in_ok-edges.ensures.permutation c.in_ok-edges.ensures.sorted
+    let keys = rule_tested w r c.requires.sound (keeps_six (slice_of w) r none).mends c.in_ok-edges.edges.items c.as_slice.result.now c.in_ok-edges.ensures.permutation c.in_ok-edges.ensures.sorted
     c.as_slice.ensures.value c.keys_differ.result true c.keys_differ.ensures c.if-not-keys_differ.false in
-    ap is_slice_row c.in_ok-change.ensures.done ∙ undone_form (slice_of w) r c.requires.slice c.requires.record (keeps_six (slice_of w) r none) c.requires.room keys
+    ap is_slice_row c.in_ok-change.ensures.done ∙ undone_form (slice_of w) r c.requires.slice c.requires.record (keeps_mends (slice_of w) r (keeps_six (slice_of w) r none)) c.requires.room
+    (keeps_six (slice_of w) r none).faces keys

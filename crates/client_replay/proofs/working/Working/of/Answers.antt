@@ -2,8 +2,7 @@ use Rattle.std.proofs.Common.{◌++◌, List, AllPairs, IsPermutation, sym, ap, 
 use Rattle.tgap_model.specs.declared.slice.Edge.{Edge}
 use Rattle.client_replay.specs.Working.{edges_of, DifferInKey}
 use Rattle.client_replay.proofs.Form.{slice_parts}
-use Rattle.client_replay.proofs.Seventh.{slice_with}
-use Rattle.client_replay.proofs.Changing.{in_order_apart, same_in_order}
+use Rattle.client_replay.proofs.Changing.{in_order_apart, same_in_order, slice_with}
 use Rattle.client_replay.proofs.working.Working.of.Goals as goal
 
 pub put_all-requires-clause-apart : goal.put_all-requires-clause-apart

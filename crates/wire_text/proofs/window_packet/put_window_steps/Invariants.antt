@@ -1,0 +1,9 @@
+use Rattle.std.proofs.Common.{◌≡◌, ◌++◌, take}
+use Rattle.std.specs.Prelude.{flat_map}
+use Rattle.line_forms.specs.Texts.{lines}
+use Rattle.wire_text.specs.SliceTexts.{window_step_rows}
+use Rattle.wire_text.proofs.window_packet.put_window_steps.Given as goal
+
+-- the lines of the records so far
+abbrev pub invariant-loop-record : goal.invariant-loop-record
+invariant-loop-record l = l.out ≡ l.fn.out ++ lines (flat_map window_step_rows (take l.record-index l.records))
