@@ -6,7 +6,7 @@ use std::alloc::Global;
 use tgap_model::{List, Memory, Mend, StepRecord, copied_edges};
 
 /// A copy of a mend.
-fn copied_mend(alloc: Global, mend: &Mend) -> Result<Mend, Memory>
+pub fn copied_mend(alloc: Global, mend: &Mend) -> Result<Mend, Memory>
     ensures { IfOk result (λ copy. copy ≡ mend.now) }
 {
     Ok(Mend {

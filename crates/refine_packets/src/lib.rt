@@ -10,14 +10,22 @@ ghost use Rattle.tgap_model.specs.Records.{packet_of, records_down, replayed};
 ghost use Rattle.record_laws.specs.PacketLaws.{each_fits};
 ghost use Rattle.refine_packets.specs.declared.fail.PacketFail.TheVariants.{NotCoarser, StepTooHigh};
 
+mod changes;
 mod copy;
+mod counts;
 mod fail;
+mod near;
+mod rows;
+mod sight;
+mod window;
+mod window_step;
 
 use copy::copied_record;
 pub use fail::PacketFail;
 use std::alloc::Global;
 use tgap_build::Built;
 use tgap_model::{List, Memory, Packet, StepRecord};
+pub use window::window_packet;
 
 /// Copies of the records of the steps `from` down to `to + 1`, in this order.
 fn records_down(
