@@ -17,3 +17,4 @@ pub mod LastSpokes
 pub mod FreePoints
 pub mod LeastSegments
 pub mod FusedAgain
+pub mod NearColumns

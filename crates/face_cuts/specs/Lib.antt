@@ -9,3 +9,4 @@ pub mod PointSets
 pub mod Spokes
 pub mod NewRings
 pub mod Partings
+pub mod Columns

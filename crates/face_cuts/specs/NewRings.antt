@@ -1,5 +1,5 @@
 -- The ring that a new arc makes with its walk.
-use Rattle.std.specs.Prelude.{◌≡◌, ◌≤◌, ◌<◌, ◌*◌, ◌==◌, ℕ, Bool, true, false, ◌&&◌, ◌||◌, Option, Some, None, List, [], ◌∷◌, ◌++◌, length, get_or, slice_index_or, All, Result, Ok, if◌then◌else◌}
+use Rattle.std.specs.Prelude.{◌≡◌, ◌≤◌, ◌<◌, ◌*◌, ◌==◌, ℕ, Bool, true, false, ◌&&◌, ◌||◌, Option, Some, None, List, [], ◌∷◌, ◌++◌, length, get_or, slice_index_or, All, IfSome, Result, Ok, if◌then◌else◌}
 use Rattle.std.specs.List.{list_all, list_any}
 use Rattle.std.specs.Option.{ok_or}
 use Rattle.tgap_model.specs.declared.geometry.Point.{Point}
@@ -14,10 +14,11 @@ use Rattle.ring_walk.specs.Rings.{ring_from}
 use Rattle.ring_walk.specs.Areas.{first_leaning, segments_of}
 use Rattle.ring_walk.specs.Spans.{IsRing, IsSide}
 use Rattle.ring_probe.specs.Rows.{IsLeaning, IsLine}
-use Rattle.face_cuts.specs.Cuts.{all_different, face_after, goes_over, lines_of, new_area, sectors_of, with_faces}
+use Rattle.face_cuts.specs.Cuts.{all_different, face_after, goes_over, lines_of, new_area, new_ring, sectors_of, with_faces}
 use Rattle.face_cuts.specs.Outcomes.{◌>>=◌}
 use Rattle.face_cuts.specs.Sectors.{spans_of}
 use Rattle.face_cuts.specs.Walks.{walk_between}
+use Rattle.face_cuts.specs.Columns.{AreColumns}
 use Rattle.face_cuts.specs.declared.new_ring.NewRing.{NewRing}
 use Rattle.face_cuts.specs.declared.new_ring.Leaning.{Leaning}
 
@@ -32,6 +33,7 @@ pub record IsNewRing (ring : NewRing) : Type 0 where
   pub points : IsLine ring.points.now
   pub walk : IsRing (length ring.arcs.now) ring.walk.now
   pub area : ring.area ≡ new_area (lines_of ring.arcs.now) ring.points.now ring.walk.now
+  pub columns : IfSome ring.columns (AreColumns (new_ring (lines_of ring.arcs.now) ring.points.now ring.walk.now))
 
 -- the first segment of an arc that is not vertical
 abbrev pub leaning_of : List (List Point) → ℕ → Option Seg

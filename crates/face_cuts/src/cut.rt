@@ -15,7 +15,7 @@ use crate::cause::{Cause, NO_ROOM, NO_SECTOR, NO_SUCH_NUMBER, NO_WALK, POINT_TAK
 use crate::free::are_free;
 use crate::fusion::{count_faces, is_face};
 use crate::new_ring::NewRing;
-use crate::over::{Parting, moved_sides};
+use crate::over::{Parting, count_beside, moved_sides};
 use crate::parts::{has_room, with_parts};
 use crate::points::{first_point, last_point};
 use crate::sector::sector_of_face;
@@ -81,7 +81,8 @@ fn arcs_along(
     requires walk { IsRing (length spans.now) walk.now }
     ensures { IfOk result (λ made. made ≡ cut_arcs arcs.now arc.entry.face arc.entry.new arc.entry.points.now walk.now) }
 {
-    let ring = NewRing::of(arcs, arc.points, walk);
+    let others = count_beside(spans, arc.face, rings).saturating_sub(1);
+    let ring = NewRing::of(alloc, arcs, arc.points, walk, others)?;
     let moved = moved_sides(alloc, spans, rings, arc.face, &ring)?;
     let parting = Parting {
         face: arc.face,
@@ -157,8 +158,8 @@ fn classes_with(alloc: Global, class: u32, classes: &[u32]) -> Result<List<u32>,
 /// The causes, the first that holds: 2, there is no face from 1 on or no class of that number; 11, the map has as many faces,
 /// arcs or points as it may have; 10, the points are not all different, or one between the first and the last is a point of the
 /// map; 9, an end is no node, or the arc leaves it along another one or not within the face; 12, no walk along the face comes
-/// from the end to the start. It takes a sort of the sides of all arcs, and for each other ring of the face a pass over the new
-/// one.
+/// from the end to the start. It takes a sort of the sides of all arcs, and of the segments of the new ring where the face has
+/// several other rings: for each of these the segments are looked up that pass over a point of it or below.
 #[tactic(auto, unfolding(crate::specs::Cuts::cut_face))]
 pub fn cut_face(
     alloc: Global,

@@ -1,9 +1,11 @@
-//! Cuts and fusions of faces: an inner vertex becomes a node, a new arc cuts a face in two, and two faces become one. It stands on
-//! `ring_walk`, whose rings go round faces, and on `ring_probe`, which finds what of a ring passes above a segment. The functions of
-//! `laws` do nothing: their contracts are laws of the three edits.
+//! Cuts and fusions of faces: an inner vertex becomes a node, a new arc cuts a face in two, and two faces become one. It
+//! stands on `ring_walk`, whose rings go round faces, on `ring_probe`, which finds what of a ring passes above a segment, and
+//! on `grid_index`, by which segments are looked up. The functions of `laws` do nothing: their contracts are laws of the three
+//! edits.
 #![tactic(auto)]
 
 mod cause;
+mod columns;
 mod cut;
 mod free;
 mod fusion;

@@ -1,6 +1,6 @@
 //! The ring that a new arc makes with its walk, and which other rings lie at its left.
 
-ghost use Rattle.std.specs.Prelude.{◌≡◌, ◌≤◌, ◌<◌, false, List as Sequence, [], ◌∷◌, ◌++◌, All, IfSome, get_or, length, slice_index_or, unsigned_abs};
+ghost use Rattle.std.specs.Prelude.{◌≡◌, ◌≤◌, ◌<◌, false, List as Sequence, [], ◌∷◌, ◌++◌, All, IfOk, IfSome, get_or, length, slice_index_or, unsigned_abs};
 ghost use Rattle.std.specs.List.{list_any};
 ghost use Rattle.tgap_model.specs.Bounds.{max_arc_area};
 ghost use Rattle.tgap_model.specs.Point.{shoelace};
@@ -10,20 +10,24 @@ ghost use Rattle.ring_walk.specs.Sides.{side_number};
 ghost use Rattle.ring_walk.specs.Spans.{IsRing, IsSide};
 ghost use Rattle.ring_probe.specs.Rows.{IsLeaning, IsLine};
 ghost use Rattle.face_cuts.specs.Cuts.{goes_over, is_at_left, least_leaning, lines_of, new_area, new_ring};
+ghost use Rattle.face_cuts.specs.Columns.{AreColumns};
 ghost use Rattle.face_cuts.specs.NewRings.{AreLines, AreNoted, IsLeast, IsNewRing, leaning_of};
 
+use crate::columns::{Columns, push_segments};
 use ring_probe::{area_of, either_alone, is_over_odd, leaning_of};
 use ring_walk::{Side, Way};
-use tgap_model::{BaseArc, Point, Seg};
+use std::alloc::Global;
+use tgap_model::{BaseArc, List, Memory, Point, Seg};
 
 /// A new arc and its walk along other arcs, with twice the area that they go round: positive where they do so
-/// counter-clockwise.
-#[derive(Clone, Copy)]
+/// counter-clockwise. Where several rings are held to it, its segments are looked up by their abscissas.
+#[derive(Drop)]
 pub struct NewRing<'a> {
     arcs: &'a [BaseArc],
     points: &'a [Point],
     walk: &'a [Side],
     area: i128,
+    columns: Option<Columns>,
 }
 
 /// The points of the arc of a side.
@@ -127,23 +131,74 @@ fn is_any_noted(notes: &[bool], row: &[Side]) -> bool
     false
 }
 
+/// The segments of a new arc and its walk.
+fn segments_of(
+    alloc: Global,
+    arcs: &[BaseArc],
+    points: &[Point],
+    walk: &[Side],
+) -> Result<List<Seg>, Memory>
+    requires lines { AreLines arcs.now }
+    requires points { IsLine points.now }
+    requires walk { IsRing (length arcs.now) walk.now }
+    ensures { IfOk result (λ segments. segments ≡ new_ring (lines_of arcs.now) points.now walk.now) }
+{
+    let mut segments = List::new(alloc);
+    push_segments(&mut segments, points, Way::Along)?;
+    for side in walk {
+        push_segments(&mut segments, points_at(arcs, *side), side.way)?;
+    }
+    Ok(segments)
+}
+
+/// The look-up of the segments of a new arc and its walk. There is none where fewer than two rings are held to them, or where
+/// there are more segments than a look-up has places.
+fn columns_of(
+    alloc: Global,
+    arcs: &[BaseArc],
+    points: &[Point],
+    walk: &[Side],
+    rings: usize,
+) -> Result<Option<Columns>, Memory>
+    requires lines { AreLines arcs.now }
+    requires points { IsLine points.now }
+    requires walk { IsRing (length arcs.now) walk.now }
+    ensures { IfOk result (λ columns. IfSome columns (AreColumns (new_ring (lines_of arcs.now) points.now walk.now))) }
+{
+    if rings < 2 {
+        return Ok(None);
+    }
+    let segments = segments_of(alloc, arcs, points, walk)?;
+    if u32::MAX as usize <= segments.len() {
+        return Ok(None);
+    }
+    Ok(Some(Columns::of(alloc, segments)?))
+}
+
 impl<'a> NewRing<'a> {
-    /// The ring of an arc with these points and its walk.
-    pub fn of(arcs: &'a [BaseArc], points: &'a [Point], walk: &'a [Side]) -> NewRing<'a>
+    /// The ring of an arc with these points and its walk, to which so many other rings are held.
+    pub fn of(
+        alloc: Global,
+        arcs: &'a [BaseArc],
+        points: &'a [Point],
+        walk: &'a [Side],
+        rings: usize,
+    ) -> Result<NewRing<'a>, Memory>
         requires lines { AreLines arcs.now }
         requires points { IsLine points.now }
         requires walk { IsRing (length arcs.now) walk.now }
-        ensures ring { IsNewRing result }
-        ensures arcs { result.arcs.now ≡ arcs.now }
-        ensures points { result.points.now ≡ points.now }
-        ensures walk { result.walk.now ≡ walk.now }
+        ensures ring { IfOk result IsNewRing }
+        ensures arcs { IfOk result (λ ring. ring.arcs.now ≡ arcs.now) }
+        ensures points { IfOk result (λ ring. ring.points.now ≡ points.now) }
+        ensures walk { IfOk result (λ ring. ring.walk.now ≡ walk.now) }
     {
-        NewRing {
+        Ok(NewRing {
             arcs,
             points,
             walk,
             area: new_area(arcs, points, walk),
-        }
+            columns: columns_of(alloc, arcs, points, walk, rings)?,
+        })
     }
 
     /// The sides of the walk.
@@ -153,8 +208,8 @@ impl<'a> NewRing<'a> {
         self.walk
     }
 
-    /// Whether an odd number of its segments cross the line of the probe above it.
-    fn is_round(&self, probe: Seg) -> bool
+    /// Whether an odd number of its segments cross the line of the probe above it: each is tried.
+    fn is_round_by_all(&self, probe: Seg) -> bool
         requires ring { IsNewRing self.now }
         requires probe { IsLeaning probe }
         ensures { result ≡ are_round probe (new_ring (lines_of self.now.arcs.now) self.now.points.now self.now.walk.now) }
@@ -167,29 +222,41 @@ impl<'a> NewRing<'a> {
         odd
     }
 
-    /// Whether a segment lies at its left.
-    fn is_at_left(&self, probe: Seg) -> bool
+    /// Whether an odd number of its segments cross the line of the probe above it.
+    fn is_round(&self, alloc: Global, probe: Seg) -> Result<bool, Memory>
         requires ring { IsNewRing self.now }
         requires probe { IsLeaning probe }
-        ensures { result ≡ is_at_left (lines_of self.now.arcs.now) self.now.points.now self.now.walk.now probe }
+        ensures { IfOk result (λ round. round ≡ are_round probe (new_ring (lines_of self.now.arcs.now) self.now.points.now self.now.walk.now)) }
     {
-        let round = self.is_round(probe);
-        if 0 < self.area { round } else { !round }
+        match &self.columns {
+            Some(columns) => columns.is_round(alloc, probe),
+            None => Ok(self.is_round_by_all(probe)),
+        }
+    }
+
+    /// Whether a segment lies at its left.
+    fn is_at_left(&self, alloc: Global, probe: Seg) -> Result<bool, Memory>
+        requires ring { IsNewRing self.now }
+        requires probe { IsLeaning probe }
+        ensures { IfOk result (λ left. left ≡ is_at_left (lines_of self.now.arcs.now) self.now.points.now self.now.walk.now probe) }
+    {
+        let round = self.is_round(alloc, probe)?;
+        Ok(if 0 < self.area { round } else { !round })
     }
 
     /// Whether a ring of which no side is on the walk lies at its left. Its sides on the walk are noted.
-    pub fn goes_over(&self, on_walk: &[bool], row: &[Side]) -> bool
+    pub fn goes_over(&self, alloc: Global, on_walk: &[bool], row: &[Side]) -> Result<bool, Memory>
         requires ring { IsNewRing self.now }
         requires noted { AreNoted (length self.now.arcs.now) self.now.walk.now on_walk.now }
         requires row { IsRing (length self.now.arcs.now) row.now }
-        ensures { result ≡ goes_over (lines_of self.now.arcs.now) self.now.points.now self.now.walk.now row.now }
+        ensures { IfOk result (λ over. over ≡ goes_over (lines_of self.now.arcs.now) self.now.points.now self.now.walk.now row.now) }
     {
         if is_any_noted(on_walk, row) {
-            return false;
+            return Ok(false);
         }
         match least_leaning(self.arcs, row) {
-            Some(probe) => self.is_at_left(probe),
-            None => false,
+            Some(probe) => self.is_at_left(alloc, probe),
+            None => Ok(false),
         }
     }
 }

@@ -50,6 +50,19 @@ fn is_beside(spans: &[Span], face: u32, row: &[Side]) -> bool
     false
 }
 
+/// How many rings have a side beside the face.
+pub fn count_beside(spans: &[Span], face: u32, rings: &[List<Side>]) -> usize
+    requires { All (IsRing (length spans.now)) rings.now }
+{
+    let mut count = 0;
+    for ring in rings {
+        if is_beside(spans, face, ring.as_slice()) {
+            count += 1;
+        }
+    }
+    count
+}
+
 /// By number, the sides that go over where they are beside the face: those on the walk, and those of rings at the left of the
 /// new one. Each ring that has a side beside the face is decided once.
 pub fn moved_sides(
@@ -68,8 +81,9 @@ pub fn moved_sides(
     let on_walk = noted(alloc, spans.len(), ring.walk())?;
     let mut moved = noted(alloc, spans.len(), ring.walk())?;
     for row in rings {
-        if is_beside(spans, face, row.as_slice()) && ring.goes_over(&on_walk, row.as_slice()) {
-            note_all(&mut moved, row.as_slice());
+        let row = row.as_slice();
+        if is_beside(spans, face, row) && ring.goes_over(alloc, &on_walk, row)? {
+            note_all(&mut moved, row);
         }
     }
     Ok(moved)

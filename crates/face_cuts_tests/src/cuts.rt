@@ -161,8 +161,8 @@ fn the_outside_at_the_right(rt: HostRuntime) -> Result<(), Fail> {
     Ok(())
 }
 
-// One island touches the border in the middle of the walk, which goes round it. The other touches it at the end of the arc, at the
-// right of the walk and on its ring.
+// One island touches the border in the middle of the walk, which goes round it. The other touches it at the end of the
+// arc, at the right of the walk and on its ring.
 #[test]
 fn islands_that_touch_the_border(rt: HostRuntime) -> Result<(), Fail> {
     let map = Rows {

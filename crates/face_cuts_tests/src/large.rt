@@ -32,8 +32,8 @@ fn back(alloc: Global, points: u32) -> Result<BaseArc, Memory> {
     })
 }
 
-/// A face of two arcs, of which one has so many points and the other 4; and so many other faces with an arc of two points each, and
-/// so many arcs more.
+/// A face of two arcs, of which one has so many points and the other 4; so many other faces with an arc of two points each,
+/// and so many arcs more.
 fn map(alloc: Global, points: u32, others: u32, more: u32) -> Result<Box<Base>, Memory> {
     let mut classes = Vec::from_slice(alloc, &[0])?;
     let mut arcs = List::new(alloc);
@@ -100,10 +100,7 @@ fn faces(rt: HostRuntime) -> Result<(), Fail> {
 
 #[test]
 fn arcs(rt: HostRuntime) -> Result<(), Fail> {
-    let rows = [(65_533, Ok((2, MAX_ARCS, 131_076))), (65_534, Err(11))];
-    for (more, wanted) in rows {
-        assert!(rt; cut_after(rt.alloc(), 3, 0, more)? == wanted, "{more}");
-    }
+    assert!(rt; cut_after(rt.alloc(), 3, 0, 65_534)? == Err(11));
     Ok(())
 }
 

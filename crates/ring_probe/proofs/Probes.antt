@@ -40,13 +40,13 @@ leaning_later segments i s l here level =
 pub leaning_none : (segments : List Seg) (i : ℕ) → length segments ≤ i → first_leaning (drop i segments) ≡ None
 leaning_none segments i l = ap first_leaning (drop_all i segments l)
 
--- one more segment above the probe, or not
-pub odd_more : (p : Seg → Bool) (segments : List Seg) (i : ℕ) (s : Seg) (b odd : Bool) → i < length segments → s ≡ get_or segments i s → b ≡ p s
-    → odd ≡ is_odd (count_by p (take i segments)) → either_alone odd b ≡ is_odd (count_by p (take (i + 1) segments))
-odd_more p segments i s b odd l here is_b so_far =
-    ap₂ either_alone so_far (is_b ∙ sym (ap is_odd (count_by-cons p s []) ∙ one (p s) (count_by p []) refl))
-    ∙ sym (ap (λ (ss : List Seg). is_odd (count_by p ss)) (take_more segments i s l ∙ ap (λ (t : Seg). take i segments ++ t ∷ []) (sym here))
-    ∙ is_odd-count_by-append p (take i segments) (s ∷ []))
+-- one more that passes a test, or not
+pub odd_more : {A : Type 0} (p : A → Bool) (xs : List A) (i : ℕ) (x : A) (b odd : Bool) → i < length xs → x ≡ get_or xs i x → b ≡ p x
+    → odd ≡ is_odd (count_by p (take i xs)) → either_alone odd b ≡ is_odd (count_by p (take (i + 1) xs))
+odd_more {A} p xs i x b odd l here is_b so_far =
+    ap₂ either_alone so_far (is_b ∙ sym (ap is_odd (count_by-cons p x []) ∙ one (p x) (count_by p []) refl))
+    ∙ sym (ap (λ (ys : List A). is_odd (count_by p ys)) (take_more xs i x l ∙ ap (λ (y : A). take i xs ++ y ∷ []) (sym here))
+    ∙ is_odd-count_by-append p (take i xs) (x ∷ []))
   where
     one : (x : Bool) (n : ℕ) → n ≡ 0 → is_odd (cond x 1 0 + n) ≡ x
     one true n e = ap (λ (m : ℕ). is_odd (1 + m)) e

@@ -6,3 +6,4 @@ mod probe;
 mod segments;
 
 pub use probe::{area_of, either_alone, is_over_odd, leaning_of};
+pub use segments::{is_over, segment_at};

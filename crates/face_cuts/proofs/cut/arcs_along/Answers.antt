@@ -14,12 +14,12 @@ returns c =
     let new = c.args.arc.new in
     let points = c.args.arc.points.now in
     let walk = c.args.walk.now in
-    let ring = c.of-ring.result in
+    let ring = c.in_ok-ring.ring in
     let moved = c.in_ok-moved.moved.items in
     let first : AreMoved ring.arcs.now f ring.points.now ring.walk.now moved = c.in_ok-moved.ensures in
-    let second : AreMoved arcs f ring.points.now ring.walk.now moved = subst (λ (xs : List BaseArc). AreMoved xs f ring.points.now ring.walk.now moved) c.of-ring.ensures.arcs first in
-    let third : AreMoved arcs f points ring.walk.now moved = subst (λ (ps : List Point). AreMoved arcs f ps ring.walk.now moved) c.of-ring.ensures.points second in
-    let all : AreMoved arcs f points walk moved = subst (λ (w : List Side). AreMoved arcs f points w moved) c.of-ring.ensures.walk third in
+    let second : AreMoved arcs f ring.points.now ring.walk.now moved = subst (λ (xs : List BaseArc). AreMoved xs f ring.points.now ring.walk.now moved) c.in_ok-ring.ensures.arcs first in
+    let third : AreMoved arcs f points ring.walk.now moved = subst (λ (ps : List Point). AreMoved arcs f ps ring.walk.now moved) c.in_ok-ring.ensures.points second in
+    let all : AreMoved arcs f points walk moved = subst (λ (w : List Side). AreMoved arcs f points w moved) c.in_ok-ring.ensures.walk third in
     let made : c.in_ok-made.made ≡ with_faces (told_face arcs f new c.deref.result.now) 0 arcs = c.in_ok-made.ensures in
     let copy : c.in_ok-copied_points.field-0 ≡ points = c.in_ok-copied_points.ensures in
     c.in_ok-push.ensures
