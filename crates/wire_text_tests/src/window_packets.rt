@@ -4,9 +4,7 @@
 use crate::maps::{edge, points};
 use std::alloc::Global;
 use std::test::Fail;
-use tgap_model::{
-    Edge, FaceRow, List, Memory, Mend, Piece, Put, Window, WindowPacket, WindowStep,
-};
+use tgap_model::{Edge, FaceRow, List, Memory, Mend, Piece, Put, Window, WindowPacket, WindowStep};
 use wire_text::window_packet_text;
 
 /// Whether this is the text of a packet of these records, from this step down to 0.
