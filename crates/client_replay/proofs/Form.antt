@@ -1,16 +1,15 @@
 -- A slice has its form after a step is undone, and room for the records that follow.
 use Rattle.std.proofs.Common.{◌≡◌, ◌⊎◌, inl, inr, ℕ, ◌+◌, ◌-◌, ◌^◌, ◌<◌, ◌≤◌, Bool, true, false, ◌&&◌, ◌||◌, cond, nat_lt, List, [], ◌∷◌, ◌++◌, map, filter, length, get_or, All, Contains, Option, Some, None, refl, sym, ap, ap₂, subst, ◌∙◌, sum_by, arith}
-use Rattle.std.specs.Prelude.{⊤, nat_le, ◌==◌, find, flat_map, not}
+use Rattle.std.specs.Prelude.{nat_le, ◌==◌, find, flat_map, not}
 use Rattle.std.specs.List.{list_all, list_any}
 use Rattle.std.specs.Cmp.Derive.{both_true}
 use Rattle.std.proofs.lemmas.Bool.{and_parts, or_parts, leb-true, le-leb, ltb-true, lt-ltb, eqb-true, eqb-false, not-true, or_right, cases_order}
 use Rattle.std.proofs.lemmas.List.Elements.{All-nil, All-cons, All-head, All-tail, All-append, All-filter, All-contains}
 use Rattle.std.proofs.lemmas.List.Sums.{AllPass-from_list_all, list_all-from_AllPass, sum_by-cons, sum_by-append, get_or-le-sum_by}
 use Rattle.std.proofs.lemmas.List.Sorted.{All-permutation}
-use Rattle.lemmas.specs.Sorting.{is_sorted_by, insert_by, sort_by, IsStrictOrderOn}
+use Rattle.lemmas.specs.Sorting.{is_sorted_by, insert_by, sort_by}
 use Rattle.lemmas.proofs.Counts.{sum_by-add}
 use Rattle.lemmas.proofs.Members.{in_head, in_tail}
-use Rattle.lemmas.proofs.Orders.{nat_lt_order, order_by_key}
 use Rattle.lemmas.proofs.Sorting.{sorted_tail, sorted_next, insert_by-permutation, insert_by-is_sorted, filter-is_sorted, All-sort_by, sum_by-sort_by}
 use Rattle.tgap_model.specs.declared.slice.Edge.{Edge}
 use Rattle.tgap_model.specs.declared.slice.FaceRow.{FaceRow}

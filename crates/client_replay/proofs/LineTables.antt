@@ -1,5 +1,5 @@
 -- Edges put in and taken out.
-use Rattle.std.proofs.Common.{◌≡◌, ℕ, Bool, true, false, ◌||◌, cond, nat_cmp, List, [], ◌∷◌, ◌++◌, filter, length, get_or, All, AllPairs, IsPermutation, refl, sym, ap, subst, ◌∙◌, length-append, arith}
+use Rattle.std.proofs.Common.{◌≡◌, ℕ, Bool, true, false, ◌||◌, cond, nat_cmp, List, [], ◌∷◌, ◌++◌, filter, All, refl, sym, ap, ◌∙◌, arith}
 use Rattle.std.specs.Prelude.{◌==◌, not}
 use Rattle.std.specs.List.{list_any}
 use Rattle.std.specs.Ordering.{match_ordering}
@@ -7,22 +7,14 @@ use Rattle.std.specs.declared.cmp.Ordering.{Ordering}
 use Rattle.std.specs.declared.cmp.Ordering.TheVariants.{Less, Equal, Greater}
 use Rattle.std.specs.Map.{lookup}
 use Rattle.std.specs.BTreeMap.{is_at, insert_entry}
-use Rattle.std.proofs.lemmas.Bool.{ne_eqb}
 use Rattle.std.proofs.lemmas.Bool.Decides.{nat_tests}
-use Rattle.std.proofs.Math.ListN.{get_or-append}
-use Rattle.std.proofs.Math.Seq.{get_or-append_seam}
-use Rattle.std.proofs.lemmas.List.Folds.{list_any_none}
 use Rattle.std.proofs.lemmas.List.Elements.{All-cons, All-head, All-tail}
-use Rattle.std.proofs.lemmas.List.Sorted.{IsPermutation-trans, IsPermutation-middle, IsPermutation-append_left}
 use Rattle.lemmas.specs.Sorting.{insert_by}
-use Rattle.lemmas.proofs.Sorting.{insert_by-permutation, AllPairs-permutation}
-use Rattle.tgap_model.specs.declared.slice.Edge.{Edge}
 use Rattle.tgap_model.specs.declared.record.Mend.{Mend}
 use Rattle.tgap_model.specs.Records.{edge_before}
 use Rattle.client_replay.specs.declared.labels.Labels.{Labels}
 use Rattle.client_replay.specs.declared.lines.Line.{Line}
-use Rattle.client_replay.specs.Working.{edge_of, edges_of, DifferInKey}
-use Rattle.client_replay.proofs.Apart.{keys_differ, differ_turned}
+use Rattle.client_replay.specs.Working.{edge_of, edges_of}
 use Rattle.client_replay.proofs.Tables.{any_lookup, inserted}
 use Rattle.client_replay.proofs.FaceRows.{not_some}
 

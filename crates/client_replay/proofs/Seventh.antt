@@ -1,5 +1,5 @@
 -- The last rule, and the edges of the finer slice: those that stay and those that come.
-use Rattle.std.proofs.Common.{◌≡◌, ℕ, ◌+◌, ◌-◌, Bool, true, false, ◌&&◌, nat_lt, List, [], ◌∷◌, ◌++◌, map, get_or, All, AllPairs, IsPermutation, Option, Some, None, refl, sym, ap, ap₂, subst, ◌∙◌, true≢false, append_assoc, arith}
+use Rattle.std.proofs.Common.{◌≡◌, ℕ, ◌+◌, Bool, true, false, ◌&&◌, nat_lt, List, [], ◌∷◌, ◌++◌, map, get_or, All, AllPairs, IsPermutation, Option, Some, None, refl, sym, ap, subst, ◌∙◌, true≢false, append_assoc, arith}
 use Rattle.std.specs.Prelude.{◌==◌, flat_map, not, is_some}
 use Rattle.std.specs.List.{list_all, list_any}
 use Rattle.std.specs.List.Sorted.{IsNonDecreasingBy}
@@ -17,7 +17,7 @@ use Rattle.tgap_model.specs.declared.slice.Slice.{Slice}
 use Rattle.tgap_model.specs.declared.record.StepRecord.{StepRecord}
 use Rattle.tgap_model.specs.declared.record.Mend.{Mend}
 use Rattle.tgap_model.specs.Records.{edge_before, edge_with, has_one_side, fits_mends}
-use Rattle.client_replay.specs.Coming.{lowered, staying, stays}
+use Rattle.client_replay.specs.Coming.{staying, stays}
 use Rattle.client_replay.specs.Rules.{are_in_order, mends_in_order, names_edge}
 use Rattle.client_replay.specs.Working.{DifferInKey}
 use Rattle.client_replay.proofs.Found.{ascend_by, any_found}
@@ -25,7 +25,7 @@ use Rattle.client_replay.proofs.Apart.{edge_order, keys_differ, differ_in_key, d
 use Rattle.client_replay.proofs.Staying.{kept, AreNamed, refined_by, mended_by, refined-permutation, kept_is, kept-is_sorted, key_stays}
 
 -- what holds of two lists holds of the second
-All-back : {A : Type 0} (P : A → Type 0) (xs ys : List A) → All P (xs ++ ys) → All P ys
+pub All-back : {A : Type 0} (P : A → Type 0) (xs ys : List A) → All P (xs ++ ys) → All P ys
 All-back P [] ys h = h
 All-back P (x ∷ xs) ys h = All-back P xs ys (All-tail P x (xs ++ ys) h)
 

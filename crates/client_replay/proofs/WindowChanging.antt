@@ -1,5 +1,5 @@
 -- A record of a window undone on the tables of a slice.
-use Rattle.std.proofs.Common.{◌≡◌, ℕ, ◌-◌, Bool, true, ◌&&◌, nat_lt, nat_cmp, List, ◌++◌, map, filter, AllPairs, IsPermutation, sym, ap, ap₂, subst, ◌∙◌}
+use Rattle.std.proofs.Common.{◌≡◌, ℕ, ◌-◌, Bool, true, ◌&&◌, nat_cmp, List, ◌++◌, map, filter, AllPairs, IsPermutation, sym, ap, ap₂, subst, ◌∙◌}
 use Rattle.std.specs.Prelude.{not}
 use Rattle.std.specs.List.{list_all, list_any}
 use Rattle.std.specs.BTreeSet.{BTreeSet, contains}
@@ -10,7 +10,6 @@ use Rattle.lemmas.proofs.Sorting.{sort_by-permutation}
 use Rattle.tgap_model.specs.declared.geometry.Window.{Window}
 use Rattle.tgap_model.specs.declared.slice.Edge.{Edge}
 use Rattle.tgap_model.specs.declared.slice.FaceRow.{FaceRow}
-use Rattle.tgap_model.specs.declared.slice.Slice.{Slice}
 use Rattle.tgap_model.specs.declared.record.Mend.{Mend}
 use Rattle.tgap_model.specs.declared.record.StepRecord.{StepRecord}
 use Rattle.tgap_model.specs.declared.window_record.WindowStep.{WindowStep}

@@ -1,5 +1,5 @@
 -- The edges of a window one step back: those that stay, the pieces that meet the window, and those that come beside.
-use Rattle.std.proofs.Common.{◌≡◌, ℕ, List, [], ◌∷◌, ◌++◌, filter, flat_map, get_or, Option, Some, None, refl, ap, ap₂, ◌∙◌}
+use Rattle.std.proofs.Common.{◌≡◌, ℕ, List, [], ◌∷◌, ◌++◌, filter, flat_map, get_or, Option, Some, None, refl, ap, ◌∙◌}
 use Rattle.std.specs.Prelude.{Bool, ◌==◌, find}
 use Rattle.std.proofs.lemmas.List.Elements.{filter-append}
 use Rattle.lemmas.specs.Sorting.{sort_by}
@@ -12,7 +12,7 @@ use Rattle.tgap_model.specs.declared.record.Mend.{Mend}
 use Rattle.tgap_model.specs.declared.record.StepRecord.{StepRecord}
 use Rattle.tgap_model.specs.declared.window_record.WindowStep.{WindowStep}
 use Rattle.tgap_model.specs.Slice.{meets_window}
-use Rattle.tgap_model.specs.Records.{edge_before, mend_for, refined, put_in, cut_piece, cut_pieces}
+use Rattle.tgap_model.specs.Records.{edge_before, mend_for, put_in, cut_piece, cut_pieces}
 use Rattle.tgap_model.specs.WindowRecords.{whole_record, refined_in, edges_back}
 use Rattle.client_replay.specs.Coming.{pieces_of, mended, lowered}
 use Rattle.client_replay.specs.Windows.{mending_of, coming_in}

@@ -1,5 +1,5 @@
 -- The rows of a window one step back: those beside one of its edges.
-use Rattle.std.proofs.Common.{◌≡◌, inl, inr, ⊎_elim, ℕ, Bool, true, false, ◌&&◌, ◌||◌, cond, nat_lt, nat_cmp, List, [], ◌∷◌, ◌++◌, map, filter, get_or, All, AllPairs, IsPermutation, refl, sym, ap, ap₂, subst, ◌∙◌, true≢false, ◌<◌, length}
+use Rattle.std.proofs.Common.{◌≡◌, ⊎_elim, ℕ, Bool, true, false, ◌&&◌, ◌||◌, cond, nat_lt, nat_cmp, List, [], ◌∷◌, ◌++◌, map, filter, get_or, All, AllPairs, IsPermutation, refl, sym, ap, ap₂, subst, ◌∙◌, true≢false, ◌<◌, length}
 use Rattle.std.specs.Prelude.{◌==◌, not}
 use Rattle.std.specs.List.{list_all, list_any}
 use Rattle.std.specs.BTreeMap.{is_at}
@@ -59,18 +59,12 @@ itself n = eq-eqb n n refl
 beside_left : (edges : List Edge) → All (λ e. list_any (has_side e.left) edges ≡ true) edges
 beside_left edges k d l =
     let e = get_or edges k d in
-    list_any-from_Any (has_side e.left) edges (k, e, l, same edges k d e l refl, ap (λ (b : Bool). b || (e.right == e.left)) (itself e.left))
-  where
-    same : (xs : List Edge) (k : ℕ) (d e : Edge) → k < length xs → get_or xs k d ≡ e → get_or xs k e ≡ e
-    same xs k d e l h = get_or_default xs k e d l ∙ h
+    list_any-from_Any (has_side e.left) edges (k, e, l, get_or_default edges k e d l, ap (λ (b : Bool). b || (e.right == e.left)) (itself e.left))
 
 beside_right : (edges : List Edge) → All (λ e. list_any (has_side e.right) edges ≡ true) edges
 beside_right edges k d l =
     let e = get_or edges k d in
-    list_any-from_Any (has_side e.right) edges (k, e, l, same edges k d e l refl, or_right (e.left == e.right) (e.right == e.right) (itself e.right))
-  where
-    same : (xs : List Edge) (k : ℕ) (d e : Edge) → k < length xs → get_or xs k d ≡ e → get_or xs k e ≡ e
-    same xs k d e l h = get_or_default xs k e d l ∙ h
+    list_any-from_Any (has_side e.right) edges (k, e, l, get_or_default edges k e d l, or_right (e.left == e.right) (e.right == e.right) (itself e.right))
 
 -- a face beside an edge has a row beside one where it has any
 known_beside : (edges : List Edge) (rows : List FaceRow) (f : ℕ) → list_any (has_side f) edges ≡ true → is_known (rows_beside edges rows) f ≡ is_known rows f

@@ -1,6 +1,6 @@
 -- A window has the form of a slice after a step is undone.
-use Rattle.std.proofs.Common.{◌≡◌, ℕ, ◌+◌, ◌-◌, ◌^◌, ◌<◌, ◌≤◌, Bool, true, false, ◌&&◌, cond, nat_lt, List, [], ◌∷◌, ◌++◌, map, filter, length, get_or, All, AllPairs, Option, Some, None, refl, sym, ap, subst, ◌∙◌, sum_by, arith}
-use Rattle.std.specs.Prelude.{nat_le, ◌==◌, flat_map, not}
+use Rattle.std.proofs.Common.{◌≡◌, ◌-◌, ◌^◌, ◌≤◌, Bool, true, ◌&&◌, List, [], ◌∷◌, ◌++◌, filter, length, get_or, All, Option, Some, None, refl, sym, ap, ◌∙◌, arith}
+use Rattle.std.specs.Prelude.{◌==◌, flat_map, not}
 use Rattle.std.specs.List.{list_all, list_any}
 use Rattle.std.specs.Cmp.Derive.{both_true}
 use Rattle.std.proofs.lemmas.Bool.{and_parts, le-leb, lt-ltb, ltb-true, not-true}
@@ -14,17 +14,16 @@ use Rattle.tgap_model.specs.declared.slice.Edge.{Edge}
 use Rattle.tgap_model.specs.declared.slice.FaceRow.{FaceRow}
 use Rattle.tgap_model.specs.declared.slice.Slice.{Slice}
 use Rattle.tgap_model.specs.declared.record.Mend.{Mend}
-use Rattle.tgap_model.specs.declared.record.StepRecord.{StepRecord}
 use Rattle.tgap_model.specs.declared.window_record.WindowStep.{WindowStep}
 use Rattle.tgap_model.specs.Removals.{has_side}
 use Rattle.tgap_model.specs.Slice.{meets_window}
 use Rattle.tgap_model.specs.Records.{edge_before, face_before, has_face, mend_for, refined}
 use Rattle.tgap_model.specs.WindowRecords.{whole_record, refined_in, edges_back, rows_beside, undo_in, fits_keys_in}
 use Rattle.slice_forms.specs.SliceForms.{is_number, is_slice_row, is_record_row, is_window_step_row, is_face_row, is_edge_row, is_mend_row, segment_count, record_load, replay_load, has_room}
-use Rattle.client_replay.specs.Working.{DifferBy}
 use Rattle.client_replay.proofs.FaceRows.{face_order}
 use Rattle.client_replay.proofs.Form.{slice_parts, slice_from, all_edges, above_zero, edges_few, faces_few, edges_form, load_bound}
 use Rattle.client_replay.proofs.Found.{ascend_by}
+use Rattle.client_replay.proofs.Seventh.{All-back}
 use Rattle.client_replay.proofs.WindowEdges.{kept_by}
 use Rattle.client_replay.proofs.WindowFaces.{rows_apart}
 use Rattle.client_replay.proofs.WindowRules.{KeepsSixIn, ComesFacts, comes_facts}
@@ -77,10 +76,6 @@ filtered_part p edges = record {
 All-front : {A : Type 0} (P : A → Type 0) (xs ys : List A) → All P (xs ++ ys) → All P xs
 All-front P [] ys h = All-nil P
 All-front P (x ∷ xs) ys h = All-cons P x xs (All-head P x (xs ++ ys) h) (All-front P xs ys (All-tail P x (xs ++ ys) h))
-
-All-back : {A : Type 0} (P : A → Type 0) (xs ys : List A) → All P (xs ++ ys) → All P ys
-All-back P [] ys h = h
-All-back P (x ∷ xs) ys h = All-back P xs ys (All-tail P x (xs ++ ys) h)
 
 both_parts : (xs us ys vs : List Edge) → IsPart xs ys → IsPart us vs → IsPart (xs ++ us) (ys ++ vs)
 both_parts xs us ys vs p q = record {

@@ -1,6 +1,6 @@
-//! The client's side of refinement: records of steps are undone on a slice, or refused by the least rule that they break.
-//! It stands on `tgap_model`, whose `Records` says what a record is, what undoing it makes of a slice, and which rules it
-//! keeps where it fits.
+//! The client's side of refinement: records of steps are undone on a slice or on a window of one, or refused by the least
+//! rule that they break. It stands on `tgap_model`, whose `Records` and `WindowRecords` say what a record is, what undoing
+//! it makes of a slice, and which rules it keeps where it fits.
 #![tactic(auto)]
 
 mod boxes;

@@ -11,6 +11,14 @@
 ///    when its puts are made; no piece has another side than the loser or the winner.
 /// 6. The ended edges stand by ascending key, each between loser and winner.
 /// 7. Once the step is undone, no two edges have one key.
+///
+/// Of a record of a window 1, 3, 4, 5 and 7 are the same, and the others are these:
+///
+/// 2. Neither loser nor winner is in the slice. The new face may be missing there. The three are different faces, and 0 is
+///    none of them.
+/// 6. The edges that come stand by ascending key, and the rows of faces by ascending number, none of which is 0 or a face
+///    of the slice.
+/// 8. Once the step is undone, each face beside an edge, but the outside, has a row.
 #[derive(Clone, Copy, PartialEq, Eq)]
 pub struct Unfit {
     pub step: u32,

@@ -1,6 +1,7 @@
-//! Texts that are put out: the borders, the slice and the window of a map after some steps, the packet between two
-//! steps, whole or of a window, the numbers of a map, and why a map is refused; and the slices and packets that are read again from theirs. `Texts` of
-//! `line_forms`, and `SliceTexts` here, say how each is spelled, and `SliceReading` what is read. It stands on `plain_io`, which cuts a text into lines and words, and reads and writes numbers.
+//! Texts that are put out: the borders, the slice and the window of a map after some steps, the packet between two steps,
+//! whole or of a window, the numbers of a map, and why a map is refused; and the slices and packets that are read again from
+//! theirs. `Texts` of `line_forms`, and `SliceTexts` here, say how each is spelled, and `SliceReading` what is read. It
+//! stands on `plain_io`, which cuts a text into lines and words, and reads and writes numbers.
 #![tactic(auto)]
 
 mod answer;

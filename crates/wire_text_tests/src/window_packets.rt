@@ -4,19 +4,17 @@
 use crate::maps::{edge, points};
 use std::alloc::Global;
 use std::test::Fail;
-use tgap_model::{
-    Edge, FaceRow, List, Memory, Mend, Piece, Put, Window, WindowPacket, WindowStep,
-};
+use tgap_model::{Edge, FaceRow, List, Memory, Mend, Piece, Put, Window, WindowPacket, WindowStep};
 use wire_text::window_packet_text;
 
-/// Whether this is the text of a packet of these steps, from the step of their number down to 0.
+/// Whether this is the text of a packet of these records, from this step down to 0.
 fn is_text_of(
     alloc: Global,
+    from: u32,
     steps: List<WindowStep>,
     area: Window,
     text: &str,
 ) -> Result<bool, Memory> {
-    let from = steps.as_slice().len() as u32;
     let packet = WindowPacket {
         from,
         to: 0,
@@ -115,7 +113,7 @@ fn a_mended_edge(rt: HostRuntime) -> Result<(), Fail> {
          piece 0 3 1 0\n\
          piece 1 6 2 0\n\
          end\n";
-    assert!(rt; is_text_of(rt.alloc(), steps, area, text)?);
+    assert!(rt; is_text_of(rt.alloc(), 1, steps, area, text)?);
     Ok(())
 }
 
@@ -147,7 +145,7 @@ fn an_edge_that_comes(rt: HostRuntime) -> Result<(), Fail> {
          face 2 0\n\
          edge 1 2 0 3 6 6 0 12 0 0\n\
          end\n";
-    assert!(rt; is_text_of(rt.alloc(), steps, area, text)?);
+    assert!(rt; is_text_of(rt.alloc(), 1, steps, area, text)?);
     Ok(())
 }
 
@@ -170,7 +168,7 @@ const BELOW_ZERO: Window = Window {
 fn an_empty_window(rt: HostRuntime) -> Result<(), Fail> {
     let steps = of_nothing(rt.alloc())?;
     let text = "window-packet 1 0 -8 -5 -8 -1\nstep 1 1 2 3 0 0 0\nend\n";
-    assert!(rt; is_text_of(rt.alloc(), steps, BELOW_ZERO, text)?);
+    assert!(rt; is_text_of(rt.alloc(), 1, steps, BELOW_ZERO, text)?);
     Ok(())
 }
 
@@ -178,6 +176,6 @@ fn an_empty_window(rt: HostRuntime) -> Result<(), Fail> {
 fn no_step(rt: HostRuntime) -> Result<(), Fail> {
     let steps = List::new(rt.alloc());
     let text = "window-packet 0 0 -8 -5 -8 -1\nend\n";
-    assert!(rt; is_text_of(rt.alloc(), steps, BELOW_ZERO, text)?);
+    assert!(rt; is_text_of(rt.alloc(), 0, steps, BELOW_ZERO, text)?);
     Ok(())
 }

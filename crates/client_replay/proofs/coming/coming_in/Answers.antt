@@ -1,4 +1,4 @@
-use Rattle.std.proofs.Common.{List, IsPermutation, filter, flat_map, subst, ap, ap₂, ◌∙◌, ◌++◌}
+use Rattle.std.proofs.Common.{List, IsPermutation, filter, flat_map, subst, ap, ◌∙◌, ◌++◌}
 use Rattle.tgap_model.specs.declared.slice.Edge.{Edge}
 use Rattle.tgap_model.specs.Slice.{meets_window}
 use Rattle.client_replay.specs.Coming.{mended}

@@ -1,4 +1,4 @@
-use Rattle.std.proofs.Common.{◌≡◌, ◌+◌, ◌++◌, [], List, IsPermutation, drop, get_or, subst, append-nil, ◌∙◌, ap}
+use Rattle.std.proofs.Common.{◌+◌, ◌++◌, List, IsPermutation, drop, get_or, subst, append-nil, ◌∙◌, ap}
 use Rattle.std.proofs.lemmas.List.{drop_all}
 use Rattle.std.proofs.lemmas.List.Sorted.{IsPermutation-refl}
 use Rattle.tgap_model.specs.declared.slice.FaceRow.{FaceRow}

@@ -1,4 +1,4 @@
-use Rattle.std.proofs.Common.{◌≡◌, ℕ, Bool, true, false, ◌++◌, cond, List, map, nat_lt, AllPairs, IsPermutation, Some, None, Option, sym, ap, ap₂, subst, ◌∙◌}
+use Rattle.std.proofs.Common.{ℕ, Bool, true, false, ◌++◌, cond, List, map, nat_lt, AllPairs, IsPermutation, Some, None, Option, sym, ap, ap₂, subst, ◌∙◌}
 use Rattle.lemmas.specs.Sorting.{is_sorted_by}
 use Rattle.tgap_model.specs.declared.slice.Edge.{Edge}
 use Rattle.tgap_model.specs.declared.slice.FaceRow.{FaceRow}
