@@ -95,10 +95,7 @@ fn push_window_step(numbers: &mut Vec<i128>, step: &WindowStep) -> Result<(), Al
 }
 
 /// All numbers of a packet of a window, in the order of its text.
-pub fn window_numbers_of(
-    alloc: Global,
-    packet: &WindowPacket,
-) -> Result<Vec<i128>, AllocError> {
+pub fn window_numbers_of(alloc: Global, packet: &WindowPacket) -> Result<Vec<i128>, AllocError> {
     let area = &packet.area;
     let mut numbers = Vec::new(alloc);
     numbers.extend_from_slice(&[i128::from(packet.from), i128::from(packet.to)])?;
