@@ -1,6 +1,6 @@
 -- The edges of a window by their keys.
-use Rattle.std.proofs.Common.{◌≡◌, inl, inr, ℕ, ◌==◌, Bool, true, false, cond, List, [], ◌∷◌, map, filter, Option, Some, None, eq-eqb, refl, sym, ap, ◌∙◌}
-use Rattle.std.specs.Prelude.{flat_map, find}
+use Rattle.std.proofs.Common.{◌≡◌, inl, inr, ℕ, ◌==◌, Bool, true, false, cond, List, map, filter, Option, Some, None, eq-eqb, refl, sym, ap, ◌∙◌}
+use Rattle.std.specs.Prelude.{find}
 use Rattle.std.specs.Option.{option_to_list}
 use Rattle.std.proofs.lemmas.Bool.{eqb-true, false_from_ne_true, true≢false}
 use Rattle.tgap_model.specs.declared.geometry.Window.{Window}

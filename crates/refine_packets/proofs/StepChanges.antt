@@ -1,14 +1,11 @@
 -- What the mends of a step change in a window, chain by chain.
-use Rattle.std.proofs.Common.{◌≡◌, ◌≢◌, inl, inr, ℕ, ◌+◌, ◌-◌, ◌≤◌, ◌==◌, Bool, true, false, not, nat_lt, cond, List, [], ◌∷◌, ◌++◌, map, filter, fold, length, sum_by, AllPairs, IsPermutation, Option, Some, None, refl, sym, ap, ap₂, ◌∙◌, subst, arith}
-use Rattle.std.specs.Prelude.{flat_map, find}
-use Rattle.std.specs.List.{list_any}
-use Rattle.std.specs.List.Sorted.{IsNonDecreasingBy}
+use Rattle.std.proofs.Common.{◌≡◌, inl, inr, ℕ, ◌-◌, ◌≤◌, ◌==◌, Bool, true, false, not, cond, List, [], ◌∷◌, ◌++◌, map, filter, fold, length, IsPermutation, Option, Some, None, refl, sym, ap, ap₂, ◌∙◌, subst}
+use Rattle.std.specs.Prelude.{flat_map}
 use Rattle.std.specs.Option.{is_some, option_to_list}
 use Rattle.std.proofs.lemmas.List.{append_assoc, append-nil}
 use Rattle.std.proofs.lemmas.List.Elements.{filter-append}
 use Rattle.std.proofs.lemmas.List.Folds.{flat_map-map}
-use Rattle.std.proofs.lemmas.List.Sorted.{IsPermutation-sym, IsPermutation-trans}
-use Rattle.lemmas.specs.Sorting.{sort_by, is_sorted_by}
+use Rattle.lemmas.specs.Sorting.{sort_by}
 use Rattle.lemmas.proofs.Permutations.{IsPermutation-filter}
 use Rattle.lemmas.proofs.Sorting.{sort_by-permutation}
 use Rattle.tgap_model.specs.declared.geometry.Window.{Window}
@@ -25,7 +22,7 @@ use Rattle.tgap_model.specs.Merged.{MergedMap, merged, step_number}
 use Rattle.tgap_model.specs.Chains.{Chain, key, chains_at}
 use Rattle.tgap_model.specs.Removals.{edge_of, removals_to}
 use Rattle.tgap_model.specs.Slice.{meets_window, window_of, slice}
-use Rattle.tgap_model.specs.Records.{runs, step_record, put_in, in_place_of, cut_pieces, mend_for, refined, edge_before, edge_with}
+use Rattle.tgap_model.specs.Records.{runs, step_record, put_in, in_place_of, cut_pieces, refined, edge_before, edge_with}
 use Rattle.tgap_model.specs.WindowRecords.{window_at, has_key, window_step}
 use Rattle.map_laws.proofs.ChainMembers.{Among}
 use Rattle.map_laws.proofs.Lists.{members_all}
@@ -82,11 +79,11 @@ module _ (there before : Slice) where
       by : (o : Option Edge)
           → ((d : Changes) → fold (with_mend there before) d ws ≡ record { mends = d.mends ++ mends_of ws; gone = d.gone ++ gone_of ws; kept = d.kept ++ kept_of ws; comes = d.comes ++ come_of ws })
           → fold (with_mend there before) (one o) ws ≡ record {
-        mends = c.mends ++ (of (λ e. w ∷ []) [] o ++ mends_of ws);
-        gone = c.gone ++ (of (λ e. e ∷ []) [] o ++ gone_of ws);
-        kept = c.kept ++ (of (λ e. pieces_in before w.pieces) [] o ++ kept_of ws);
-        comes = c.comes ++ (of (λ e. []) (pieces_in before w.pieces) o ++ come_of ws);
-      }
+            mends = c.mends ++ (of (λ e. w ∷ []) [] o ++ mends_of ws);
+            gone = c.gone ++ (of (λ e. e ∷ []) [] o ++ gone_of ws);
+            kept = c.kept ++ (of (λ e. pieces_in before w.pieces) [] o ++ kept_of ws);
+            comes = c.comes ++ (of (λ e. []) (pieces_in before w.pieces) o ++ come_of ws);
+          }
       by None rest =
           rest (one None)
           ∙ ap (λ (es : List Edge). record { mends = c.mends ++ mends_of ws; gone = c.gone ++ gone_of ws; kept = c.kept ++ kept_of ws; comes = es })

@@ -1,14 +1,12 @@
 -- How many sides of the edges of a window each face is, before a step and after it.
-use Rattle.std.proofs.Common.{◌≡◌, ◌≢◌, inl, inr, ℕ, ◌+◌, ◌-◌, ◌*◌, ◌^◌, ◌<◌, ◌≤◌, ◌==◌, ◌||◌, Bool, true, false, not, nat_lt, cond, List, [], ◌∷◌, ◌++◌, map, filter, length, sum_by, All, IsPermutation, eq-eqb, ne_eqb, refl, sym, ap, ap₂, ◌∙◌, subst, arith}
+use Rattle.std.proofs.Common.{◌≡◌, ◌≢◌, inl, inr, ℕ, ◌+◌, ◌-◌, ◌*◌, ◌^◌, ◌<◌, ◌≤◌, ◌==◌, ◌||◌, Bool, true, false, not, cond, List, [], ◌∷◌, ◌++◌, map, filter, length, sum_by, eq-eqb, ne_eqb, refl, sym, ap, ap₂, ◌∙◌, subst, arith}
 use Rattle.std.specs.Prelude.{flat_map}
 use Rattle.std.specs.List.{list_any}
-use Rattle.std.proofs.lemmas.Bool.{cases_eq, eqb-true, eqb-false, or_left, or_right, or_cases, true≢false}
-use Rattle.std.proofs.lemmas.List.{length-map}
+use Rattle.std.proofs.lemmas.Bool.{eqb-true, eqb-false, or_left, or_right, or_cases, true≢false}
 use Rattle.std.proofs.lemmas.List.Sums.{sum_by-append, sum_by-cons}
 use Rattle.std.proofs.lemmas.List.Sorted.{sum_by-IsPermutation}
 use Rattle.std.proofs.lemmas.List.Filters.{length-filter_both}
 use Rattle.tgap_model.specs.declared.geometry.Window.{Window}
-use Rattle.tgap_model.specs.declared.limits.TheConstants.{MAX_ARCS}
 use Rattle.tgap_model.specs.declared.merge.MergeStep.{MergeStep}
 use Rattle.tgap_model.specs.declared.slice.Edge.{Edge}
 use Rattle.tgap_model.specs.declared.slice.Slice.{Slice}
@@ -16,20 +14,19 @@ use Rattle.tgap_model.specs.declared.record.StepRecord.{StepRecord}
 use Rattle.tgap_model.specs.Base.{BaseMap, is_base}
 use Rattle.tgap_model.specs.Partition.{IsPartition, base_segments}
 use Rattle.tgap_model.specs.History.{history_of}
-use Rattle.tgap_model.specs.Merged.{MergedMap, merged, label_at, step_number, is_live, live_faces}
+use Rattle.tgap_model.specs.Merged.{MergedMap, merged, step_number, is_live}
 use Rattle.tgap_model.specs.Chains.{Chain, arc_number, key, chains_at}
 use Rattle.tgap_model.specs.Removals.{edge_of, has_side, removals_to}
 use Rattle.tgap_model.specs.Slice.{meets_window, window_of, slice}
 use Rattle.tgap_model.specs.Records.{step_record, in_place_of, refined}
 use Rattle.tgap_model.specs.WindowRecords.{window_at, window_step}
-use Rattle.map_laws.proofs.ChainMembers.{Among, any_among, filter_among}
-use Rattle.map_laws.proofs.Lists.{all_members, any_from, among_map}
+use Rattle.map_laws.proofs.ChainMembers.{Among, filter_among}
+use Rattle.map_laws.proofs.Lists.{all_members, among_map}
 use Rattle.map_laws.proofs.MergeSteps.{label_bounded}
 use Rattle.face_merge.proofs.Start.{history_numbered}
 use Rattle.record_laws.proofs.FaceRows.{winner_gone}
 use Rattle.record_laws.proofs.Refined.{needs_mend}
 use Rattle.record_laws.proofs.StepFacts.{few, step_numbered}
-use Rattle.slice_read.specs.Ends.{LeaveNodes}
 use Rattle.slice_read.proofs.EdgesLeaveNodes.{leave_nodes}
 use Rattle.slice_read.proofs.WindowFaces.{side_live}
 use Rattle.tgap_build.proofs.Sides.{arc_sides}
@@ -107,9 +104,10 @@ module _ (m : BaseMap) (base : is_base m ≡ true) (i : ℕ) (within : i ≤ len
   sides_small e o =
       let c = chain_there (merged m) area i e o in
       let faces = arc_sides m base (key c.0) in
-      subst (λ (x : Edge). (x.left ≤ length m.classes + i) × (x.right ≤ length m.classes + i)) c.2
-      (label_bounded (length m.classes) (history_of m) i (arc_number m.arcs (key c.0)).left (history_numbered m base) within faces.0,
-      label_bounded (length m.classes) (history_of m) i (arc_number m.arcs (key c.0)).right (history_numbered m base) within faces.1)
+      subst (λ (x : Edge). (x.left ≤ length m.classes + i) × (x.right ≤ length m.classes + i)) c.2 (
+        label_bounded (length m.classes) (history_of m) i (arc_number m.arcs (key c.0)).left (history_numbered m base) within faces.0,
+        label_bounded (length m.classes) (history_of m) i (arc_number m.arcs (key c.0)).right (history_numbered m base) within faces.1,
+      )
 
   pub sides_counted : (edges : List Edge) → ((e : Edge) → Among e edges → Among e (window_at (merged m) area i).edges)
       → AreCounted (length m.classes + length (history_of m) + 1) edges
@@ -177,9 +175,10 @@ module _ (m : BaseMap) (base : is_base m ≡ true) (planar : IsPartition (base_s
 
   -- no edge after the step has the winner at a side
   not_winner : (c : Chain) → Among c cs → ((edge_here c).left ≢ s.winner) × ((edge_here c).right ≢ s.winner)
-  not_winner c n =
-      (λ e. none (or_left ((edge_here c).left == s.winner) _ (eq-eqb _ _ e)),
-      λ e. none (or_right ((edge_here c).left == s.winner) _ (eq-eqb _ _ e)))
+  not_winner c n = (
+    λ e. none (or_left ((edge_here c).left == s.winner) _ (eq-eqb _ _ e)),
+    λ e. none (or_right ((edge_here c).left == s.winner) _ (eq-eqb _ _ e)),
+  )
     where
       gone_there : is_live h j s.winner ≡ false
       gone_there = subst (λ (i : ℕ). is_live h i (step_number h i).winner ≡ false) (omega (arith, one)) (winner_gone m base k (few m base planar j one last))

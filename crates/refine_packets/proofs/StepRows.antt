@@ -1,6 +1,5 @@
 -- The rows of the faces that a window gets anew by a step.
-use Rattle.std.proofs.Common.{◌≡◌, ◌≢◌, inl, inr, ℕ, ◌+◌, ◌-◌, ◌<◌, ◌≤◌, ◌==◌, ◌&&◌, ◌||◌, Bool, true, false, not, nat_lt, nat_eq, List, [], ◌∷◌, ◌++◌, map, filter, length, All, Contains, IsPermutation, eq-eqb, refl, sym, ap, ap₂, ◌∙◌, subst, arith}
-use Rattle.std.specs.Prelude.{flat_map}
+use Rattle.std.proofs.Common.{◌≡◌, ◌≢◌, inl, inr, ℕ, ◌+◌, ◌-◌, ◌<◌, ◌≤◌, ◌==◌, ◌&&◌, ◌||◌, Bool, true, false, not, nat_lt, nat_eq, List, [], ◌∷◌, map, filter, length, Contains, IsPermutation, eq-eqb, refl, sym, ap, ◌∙◌, arith}
 use Rattle.std.specs.List.{dedup, list_any, range_with_len}
 use Rattle.std.specs.List.Sorted.{IsSorted}
 use Rattle.std.specs.Ordering.{nat_cmp}
@@ -28,7 +27,7 @@ use Rattle.tgap_model.specs.Slice.{face_row, meets_window, window_of}
 use Rattle.tgap_model.specs.Records.{has_face}
 use Rattle.tgap_model.specs.WindowRecords.{window_at, window_step}
 use Rattle.map_laws.proofs.ChainMembers.{Among, any_among, all_among, filter_among}
-use Rattle.map_laws.proofs.Lists.{any_from, kept_among, among_kept, map_among, among_map, among_flat, among_range}
+use Rattle.map_laws.proofs.Lists.{any_from, kept_among, among_kept, among_map, among_flat, among_range}
 use Rattle.removal_laws.proofs.ChainEnds.{contained, among_contained}
 use Rattle.grid_index.proofs.Ordering.{map-filter}
 use Rattle.face_tree.specs.Tree.{FaceHistory, IsFace, face_history}
@@ -36,7 +35,7 @@ use Rattle.slice_read.specs.Windows.{all_sides, row_of, sides_of}
 use Rattle.slice_read.proofs.WindowFaces.{side_live, sides_are_faces}
 use Rattle.window_laws.proofs.Filters.{filter_twice}
 use Rattle.window_laws.proofs.NewFaces.{window_faces_come_with_edges}
-use Rattle.refine_packets.specs.Counts.{AreCounts, AreOut, count_at, is_out, sides_at}
+use Rattle.refine_packets.specs.Counts.{AreCounts, AreOut, count_at, is_out}
 use Rattle.refine_packets.proofs.StepCounts.{beside_counts, counted_beside}
 
 -- ---- sorted, once each, and filtered

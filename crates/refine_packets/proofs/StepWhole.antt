@@ -1,5 +1,5 @@
 -- The record of a step for a window, and the counts before the step, out of what was found.
-use Rattle.std.proofs.Common.{◌≡◌, ◌≢◌, ℕ, ◌+◌, ◌-◌, ◌^◌, ◌<◌, ◌≤◌, Bool, true, nat_lt, List, ◌∷◌, ◌++◌, map, filter, length, get_or, AllPairs, Contains, IsPermutation, refl, sym, ap, ap₂, ◌∙◌, subst, arith}
+use Rattle.std.proofs.Common.{◌≡◌, ◌≢◌, ℕ, ◌+◌, ◌-◌, ◌^◌, ◌<◌, ◌≤◌, true, nat_lt, List, ◌∷◌, ◌++◌, map, filter, length, get_or, AllPairs, Contains, IsPermutation, sym, ap, ap₂, ◌∙◌, subst, arith}
 use Rattle.std.specs.List.Sorted.{IsNonDecreasingBy}
 use Rattle.std.proofs.lemmas.List.Kept.{AllPairs-filter}
 use Rattle.std.proofs.lemmas.List.Sorted.{IsPermutation-sym, IsPermutation-trans}
@@ -10,7 +10,6 @@ use Rattle.tgap_model.specs.declared.slice.FaceRow.{FaceRow}
 use Rattle.tgap_model.specs.declared.slice.Slice.{Slice}
 use Rattle.tgap_model.specs.declared.record.Mend.{Mend}
 use Rattle.tgap_model.specs.declared.record.StepRecord.{StepRecord}
-use Rattle.tgap_model.specs.declared.window_record.WindowStep.{WindowStep}
 use Rattle.tgap_model.specs.Base.{BaseMap, is_base}
 use Rattle.tgap_model.specs.Partition.{IsPartition, base_segments}
 use Rattle.tgap_model.specs.History.{history_of}
@@ -19,7 +18,7 @@ use Rattle.tgap_model.specs.Chains.{chains_at}
 use Rattle.tgap_model.specs.Removals.{edges_of, removals_to}
 use Rattle.tgap_model.specs.Slice.{meets_window, window_of}
 use Rattle.tgap_model.specs.Records.{step_record}
-use Rattle.tgap_model.specs.WindowRecords.{window_at, has_key, is_coming, window_step}
+use Rattle.tgap_model.specs.WindowRecords.{window_at, is_coming, window_step}
 use Rattle.map_laws.proofs.ChainMembers.{Among}
 use Rattle.map_laws.proofs.Lists.{kept_among}
 use Rattle.record_laws.proofs.StepFacts.{step_numbered}
@@ -32,9 +31,7 @@ use Rattle.refine_packets.specs.declared.changes.Changes.{Changes}
 use Rattle.refine_packets.specs.declared.near.NearEdges.{NearEdges}
 use Rattle.refine_packets.specs.Counts.{AreCounted, AreCounts, AreOut, count_at, read_for, sides_at}
 use Rattle.refine_packets.specs.Near.{IsSight}
-use Rattle.refine_packets.specs.Walk.{pieces_in, changes_by}
-use Rattle.refine_packets.proofs.InWindow.{chain_there, piece_there}
-use Rattle.refine_packets.proofs.Lists.{among_given}
+use Rattle.refine_packets.specs.Walk.{changes_by}
 use Rattle.refine_packets.proofs.StepChanges.{mends_of, gone_of, kept_of, come_of, changes_are, mends_there, comes_permuted, gone_among, kept_among_before}
 use Rattle.refine_packets.proofs.StepCounts.{sides_counted, counts_small, counts_before}
 use Rattle.refine_packets.proofs.StepRows.{counted_face, out_face, rows_are}
@@ -190,5 +187,12 @@ module _ (f : EdgeForest) (t : FaceHistory) (n : NearEdges) (sight : IsSight f t
       step_is rows rows_of =
           ap₂ (λ (w : StepRecord) (rs : List FaceRow). record { step = j; loser = w.loser; winner = w.winner; made = w.made; faces = rs; mends = changes.mends; comes = comes })
           is (rows_of ∙ rows_are m base planar j some last area counts after out are left found_for t sight.tree)
-          ∙ ap₂ (λ (ms : List Mend) (es : List Edge). record { step = j; loser = (step_number h j).loser; winner = (step_number h j).winner; made = (step_number h j).made;
-            faces = (window_step h area j).faces; mends = ms; comes = es }) mends_are comes_are
+          ∙ ap₂ (λ (ms : List Mend) (es : List Edge). record {
+            step = j;
+            loser = (step_number h j).loser;
+            winner = (step_number h j).winner;
+            made = (step_number h j).made;
+            faces = (window_step h area j).faces;
+            mends = ms;
+            comes = es;
+          }) mends_are comes_are

@@ -1,8 +1,7 @@
 -- The records of a window for steps from one step down, and what holds of them.
-use Rattle.std.proofs.Common.{◌≡◌, ◌<◌, ◌≤◌, ℕ, zero, suc, ◌+◌, ◌-◌, Bool, true, cond, nat_le, List, [], ◌∷◌, ◌++◌, length, sym, ap, ap₂, ◌∙◌, subst, arith}
+use Rattle.std.proofs.Common.{◌≡◌, ◌<◌, ◌≤◌, ℕ, zero, suc, ◌+◌, ◌-◌, Bool, true, cond, nat_le, List, [], ◌∷◌, ◌++◌, length, sym, ap, ap₂, ◌∙◌, arith}
 use Rattle.std.proofs.lemmas.Bool.{and_from, le-leb}
 use Rattle.tgap_model.specs.declared.geometry.Window.{Window}
-use Rattle.tgap_model.specs.declared.slice.Slice.{Slice}
 use Rattle.tgap_model.specs.declared.window_record.WindowStep.{WindowStep}
 use Rattle.tgap_model.specs.declared.window_record.WindowPacket.{WindowPacket}
 use Rattle.tgap_model.specs.Base.{BaseMap, is_base}

@@ -1,5 +1,5 @@
 -- How many sides of edges each face is.
-use Rattle.std.specs.Prelude.{◌≡◌, ◌<◌, ◌↔◌, ℕ, ◌+◌, ◌==◌, Bool, true, ◌&&◌, not, List, length, get_or, All, Contains, if◌then◌else◌}
+use Rattle.std.specs.Prelude.{◌≡◌, ◌<◌, ℕ, ◌+◌, ◌==◌, Bool, true, ◌&&◌, not, List, get_or, All, Contains, if◌then◌else◌}
 use Rattle.std.specs.List.{sum_by}
 use Rattle.std.specs.List.Sorted.{IsStrictlyIncreasing}
 use Rattle.tgap_model.specs.declared.slice.Edge.{Edge}

@@ -1,9 +1,9 @@
 -- Which edges of the forest may be in a window, whatever the step: those whose box of all points meets it.
-use Rattle.std.specs.Prelude.{◌≡◌, ◌<◌, ◌≤◌, ℕ, ◌+◌, ◌*◌, ◌^◌, Bool, true, nat_lt, List, map, filter, length, IsPermutation, Option, Some, None, if◌then◌else◌}
+use Rattle.std.specs.Prelude.{◌≡◌, ◌<◌, ℕ, ◌+◌, ◌*◌, ◌^◌, Bool, true, nat_lt, List, map, filter, length, IsPermutation, Option, Some, None, if◌then◌else◌}
 use Rattle.std.specs.List.Sorted.{IsNonDecreasingBy}
 use Rattle.tgap_model.specs.declared.geometry.Window.{Window}
 use Rattle.tgap_model.specs.declared.slice.Edge.{Edge}
-use Rattle.tgap_model.specs.Merged.{MergedMap, merged}
+use Rattle.tgap_model.specs.Merged.{merged}
 use Rattle.tgap_model.specs.Slice.{meets_window}
 use Rattle.grid_index.specs.Boxes.{meets}
 use Rattle.grid_index.specs.Near.{near_boxes}

@@ -23,12 +23,7 @@ fn push_sides(faces: &mut Vec<u32>, edges: &[Edge]) -> Result<(), Memory>
 }
 
 /// The loser, the winner and the faces at the sides of these edges.
-fn all_beside(
-    alloc: Global,
-    loser: u32,
-    winner: u32,
-    edges: &[Edge],
-) -> Result<Vec<u32>, Memory>
+fn all_beside(alloc: Global, loser: u32, winner: u32, edges: &[Edge]) -> Result<Vec<u32>, Memory>
     ensures { IfOk result (λ faces. faces.items ≡ loser ∷ winner ∷ all_sides edges.now) }
 {
     let mut faces = Vec::from_slice(alloc, &[loser, winner])?;

@@ -74,13 +74,7 @@ pub fn window_step(
         comes: pieces,
     } = changes;
     let comes = all_coming(alloc, &near.area, pieces, whole.ended.as_slice())?;
-    let out = faces_out(
-        alloc,
-        counts,
-        whole.loser,
-        whole.winner,
-        comes.as_slice(),
-    )?;
+    let out = faces_out(alloc, counts, whole.loser, whole.winner, comes.as_slice())?;
     recount(
         counts,
         whole.made,

@@ -1,4 +1,4 @@
-//! Four squares round one node, each 10 wide and 10 high.
+//! Four squares round one node, each 10 wide and 10 high; two of them side by side; and two triangles that make one ring.
 
 use base_check::check;
 use std::alloc::Global;
@@ -18,6 +18,18 @@ pub const FOUR_SQUARES: [Row; 8] = [
     (2, 4, &[(20, 10), (10, 10)]),
     (4, 3, &[(10, 20), (10, 10)]),
     (3, 1, &[(0, 10), (10, 10)]),
+];
+
+pub const TWO_SQUARES: [Row; 3] = [
+    (1, 0, &[(10, 10), (0, 10), (0, 0), (10, 0)]),
+    (2, 0, &[(10, 0), (20, 0), (20, 10), (10, 10)]),
+    (1, 2, &[(10, 0), (10, 10)]),
+];
+
+pub const TWO_TRIANGLES: [Row; 3] = [
+    (1, 0, &[(0, 0), (12, 0), (6, 6)]),
+    (2, 0, &[(6, 6), (0, 12), (0, 0)]),
+    (2, 1, &[(0, 0), (6, 6)]),
 ];
 
 /// The points with these coordinates.

@@ -1,7 +1,7 @@
-//! The numbers of a packet, in a row.
+//! The numbers of a packet, in a row, of whole slices or of a window.
 
 use std::alloc::{AllocError, Global};
-use tgap_model::{Edge, Mend, Packet, StepRecord};
+use tgap_model::{Edge, Mend, Packet, StepRecord, WindowPacket, WindowStep};
 
 /// Puts the numbers of a mend at the end: its key, the numbers of its puts and its pieces, the puts and the pieces.
 fn push_mend(numbers: &mut Vec<i128>, mend: &Mend) -> Result<(), AllocError> {
@@ -67,6 +67,42 @@ pub fn numbers_of(alloc: Global, packet: &Packet) -> Result<Vec<i128>, AllocErro
     numbers.extend_from_slice(&[i128::from(packet.from), i128::from(packet.to)])?;
     for step in packet.steps.as_slice() {
         push_record(&mut numbers, step)?;
+    }
+    Ok(numbers)
+}
+
+/// Puts the numbers of a record of a window at the end: those of its head, its faces, its mends and the edges that come.
+fn push_window_step(numbers: &mut Vec<i128>, step: &WindowStep) -> Result<(), AllocError> {
+    numbers.extend_from_slice(&[
+        i128::from(step.step),
+        i128::from(step.loser),
+        i128::from(step.winner),
+        i128::from(step.made),
+        step.faces.len() as i128,
+        step.mends.len() as i128,
+        step.comes.len() as i128,
+    ])?;
+    for row in step.faces.as_slice() {
+        numbers.extend_from_slice(&[i128::from(row.face), i128::from(row.class)])?;
+    }
+    for mend in step.mends.as_slice() {
+        push_mend(numbers, mend)?;
+    }
+    for edge in step.comes.as_slice() {
+        push_edge(numbers, edge)?;
+    }
+    Ok(())
+}
+
+/// All numbers of a packet of a window, in the order of its text.
+pub fn window_numbers_of(alloc: Global, packet: &WindowPacket) -> Result<Vec<i128>, AllocError> {
+    let area = &packet.area;
+    let mut numbers = Vec::new(alloc);
+    numbers.extend_from_slice(&[i128::from(packet.from), i128::from(packet.to)])?;
+    numbers.extend_from_slice(&[i128::from(area.x0), i128::from(area.y0)])?;
+    numbers.extend_from_slice(&[i128::from(area.x1), i128::from(area.y1)])?;
+    for step in packet.steps.as_slice() {
+        push_window_step(&mut numbers, step)?;
     }
     Ok(numbers)
 }

@@ -1,5 +1,5 @@
 -- The counts stay below those with all edges.
-use Rattle.std.proofs.Common.{◌≡◌, arith}
+use Rattle.std.proofs.Common.{arith}
 use Rattle.refine_packets.proofs.CountLists.{one_self, sides_next}
 use Rattle.refine_packets.proofs.counts.add_sides.Goals as goal
 

@@ -1,5 +1,5 @@
 -- The faces are sorted, stand there once, and those that are not counted are left.
-use Rattle.std.proofs.Common.{rules, ◌≡◌, ℕ, nat_eq, List, ◌∷◌, IsPermutation, subst}
+use Rattle.std.proofs.Common.{rules, ℕ, nat_eq, List, ◌∷◌, IsPermutation, subst}
 use Rattle.std.proofs.lemmas.List.Filters.{dedup_is}
 use Rattle.std.proofs.lemmas.Fn.{filter_same}
 use Rattle.slice_read.specs.Windows.{all_sides}

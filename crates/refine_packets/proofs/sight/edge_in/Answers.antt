@@ -1,5 +1,5 @@
 -- The edge that is found is the one of the window; where none is found there is none.
-use Rattle.std.proofs.Common.{◌≡◌, ℕ, Option, sym, ap, ◌∙◌, subst}
+use Rattle.std.proofs.Common.{◌≡◌, ℕ, Option, sym, ◌∙◌, subst}
 use Rattle.std.proofs.lemmas.Result.{IfOk-weaker}
 use Rattle.tgap_model.specs.Merged.{merged}
 use Rattle.tgap_model.specs.Records.{edge_with}

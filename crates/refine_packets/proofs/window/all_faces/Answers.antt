@@ -1,5 +1,5 @@
 -- There are few faces and steps.
-use Rattle.std.proofs.Common.{ℕ, length, List, ap, ◌∙◌, arith}
+use Rattle.std.proofs.Common.{length, ap, arith}
 use Rattle.tgap_model.specs.Base.{BaseMap}
 use Rattle.tgap_model.proofs.BaseFacts.{base_facts}
 use Rattle.refine_packets.proofs.window.all_faces.Goals as goal

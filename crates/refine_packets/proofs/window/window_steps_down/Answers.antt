@@ -18,12 +18,11 @@ loop-i-preserved c =
     let step = c.record_of-record.result.now.step in
     let same : c.forest-forest.result.now.base ≡ m = ap (λ (f : EdgeForest). f.base) c.forest-forest.ensures ∙ c.boxed-boxed.ensures.base in
     let number : step ≡ c.args.from - i = ap (λ (r : StepRecord). r.step) c.record_of-record.ensures in
-    let next : step - 1 ≡ c.args.from - (i + 1) = omega (arith, number) in
-    (
+    let next : step - 1 ≡ c.args.from - (i + 1) = omega (arith, number) in (
       c.in_ok-push.ensures
-      ∙ ap₂ (λ (rs : List WindowStep) (r : WindowStep). rs ++ r ∷ []) c.loop-i.invariant.0
-      (c.in_ok-window_step.ensures.exact ∙ ap₂ (λ (b : BaseMap) (j : ℕ). window_step (merged b) area j) same number)
-      ∙ one_more_in (merged m) area c.args.from i (omega (arith, c.loop-i-test.true)) (omega (arith, c.requires.within)),
+          ∙ ap₂ (λ (rs : List WindowStep) (r : WindowStep). rs ++ r ∷ []) c.loop-i.invariant.0
+          (c.in_ok-window_step.ensures.exact ∙ ap₂ (λ (b : BaseMap) (j : ℕ). window_step (merged b) area j) same number)
+          ∙ one_more_in (merged m) area c.args.from i (omega (arith, c.loop-i-test.true)) (omega (arith, c.requires.within)),
       c.in_ok-window_step.ensures.long ∙ c.loop-i.invariant.1,
       λ f. c.in_ok-window_step.ensures.counts f ∙ ap₂ (λ (b : BaseMap) (j : ℕ). sides_at f (window_at (merged b) area j).edges) same next,
     )

@@ -1,5 +1,4 @@
 use Rattle.std.proofs.Common.{◌≡◌, ◌+◌, ◌-◌, length}
-use Rattle.tgap_model.specs.Base.{BaseMap}
 use Rattle.tgap_model.specs.History.{history_of}
 use Rattle.tgap_model.specs.Merged.{merged}
 use Rattle.tgap_model.specs.WindowRecords.{window_at, window_steps_down}

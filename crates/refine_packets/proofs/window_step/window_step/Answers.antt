@@ -1,7 +1,6 @@
 -- Out of what was found comes the record, and the counts are those before the step.
-use Rattle.std.proofs.Common.{◌≡◌, ◌<◌, ◌-◌, ℕ, nat_lt, List, ◌∷◌, ◌++◌, map, filter, length, Contains, IsPermutation, sym, ap, ◌∙◌, subst, subst₂}
+use Rattle.std.proofs.Common.{◌≡◌, ◌<◌, ◌-◌, ℕ, nat_lt, List, ◌∷◌, ◌++◌, map, filter, Contains, IsPermutation, sym, ap, ◌∙◌, subst, subst₂}
 use Rattle.tgap_model.specs.declared.slice.Edge.{Edge}
-use Rattle.tgap_model.specs.declared.slice.FaceRow.{FaceRow}
 use Rattle.tgap_model.specs.declared.record.Mend.{Mend}
 use Rattle.tgap_model.specs.Merged.{merged}
 use Rattle.tgap_model.specs.Slice.{meets_window}

@@ -1,14 +1,13 @@
 -- The last entry whose place is not after the wanted one is that of the edge, if any is.
-use Rattle.std.proofs.Common.{rules, ◌≡◌, ◌≢◌, ◌<◌, ◌≤◌, ℕ, ◌-◌, true, false, nat_le, List, length, get_or, sym, ap, ◌∙◌, subst, subst₂, true≢false, arith}
+use Rattle.std.proofs.Common.{rules, ◌≡◌, ◌<◌, ℕ, ◌-◌, true, false, nat_le, List, length, get_or, sym, ap, ◌∙◌, subst, subst₂, true≢false, arith}
 use Rattle.std.specs.List.Sorted.{IsPartitionPoint, IsNonDecreasingBy}
 use Rattle.std.proofs.lemmas.List.Elements.{All-contains}
 use Rattle.std.proofs.lemmas.List.Sorted.{IsPartitionedBy-leb, IsPartitionPoint-from_clause}
 use Rattle.edge_forest.specs.declared.edge.ForestEdge.{ForestEdge}
-use Rattle.edge_forest.specs.Edges.{edge_at, is_alive}
 use Rattle.edge_forest.specs.Forest.{EdgeForest}
 use Rattle.refine_packets.specs.declared.near.NearEdge.{NearEdge}
 use Rattle.refine_packets.specs.declared.near.NearEdges.{NearEdges}
-use Rattle.refine_packets.specs.Near.{AreNear, place_of}
+use Rattle.refine_packets.specs.Near.{AreNear}
 use Rattle.refine_packets.proofs.NearEdges.{IsEntry, each_entry, none_before, last_before}
 use Rattle.refine_packets.proofs.near.NearEdges.find.Goals as goal
 use Rattle.refine_packets.proofs.near.NearEdges.find.Goals.{else-edge-key-via-then-edge-key+else-is_alive, else-edge-key-via-else-edge-key}
