@@ -8,15 +8,16 @@ use std::marker::Send;
 use tgap_model::{Keep, KeepFail, Memory, Text};
 
 /// Opens the journal of this name, and puts its entries, each as a line with its number and its length, and its batch.
-pub fn tell<D: Disks, S: Sink>(alloc: Global, disks: &mut D, name: &str, out: &mut S) -> Outcome {
-    match opened(alloc, disks, name) {
-        Ok(journal) => {
-            let told = put_entries(alloc, journal.entries().as_slice(), out);
-            disks.back(journal.into_disk());
-            ended(told)
-        }
-        Err(outcome) => outcome,
-    }
+pub fn tell<D: Disks, S: Sink>(
+    alloc: Global,
+    disks: &mut D,
+    name: &str,
+    out: &mut S,
+) -> Result<(), Outcome> {
+    let journal = opened(alloc, disks, name)?;
+    let told = put_entries(alloc, journal.entries().as_slice(), out);
+    disks.back(journal.into_disk());
+    told
 }
 
 /// Opens the journal of this name, puts how many entries it has, and keeps these batches one after the other. What came of each is
@@ -27,25 +28,13 @@ pub fn append<D: Disks, S: Sink>(
     name: &str,
     batches: &[String],
     out: &mut S,
-) -> Outcome {
-    match opened(alloc, disks, name) {
-        Ok(journal) => {
-            let entries = journal.entries().len();
-            let mut kept = Kept::new(journal);
-            let told = keep_all(alloc, &mut kept, entries, batches, out);
-            disks.back(kept.into_journal().into_disk());
-            ended(told)
-        }
-        Err(outcome) => outcome,
-    }
-}
-
-/// How a trial ends of which this was put.
-fn ended(told: Result<(), Outcome>) -> Outcome {
-    match told {
-        Ok(()) => Outcome::Done,
-        Err(outcome) => outcome,
-    }
+) -> Result<(), Outcome> {
+    let journal = opened(alloc, disks, name)?;
+    let entries = journal.entries().len();
+    let mut kept = Kept::new(journal);
+    let told = keep_all(alloc, &mut kept, entries, batches, out);
+    disks.back(kept.into_journal().into_disk());
+    told
 }
 
 /// The journal of this name. A disk of which there is none comes back.

@@ -2,20 +2,24 @@
 //! part of a release. It stands on the crates whose calls it makes.
 #![tactic(auto)]
 
+mod edits;
 mod journal;
+mod map;
 mod outcome;
+mod windows;
 
 use edit_journal::HostDisks;
 use outcome::Outcome;
-use plain_io::{HostSink, Sink};
+use plain_io::{HostFiles, HostSink, Sink};
 use std::alloc::Global;
 use std::fs::File;
 use std::process::ExitCode;
 use std::rt::{Env, Files as FileSystem};
+use std::thread::Threads;
 use std::{env, io};
 use tgap_model::Memory;
 
-const USAGE: &[u8] = b"usage: entries JOURNAL | append JOURNAL BATCH..\n";
+const USAGE: &[u8] = b"usage: entries JOURNAL | append JOURNAL BATCH.. | node MAP X Y | cut MAP FACE CLASS X Y X Y.. | fuse MAP KEPT GONE | window MAP STEP X0 Y0 X1 Y1 | window-packet MAP FROM TO X0 Y0 X1 Y1\n";
 
 fn main(rt: HostRuntime) -> ExitCode {
     let mut out = HostSink::new(io::writer(&rt));
@@ -39,22 +43,49 @@ fn words<R: Env + AllocGlobal>(rt: &R, alloc: Global) -> Result<Vec<String>, Mem
 }
 
 /// Makes the calls that the words ask for, and puts what came of them.
-fn run<R: FileSystem<File = File>, S: Sink>(
+fn run<R: FileSystem<File = File> + Threads + Sync, S: Sink>(
     rt: &R,
     alloc: Global,
     words: &[String],
     out: &mut S,
 ) -> Outcome {
-    let [command, name, rest @ ..] = words else {
-        return usage(out);
+    let done = match words {
+        [command, name, rest @ ..] => trial(rt, alloc, command, name, rest, out),
+        _ => Err(Outcome::Usage),
     };
-    let command = command.as_str();
+    match done {
+        Ok(()) => Outcome::Done,
+        Err(Outcome::Usage) => usage(out),
+        Err(outcome) => outcome,
+    }
+}
+
+/// Makes the calls of a command over the file of this name.
+fn trial<R: FileSystem<File = File> + Threads + Sync, S: Sink>(
+    rt: &R,
+    alloc: Global,
+    command: &str,
+    name: &str,
+    rest: &[String],
+    out: &mut S,
+) -> Result<(), Outcome> {
+    let files = &mut HostFiles::new(rt);
     if command == "entries" && rest.is_empty() {
-        journal::tell(alloc, &mut HostDisks::new(rt), name.as_str(), out)
+        journal::tell(alloc, &mut HostDisks::new(rt), name, out)
     } else if command == "append" {
-        journal::append(alloc, &mut HostDisks::new(rt), name.as_str(), rest, out)
+        journal::append(alloc, &mut HostDisks::new(rt), name, rest, out)
+    } else if command == "node" {
+        edits::node(alloc, name, rest, files, out)
+    } else if command == "cut" {
+        edits::cut(alloc, name, rest, files, out)
+    } else if command == "fuse" {
+        edits::fuse(alloc, name, rest, files, out)
+    } else if command == "window" {
+        windows::window(rt, alloc, name, rest, files, out)
+    } else if command == "window-packet" {
+        windows::packet(rt, alloc, name, rest, files, out)
     } else {
-        usage(out)
+        Err(Outcome::Usage)
     }
 }
 

@@ -3,7 +3,7 @@ import itertools
 import signal
 import subprocess
 
-from journal import ENDED, TRIALS, Room, batches_of, entries, entry, faults_of, told
+from kept import ENDED, TRIALS, Room, batches_of, entries, entry, faults_of, told
 
 BEFORE = [b"class 1 2\n", b"drop 5 5\n"]
 START = b"".join(entry(number, batch) for number, batch in enumerate(BEFORE, 1)) + b"\0"

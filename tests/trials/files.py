@@ -5,7 +5,7 @@ import random
 import resource
 import signal
 
-from journal import BESIDE, MOST, Room, batches_of, entries, entry, told
+from kept import BESIDE, MOST, Room, batches_of, entries, entry, told
 
 ONE = entry(1, b"move 20 10 24 10\n") + b"\0"
 THREE = entry(1, b"class 1 2\n") + entry(2, b"") + entry(2, b"drop 5 5\nmove 0 0 1 1\n") + b"\0"
