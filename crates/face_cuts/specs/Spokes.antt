@@ -1,4 +1,4 @@
--- The last one of the spokes of a node.
+-- Spokes of a node and the last one of them, and rows of sides that come back.
 use Rattle.std.specs.Prelude.{◌≡◌, ◌≢◌, Option, Some, None, IsTrue, List, length, if◌then◌else◌}
 use Rattle.tgap_model.specs.declared.geometry.Point.{Point}
 use Rattle.tgap_model.specs.Base.{in_limits}

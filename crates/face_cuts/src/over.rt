@@ -1,6 +1,6 @@
 //! The sides beside a face that is cut: which of them go over to the new face, and the arcs afterwards.
 
-ghost use Rattle.std.specs.Prelude.{◌≡◌, ◌<◌, ◌+◌, ◌*◌, ◌^◌, ◌==◌, ◌||◌, ℕ, Bool, IfOk, All, get_or, length};
+ghost use Rattle.std.specs.Prelude.{◌≡◌, ◌<◌, ◌+◌, ◌*◌, ◌^◌, ◌==◌, ◌||◌, ℕ, Bool, IfOk, All, count_by, get_or, length};
 ghost use Rattle.std.specs.List.{list_any};
 ghost use Rattle.ring_walk.specs.Rings.{rings_of};
 ghost use Rattle.ring_walk.specs.Sides.{face_of, side_number};
@@ -53,6 +53,7 @@ fn is_beside(spans: &[Span], face: u32, row: &[Side]) -> bool
 /// How many rings have a side beside the face.
 pub fn count_beside(spans: &[Span], face: u32, rings: &[List<Side>]) -> usize
     requires { All (IsRing (length spans.now)) rings.now }
+    ensures { result ≡ count_by (λ ring. list_any (λ s. face_of spans.now s == face) ring) rings.now }
 {
     let mut count = 0;
     for ring in rings {
