@@ -6,7 +6,6 @@ use Rattle.std.proofs.lemmas.Bool.Decides.{leb_tells}
 use Rattle.std.proofs.lemmas.List.{take_more, get_or-replicate, get_or_past, length-replicate}
 use Rattle.std.proofs.lemmas.List.Sums.{sum_by-append, sum_by-take-le}
 use Rattle.tgap_model.specs.declared.slice.Edge.{Edge}
-use Rattle.refine_packets.specs.Walk.{is_known}
 use Rattle.refine_packets.specs.Counts.{count_at, one_at, read_for, sides_at}
 
 -- two in each other's place
@@ -39,11 +38,4 @@ pub none_counted : (n f : ℕ) → count_at (replicate n 0) f ≡ 0
 none_counted n f = elim (leb_tells n f) [
   | inl past ↦ get_or_past (replicate n 0) f 0 (omega (arith, length-replicate {A = ℕ} n 0, past.1))
   | inr within ↦ get_or-replicate n f 0 0 within.1
-]
-
--- and nothing is known where nothing was noted
-pub nothing_known : (n i : ℕ) → is_known (replicate n false) i ≡ false
-nothing_known n i = elim (leb_tells n i) [
-  | inl past ↦ get_or_past (replicate n false) i false (omega (arith, length-replicate {A = Bool} n false, past.1))
-  | inr within ↦ get_or-replicate n i false false within.1
 ]

@@ -273,12 +273,12 @@ module _ (m : BaseMap) (base : is_base m ≡ true) (planar : IsPartition (base_s
   -- one piece is the whole chain
   single : (c : Chain) → Among c cs → length (mend_at c).pieces ≡ 1 → runs finer c ≡ c ∷ []
   single c n few = by (runs finer c) (omega (
-        arith,
-        few,
-        ap length cuts.keys,
-        length-map (mend_at c).pieces (λ (p : Piece). p.key),
-        length-map (runs finer c) (λ (r : Chain). key (chain_of_run finer r)),
-      )) (runs_in_row m base planar j one last c n)
+    arith,
+    few,
+    ap length cuts.keys,
+    length-map (mend_at c).pieces (λ (p : Piece). p.key),
+    length-map (runs finer c) (λ (r : Chain). key (chain_of_run finer r)),
+  )) (runs_in_row m base planar j one last c n)
     where
       cuts : CutsIntoEdges h j ((edge_of h j (removals_to h k) c).left == s.made) c
       cuts = members_all (CutsIntoEdges h j ((edge_of h j (removals_to h k) c).left == s.made)) cs c (pieces_are_edges m base planar j one last ((edge_of h j (removals_to h k) c).left == s.made)) n

@@ -111,8 +111,12 @@ fn take_whole(
         ≡ with_whole (bare_at (merged forest.now.base) j mend.now.key) (bare_at (merged forest.now.base) (j - 1) mend.now.key) changes.old mend.now) }
 {
     changes.mends.push(copied_mend(alloc, mend)?)?;
-    changes.gone.push(bare_at(alloc, tree, forest, mend.key, j))?;
-    changes.kept.push(bare_at(alloc, tree, forest, mend.key, j - 1))?;
+    changes
+        .gone
+        .push(bare_at(alloc, tree, forest, mend.key, j))?;
+    changes
+        .kept
+        .push(bare_at(alloc, tree, forest, mend.key, j - 1))?;
     Ok(())
 }
 

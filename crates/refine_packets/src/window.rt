@@ -87,15 +87,7 @@ fn window_steps_down(
     let mut steps = List::with_capacity(alloc, (from - to) as usize)?;
     for i in 0..from - to {
         let record = built.record_of(from - i);
-        steps.push(window_step(
-            alloc,
-            tree,
-            forest,
-            &near,
-            record,
-            &mut counts,
-            &mut known,
-        )?)?;
+        steps.push(window_step(alloc, tree, forest, &near, record, &mut counts, &mut known)?)?;
     }
     Ok(steps)
 }

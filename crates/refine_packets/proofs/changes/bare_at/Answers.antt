@@ -1,14 +1,13 @@
 -- The faces at the sides of the arc are those of the base map, and these have become the faces of the edge.
-use Rattle.std.proofs.Common.{◌≡◌, ◌<◌, ◌≤◌, ℕ, List, [], true, length, get_or, take, ap, ap₂, ◌∙◌, subst, arith}
+use Rattle.std.proofs.Common.{◌≡◌, ◌<◌, ◌≤◌, ℕ, List, [], true, length, get_or, take, ap, ap₂, ◌∙◌, arith}
 use Rattle.std.proofs.lemmas.List.{get_or_default}
 use Rattle.tgap_model.specs.declared.base.BaseArc.{BaseArc}
 use Rattle.tgap_model.specs.declared.geometry.Point.{Point}
-use Rattle.tgap_model.specs.declared.slice.Edge.{Edge}
 use Rattle.tgap_model.specs.Base.{BaseMap, is_base}
 use Rattle.tgap_model.specs.History.{label_after}
 use Rattle.tgap_model.specs.Merged.{merged}
 use Rattle.tgap_model.specs.Chains.{arc_number}
-use Rattle.face_tree.specs.Tree.{FaceHistory, face_history, low_step}
+use Rattle.face_tree.specs.Tree.{FaceHistory, face_history}
 use Rattle.tgap_build.proofs.Sides.{arc_sides}
 use Rattle.refine_packets.proofs.changes.bare_at.Goals as goal
 
@@ -50,5 +49,9 @@ returns c =
     let right = c.ancestor-2.ensures.base (right_face m c.requires.base c.args.tree.now c.requires.tree c.args.key a is)
     ∙ ap₂ (λ (t : FaceHistory) (f : ℕ). label_after (take k t.steps) f) c.requires.tree (ap (λ (b : BaseArc). b.right) is) in
     ap₂ (λ (l r : ℕ). record { key = c.args.key; left = l; right = r; points = c.new.result }) left right
-    ∙ ap (λ (ps : List Point). record { key = c.args.key; left = label_after (take k (merged m).steps) (arc_number m.arcs c.args.key).left;
-      right = label_after (take k (merged m).steps) (arc_number m.arcs c.args.key).right; points = ps }) c.new.ensures
+    ∙ ap (λ (ps : List Point). record {
+      key = c.args.key;
+      left = label_after (take k (merged m).steps) (arc_number m.arcs c.args.key).left;
+      right = label_after (take k (merged m).steps) (arc_number m.arcs c.args.key).right;
+      points = ps;
+    }) c.new.ensures

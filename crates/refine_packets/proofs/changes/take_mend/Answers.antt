@@ -1,5 +1,5 @@
 -- An edge that is known to be in the window, and stays one piece, is in it before the step too.
-use Rattle.std.proofs.Common.{◌≡◌, ◌-◌, Result, Ok, Err, OnOk, sym, ◌∙◌}
+use Rattle.std.proofs.Common.{Result, Ok, Err, OnOk, sym, ◌∙◌}
 use Rattle.tgap_model.specs.Merged.{merged}
 use Rattle.tgap_model.specs.Records.{step_record}
 use Rattle.removal_laws.proofs.ChainEnds.{among_contained}
