@@ -21,7 +21,7 @@ use Rattle.tgap_model.specs.Slice.{meets_window, window_of, slice}
 use Rattle.tgap_model.specs.Records.{step_record, in_place_of, refined}
 use Rattle.tgap_model.specs.WindowRecords.{window_at, window_step}
 use Rattle.map_laws.proofs.ChainMembers.{Among, filter_among}
-use Rattle.map_laws.proofs.Lists.{all_members, among_map}
+use Rattle.map_laws.proofs.Lists.{all_members, members_all, map_among, among_map}
 use Rattle.map_laws.proofs.MergeSteps.{label_bounded}
 use Rattle.face_merge.proofs.Start.{history_numbered}
 use Rattle.record_laws.proofs.FaceRows.{winner_gone}
@@ -31,6 +31,7 @@ use Rattle.slice_read.proofs.EdgesLeaveNodes.{leave_nodes}
 use Rattle.slice_read.proofs.WindowFaces.{side_live}
 use Rattle.tgap_build.proofs.Sides.{arc_sides}
 use Rattle.refine_packets.specs.Counts.{AreCounted, one_at, read_for, sides_at}
+use Rattle.refine_packets.specs.Walk.{bare}
 use Rattle.refine_packets.proofs.InWindow.{chain_there}
 use Rattle.refine_packets.proofs.Lists.{two_sums, same_sums}
 use Rattle.refine_packets.proofs.StepChanges.{gone_of, kept_of, come_of, gone_part, left_part, kept_part, gone_is, kept_is, come_is, unmended, come_part, comes_permuted, before_permuted, there_is}
@@ -51,6 +52,16 @@ one_small f g = by (g == f)
 pub sides_few : (f : ℕ) (edges : List Edge) → sides_at f edges ≤ 2 * length edges
 sides_few f [] = omega arith
 sides_few f (e ∷ edges) = omega (arith, sum_by-cons (sides f) e edges, sides_few f edges, one_small f e.left, one_small f e.right)
+
+-- points make no difference
+pub bare_sides : (f : ℕ) (edges : List Edge) → sides_at f (map bare edges) ≡ sides_at f edges
+bare_sides f [] = refl
+bare_sides f (e ∷ edges) = omega (arith, sum_by-cons (sides f) (bare e) (map bare edges), sum_by-cons (sides f) e edges, bare_sides f edges)
+
+pub bare_counted : (faces : ℕ) (edges : List Edge) → AreCounted faces edges → AreCounted faces (map bare edges)
+bare_counted faces edges counted = all_members (λ e. (e.left < faces) × (e.right < faces)) (map bare edges) (λ e o.
+    let g = map_among bare edges e o in
+    subst (λ (x : Edge). (x.left < faces) × (x.right < faces)) g.2 (members_all (λ e. (e.left < faces) × (e.right < faces)) edges g.0 counted g.1))
 
 -- a face beside an edge is counted, and what is counted is beside one
 pub beside_counts : (f : ℕ) (edges : List Edge) → list_any (has_side f) edges ≡ true → 0 < sides_at f edges

@@ -1,5 +1,5 @@
 -- The record of a step for a window, and the counts before the step, out of what was found.
-use Rattle.std.proofs.Common.{◌≡◌, ◌≢◌, ℕ, ◌+◌, ◌-◌, ◌^◌, ◌<◌, ◌≤◌, true, nat_lt, List, ◌∷◌, ◌++◌, map, filter, length, get_or, AllPairs, Contains, IsPermutation, sym, ap, ap₂, ◌∙◌, subst, arith}
+use Rattle.std.proofs.Common.{◌≡◌, ◌≢◌, ◌⊎◌, inl, inr, ℕ, ◌+◌, ◌-◌, ◌^◌, ◌<◌, ◌≤◌, ◌==◌, ◌||◌, Bool, true, false, nat_lt, List, [], ◌∷◌, ◌++◌, map, filter, length, get_or, AllPairs, Contains, IsPermutation, refl, sym, ap, ap₂, ◌∙◌, subst, arith}
 use Rattle.std.specs.List.Sorted.{IsNonDecreasingBy}
 use Rattle.std.proofs.lemmas.List.Kept.{AllPairs-filter}
 use Rattle.std.proofs.lemmas.List.Sorted.{IsPermutation-sym, IsPermutation-trans}
@@ -18,9 +18,9 @@ use Rattle.tgap_model.specs.Chains.{chains_at}
 use Rattle.tgap_model.specs.Removals.{edges_of, removals_to}
 use Rattle.tgap_model.specs.Slice.{meets_window, window_of}
 use Rattle.tgap_model.specs.Records.{step_record}
-use Rattle.tgap_model.specs.WindowRecords.{window_at, is_coming, window_step}
-use Rattle.map_laws.proofs.ChainMembers.{Among}
-use Rattle.map_laws.proofs.Lists.{kept_among}
+use Rattle.tgap_model.specs.WindowRecords.{window_at, is_coming, window_step, has_key}
+use Rattle.map_laws.proofs.ChainMembers.{Among, any_among}
+use Rattle.map_laws.proofs.Lists.{any_from, kept_among}
 use Rattle.record_laws.proofs.StepFacts.{step_numbered}
 use Rattle.face_tree.specs.Tree.{FaceHistory, IsFace}
 use Rattle.edge_forest.specs.Forest.{EdgeForest, last_step}
@@ -31,9 +31,9 @@ use Rattle.refine_packets.specs.declared.changes.Changes.{Changes}
 use Rattle.refine_packets.specs.declared.near.NearEdges.{NearEdges}
 use Rattle.refine_packets.specs.Counts.{AreCounted, AreCounts, AreOut, count_at, read_for, sides_at}
 use Rattle.refine_packets.specs.Near.{IsSight}
-use Rattle.refine_packets.specs.Walk.{changes_by}
-use Rattle.refine_packets.proofs.StepChanges.{mends_of, gone_of, kept_of, come_of, changes_are, mends_there, comes_permuted, gone_among, kept_among_before}
-use Rattle.refine_packets.proofs.StepCounts.{sides_counted, counts_small, counts_before}
+use Rattle.refine_packets.specs.Walk.{AreKnown, bare, changes_by, is_known}
+use Rattle.refine_packets.proofs.StepChanges.{mends_of, gone_of, kept_of, come_of, changes_are, mends_there, comes_permuted, stays_there, gone_among, kept_among_before}
+use Rattle.refine_packets.proofs.StepCounts.{bare_sides, bare_counted, sides_counted, counts_small, counts_before}
 use Rattle.refine_packets.proofs.StepRows.{counted_face, out_face, rows_are}
 
 -- edges that were put in order of key are those of another list in that order, if they are the same
@@ -86,16 +86,16 @@ module _ (f : EdgeForest) (t : FaceHistory) (n : NearEdges) (sight : IsSight f t
   low : j - 1 ≤ length (history_of m)
   low = omega (arith, last)
 
-  changes_is : changes ≡ record { mends = mends_of there before mends; gone = gone_of there before mends; kept = kept_of there before mends; comes = come_of there before mends }
+  changes_is : changes ≡ record { mends = mends_of there before mends; gone = map bare (gone_of there before mends); kept = map bare (kept_of there before mends); comes = come_of there before mends }
   changes_is = changed ∙ ap (λ (w : StepRecord). changes_by there before w.mends) is ∙ changes_are there before mends
 
   pub mends_are : changes.mends ≡ (window_step (merged f.base) n.area whole.step).mends
   mends_are = ap (λ (c : Changes). c.mends) changes_is ∙ mends_there there before mends
 
-  gone_are : changes.gone ≡ gone_of there before mends
+  gone_are : changes.gone ≡ map bare (gone_of there before mends)
   gone_are = ap (λ (c : Changes). c.gone) changes_is
 
-  kept_are : changes.kept ≡ kept_of there before mends
+  kept_are : changes.kept ≡ map bare (kept_of there before mends)
   kept_are = ap (λ (c : Changes). c.kept) changes_is
 
   step_ascends : Ascend (window_step h area j).comes
@@ -114,6 +114,33 @@ module _ (f : EdgeForest) (t : FaceHistory) (n : NearEdges) (sight : IsSight f t
       (ap₂ (λ (xs ys : List Edge). xs ++ filter (meets_window area) ys) (ap (λ (c : Changes). c.comes) changes_is) (ap (λ (w : StepRecord). w.ended) is)) all)
       order (comes_permuted m base planar j some last area) step_ascends
 
+  coming_there : (e : Edge) → Among e (window_step h area j).comes → Among e (window_at h area (j - 1)).edges
+  coming_there e o = kept_among (is_coming h j (window_at h area j).edges) (window_at h area (j - 1)).edges e o
+
+  -- ---- what is known to be in the window
+
+  bare_keys : (i : ℕ) (es : List Edge) → has_key (map bare es) i ≡ has_key es i
+  bare_keys i [] = refl
+  bare_keys i (e ∷ es) = ap (λ (b : Bool). (e.key == i) || b) (bare_keys i es)
+
+  -- an edge that was known and has no mend stays, and pieces and edges that come are in the window before the step
+  pub known_before : (known after : List Bool) → AreKnown known (window_at (merged f.base) n.area whole.step).edges
+      → (gone kept come : List Edge) → gone ≡ changes.gone → kept ≡ changes.kept → come ≡ comes
+      → ((i : ℕ) → is_known after i ≡ true → ((is_known known i ≡ true) × (has_key gone i ≡ false)) ⊎ (has_key kept i ≡ true) ⊎ (has_key come i ≡ true))
+      → AreKnown after (window_at (merged f.base) n.area (whole.step - 1)).edges
+  known_before known after are gone kept come same_gone same_kept same_come each i t = elim (each i t) [
+    | inl stays ↦ stays_there m base planar j some last area i (are i stays.0)
+        (sym (bare_keys i (gone_of there before mends)) ∙ ap (λ (es : List Edge). has_key es i) (sym (same_gone ∙ gone_are)) ∙ stays.1)
+    | inr new ↦ elim new [
+      | inl here ↦ within (kept_of there before mends) (λ e o. kept_among_before h area j there mends e o)
+          (sym (bare_keys i (kept_of there before mends)) ∙ ap (λ (es : List Edge). has_key es i) (sym (same_kept ∙ kept_are)) ∙ here)
+      | inr here ↦ within (window_step h area j).comes coming_there (ap (λ (es : List Edge). has_key es i) (sym (same_come ∙ comes_are)) ∙ here)
+    ]
+  ]
+    where
+      within : (es : List Edge) → ((e : Edge) → Among e es → Among e before.edges) → has_key es i ≡ true → has_key before.edges i ≡ true
+      within es some found = let e = any_among (λ (e : Edge). e.key == i) es found in any_from (λ e. e.key == i) before.edges e.0 (some e.0 e.1) e.2
+
   -- ---- the counts
 
   pub made_within : whole.made < length f.base.classes + last_step f + 1
@@ -124,14 +151,13 @@ module _ (f : EdgeForest) (t : FaceHistory) (n : NearEdges) (sight : IsSight f t
 
   pub gone_counted : AreCounted (length f.base.classes + last_step f + 1) changes.gone
   gone_counted = subst (AreCounted (length m.classes + length (history_of m) + 1)) (sym gone_are)
-      (sides_counted m base j last area (gone_of there before mends) (λ e o. gone_among there before mends e o))
+      (bare_counted (length m.classes + length (history_of m) + 1) (gone_of there before mends)
+      (sides_counted m base j last area (gone_of there before mends) (λ e o. gone_among there before mends e o)))
 
   pub kept_counted : AreCounted (length f.base.classes + last_step f + 1) changes.kept
   kept_counted = subst (AreCounted (length m.classes + length (history_of m) + 1)) (sym kept_are)
-      (sides_counted m base (j - 1) low area (kept_of there before mends) (λ e o. kept_among_before h area j there mends e o))
-
-  coming_there : (e : Edge) → Among e (window_step h area j).comes → Among e (window_at h area (j - 1)).edges
-  coming_there e o = kept_among (is_coming h j (window_at h area j).edges) (window_at h area (j - 1)).edges e o
+      (bare_counted (length m.classes + length (history_of m) + 1) (kept_of there before mends)
+      (sides_counted m base (j - 1) low area (kept_of there before mends) (λ e o. kept_among_before h area j there mends e o)))
 
   pub comes_counted : AreCounted (length f.base.classes + last_step f + 1) comes
   comes_counted = subst (AreCounted (length m.classes + length (history_of m) + 1)) (sym comes_are)
@@ -146,8 +172,8 @@ module _ (f : EdgeForest) (t : FaceHistory) (n : NearEdges) (sight : IsSight f t
         let r = read_for (step_number h j).made (step_number h j).winner g in
         let first : count_at counts (read_for whole.made whole.winner g) ≡ sides_at r there.edges = ap (count_at counts) read ∙ are r in
         let second : sides_at (read_for whole.made whole.winner g) changes.gone ≡ sides_at r (gone_of there before mends)
-        = ap₂ (λ (x : ℕ) (es : List Edge). sides_at x es) read gone_are in
-        let third : sides_at g changes.kept ≡ sides_at g (kept_of there before mends) = ap (sides_at g) kept_are in
+        = ap₂ (λ (x : ℕ) (es : List Edge). sides_at x es) read gone_are ∙ bare_sides r (gone_of there before mends) in
+        let third : sides_at g changes.kept ≡ sides_at g (kept_of there before mends) = ap (sides_at g) kept_are ∙ bare_sides g (kept_of there before mends) in
         let fourth : sides_at g comes ≡ sides_at g (window_step h area j).comes = ap (sides_at g) comes_are in
         omega (arith, first, second, third, fourth, counts_before m base planar j some last area g)
 

@@ -14,6 +14,7 @@ mod changes;
 mod copy;
 mod counts;
 mod fail;
+mod known;
 mod near;
 mod rows;
 mod sight;

@@ -1,6 +1,6 @@
 //! Packets of a window.
 
-ghost use Rattle.std.specs.Prelude.{◌≡◌, ◌<◌, ◌≤◌, ◌-◌, ◌+◌, ◌↔◌, ℕ, true, length, replicate, IfOk, Err};
+ghost use Rattle.std.specs.Prelude.{◌≡◌, ◌<◌, ◌≤◌, ◌-◌, ◌+◌, ◌↔◌, ℕ, true, false, length, replicate, IfOk, Err};
 ghost use Rattle.tgap_model.specs.Base.{is_base};
 ghost use Rattle.tgap_model.specs.History.{history_of};
 ghost use Rattle.tgap_model.specs.Merged.{merged};
@@ -57,6 +57,13 @@ fn first_counts(alloc: Global, built: &Built, k: u32, area: Window) -> Result<Ve
     Ok(counts)
 }
 
+/// A note for each of so many edges, none of which is known to be in a window yet.
+fn none_known(alloc: Global, edges: usize) -> Result<Vec<bool>, Memory>
+    ensures { IfOk result (λ known. known.items ≡ replicate edges false) }
+{
+    Ok(vec![in alloc; false; edges]?)
+}
+
 /// The records of a window for the steps `from` down to `to + 1`, in this order.
 fn window_steps_down(
     alloc: Global,
@@ -76,10 +83,11 @@ fn window_steps_down(
     // What is known of the forest is read off its map.
     let _ = forest.base();
     let near = near_edges(alloc, boxed, area)?;
+    let mut known = none_known(alloc, forest.base().arcs().len())?;
     let mut steps = List::with_capacity(alloc, (from - to) as usize)?;
     for i in 0..from - to {
         let record = built.record_of(from - i);
-        steps.push(window_step(alloc, tree, forest, &near, record, &mut counts)?)?;
+        steps.push(window_step(alloc, tree, forest, &near, record, &mut counts, &mut known)?)?;
     }
     Ok(steps)
 }
@@ -87,9 +95,10 @@ fn window_steps_down(
 /// The packet of a window of a built map from the slice at step `from` to the slice at step `to`: for each of the steps `from`
 /// down to `to + 1` what leads the window of the slice after it back to the window of the slice before it. There is none to a
 /// coarser slice, which is tested first, and none from a step that the history does not have. The time is that of the
-/// records of the steps, of one look-up, and of the points of the edges near the window: those of the window of the first
-/// slice, and for each mend of an edge whose box of all points meets the window those of the edge. Where the ends of the
-/// window are out of order it is what the same tests leave.
+/// records of the steps, of one look-up, and of the points of edges whose box of all points meets the window: those of the
+/// window of the first slice, those of each piece that a mend makes, and at a mend those of its edge, unless that is
+/// known to be in the window and stays one piece. Beside them it takes a count for each face and a note for each arc.
+/// Where the ends of the window are out of order it is what the same tests leave.
 pub fn window_packet(
     alloc: Global,
     built: &Built,

@@ -9,7 +9,7 @@ use Rattle.face_tree.specs.Tree.{IsFace}
 use Rattle.slice_read.specs.Windows.{all_sides, row_of}
 use Rattle.refine_packets.specs.Counts.{AreCounted, AreOut, count_at}
 use Rattle.refine_packets.specs.Walk.{changes_by}
-use Rattle.refine_packets.proofs.StepWhole.{made_within, winner_within, gone_counted, kept_counted, comes_counted, room, after_is, each_face, step_is}
+use Rattle.refine_packets.proofs.StepWhole.{made_within, winner_within, gone_counted, kept_counted, comes_counted, room, after_is, each_face, known_before, step_is}
 use Rattle.refine_packets.proofs.window_step.window_step.Goals as goal
 
 pub recount-requires-clause-made : goal.recount-requires-clause-made
@@ -62,13 +62,13 @@ recount-requires-clause-room c = room c.args.forest.now c.args.tree.now c.args.n
 pub counted_rows-requires : goal.counted_rows-requires
 counted_rows-requires c =
     subst₂ (λ (out after : List ℕ). (f : ℕ) → Contains out f → 0 < count_at after f → IsFace c.args.tree.now f)
-    (sym c.deref-3.ensures.value) (sym c.deref-2.ensures.value)
+    (sym c.deref-4.ensures.value) (sym c.deref-3.ensures.value)
     (each_face c.args.forest.now c.args.tree.now c.args.near.now c.requires.sight c.args.whole.now c.requires.some c.requires.step c.requires.whole c.in_ok-changes.changes
     (c.in_ok-changes.ensures ∙ ap (λ (ws : List Mend). changes_by (window_at (merged c.args.forest.now.base) c.args.near.now.area c.args.whole.now.step) (window_at (merged c.args.forest.now.base) c.args.near.now.area (c.args.whole.now.step - 1)) ws) c.as_slice-mends.ensures)
     c.in_ok-comes.comes
     (subst (λ (es : List Edge). IsPermutation (c.in_ok-changes.changes.comes ++ filter (meets_window c.args.near.now.area) es) c.in_ok-comes.comes) c.as_slice.ensures c.in_ok-comes.ensures.all)
     c.in_ok-comes.ensures.order c.args.counts.now.items c.requires.counts c.in_ok-out.out.items
-    (subst₂ (λ (counts : List ℕ) (es : List Edge). AreOut counts (c.args.whole.now.loser ∷ c.args.whole.now.winner ∷ all_sides es) c.in_ok-out.out.items) c.deref.ensures.value c.as_slice-2.ensures c.in_ok-out.ensures)
+    (subst₂ (λ (counts : List ℕ) (es : List Edge). AreOut counts (c.args.whole.now.loser ∷ c.args.whole.now.winner ∷ all_sides es) c.in_ok-out.out.items) c.deref-2.ensures.value c.as_slice-2.ensures c.in_ok-out.ensures)
     c.recount.new.counts.items
     (after_is c.args.forest.now c.args.tree.now c.args.near.now c.requires.sight c.args.whole.now c.requires.some c.requires.step c.requires.whole c.in_ok-changes.changes
     (c.in_ok-changes.ensures ∙ ap (λ (ws : List Mend). changes_by (window_at (merged c.args.forest.now.base) c.args.near.now.area c.args.whole.now.step) (window_at (merged c.args.forest.now.base) c.args.near.now.area (c.args.whole.now.step - 1)) ws) c.as_slice-mends.ensures)
@@ -83,7 +83,7 @@ returns-clause-exact c =
     c.in_ok-comes.comes
     (subst (λ (es : List Edge). IsPermutation (c.in_ok-changes.changes.comes ++ filter (meets_window c.args.near.now.area) es) c.in_ok-comes.comes) c.as_slice.ensures c.in_ok-comes.ensures.all)
     c.in_ok-comes.ensures.order c.args.counts.now.items c.requires.counts c.in_ok-out.out.items
-    (subst₂ (λ (counts : List ℕ) (es : List Edge). AreOut counts (c.args.whole.now.loser ∷ c.args.whole.now.winner ∷ all_sides es) c.in_ok-out.out.items) c.deref.ensures.value c.as_slice-2.ensures c.in_ok-out.ensures)
+    (subst₂ (λ (counts : List ℕ) (es : List Edge). AreOut counts (c.args.whole.now.loser ∷ c.args.whole.now.winner ∷ all_sides es) c.in_ok-out.out.items) c.deref-2.ensures.value c.as_slice-2.ensures c.in_ok-out.ensures)
     c.recount.new.counts.items
     (after_is c.args.forest.now c.args.tree.now c.args.near.now c.requires.sight c.args.whole.now c.requires.some c.requires.step c.requires.whole c.in_ok-changes.changes
     (c.in_ok-changes.ensures ∙ ap (λ (ws : List Mend). changes_by (window_at (merged c.args.forest.now.base) c.args.near.now.area c.args.whole.now.step) (window_at (merged c.args.forest.now.base) c.args.near.now.area (c.args.whole.now.step - 1)) ws) c.as_slice-mends.ensures)
@@ -91,7 +91,7 @@ returns-clause-exact c =
     (subst (λ (es : List Edge). IsPermutation (c.in_ok-changes.changes.comes ++ filter (meets_window c.args.near.now.area) es) c.in_ok-comes.comes) c.as_slice.ensures c.in_ok-comes.ensures.all)
     c.in_ok-comes.ensures.order c.args.counts.now.items c.requires.counts c.as_slice-3.result.now c.as_slice-4.result.now c.as_slice-5.result.now c.as_slice-3.ensures c.as_slice-4.ensures c.as_slice-5.ensures c.recount.new.counts.items c.recount.ensures.each)
     c.in_ok-faces.faces
-    (subst₂ (λ (out after : List ℕ). c.in_ok-faces.faces ≡ map (row_of c.args.tree.now) (filter (λ f. nat_lt 0 (count_at after f)) out)) c.deref-3.ensures.value c.deref-2.ensures.value c.in_ok-faces.ensures)
+    (subst₂ (λ (out after : List ℕ). c.in_ok-faces.faces ≡ map (row_of c.args.tree.now) (filter (λ f. nat_lt 0 (count_at after f)) out)) c.deref-4.ensures.value c.deref-3.ensures.value c.in_ok-faces.ensures)
 
 pub returns-clause-counts : goal.returns-clause-counts
 returns-clause-counts c = after_is c.args.forest.now c.args.tree.now c.args.near.now c.requires.sight c.args.whole.now c.requires.some c.requires.step c.requires.whole c.in_ok-changes.changes
@@ -99,3 +99,12 @@ returns-clause-counts c = after_is c.args.forest.now c.args.tree.now c.args.near
     c.in_ok-comes.comes
     (subst (λ (es : List Edge). IsPermutation (c.in_ok-changes.changes.comes ++ filter (meets_window c.args.near.now.area) es) c.in_ok-comes.comes) c.as_slice.ensures c.in_ok-comes.ensures.all)
     c.in_ok-comes.ensures.order c.args.counts.now.items c.requires.counts c.as_slice-3.result.now c.as_slice-4.result.now c.as_slice-5.result.now c.as_slice-3.ensures c.as_slice-4.ensures c.as_slice-5.ensures c.recount.new.counts.items c.recount.ensures.each
+
+pub returns-clause-known : goal.returns-clause-known
+returns-clause-known c =
+    known_before c.args.forest.now c.args.tree.now c.args.near.now c.requires.sight c.args.whole.now c.requires.some c.requires.step c.requires.whole c.in_ok-changes.changes
+    (c.in_ok-changes.ensures ∙ ap (λ (ws : List Mend). changes_by (window_at (merged c.args.forest.now.base) c.args.near.now.area c.args.whole.now.step) (window_at (merged c.args.forest.now.base) c.args.near.now.area (c.args.whole.now.step - 1)) ws) c.as_slice-mends.ensures)
+    c.in_ok-comes.comes
+    (subst (λ (es : List Edge). IsPermutation (c.in_ok-changes.changes.comes ++ filter (meets_window c.args.near.now.area) es) c.in_ok-comes.comes) c.as_slice.ensures c.in_ok-comes.ensures.all)
+    c.in_ok-comes.ensures.order c.args.known.now.items c.renote.new.known.items c.requires.known
+    c.as_slice-6.result.now c.as_slice-7.result.now c.as_slice-8.result.now c.as_slice-6.ensures c.as_slice-7.ensures c.as_slice-8.ensures c.renote.ensures
