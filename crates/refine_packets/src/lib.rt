@@ -1,5 +1,6 @@
-//! Packets of a built map: the records that lead from a slice to a finer one. It stands on `tgap_build`, which keeps the record
-//! of each step, and on the laws of packets in `record_laws`.
+//! Packets of a built map: the records that lead from a slice to a finer one, and those that lead a window of a slice to that of
+//! a finer one. It stands on `tgap_build`, which keeps the record of each step, on `slice_read`, which has the first window, and on
+//! the laws of packets in `record_laws` and `window_laws`.
 #![tactic(auto)]
 
 ghost use Rattle.std.specs.Prelude.{◌≡◌, ◌<◌, ◌≤◌, ◌-◌, ◌++◌, ◌↔◌, ℕ, true, length, IfOk, Err};
