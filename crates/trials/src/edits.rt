@@ -65,11 +65,7 @@ pub fn fuse<F: Files, S: Sink>(
 }
 
 /// Puts the listing of what an edit made, or its cause.
-fn tell<S: Sink>(
-    alloc: Global,
-    made: Result<Base, Or<Cause>>,
-    out: &mut S,
-) -> Result<(), Outcome> {
+fn tell<S: Sink>(alloc: Global, made: Result<Base, Or<Cause>>, out: &mut S) -> Result<(), Outcome> {
     match made {
         Ok(base) => {
             let text = write_listing(alloc, &base)?;

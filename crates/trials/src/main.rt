@@ -19,7 +19,8 @@ use std::thread::Threads;
 use std::{env, io};
 use tgap_model::Memory;
 
-const USAGE: &[u8] = b"usage: entries JOURNAL | append JOURNAL BATCH.. | node MAP X Y | cut MAP FACE CLASS X Y X Y.. | fuse MAP KEPT GONE | window MAP STEP X0 Y0 X1 Y1 | window-packet MAP FROM TO X0 Y0 X1 Y1\n";
+const USAGE: &[u8] =
+    b"usage: entries JOURNAL | append JOURNAL BATCH.. | node MAP X Y | cut MAP FACE CLASS X Y X Y.. | fuse MAP KEPT GONE | window MAP STEP X0 Y0 X1 Y1 | window-packet MAP FROM TO X0 Y0 X1 Y1\n";
 
 fn main(rt: HostRuntime) -> ExitCode {
     let mut out = HostSink::new(io::writer(&rt));
