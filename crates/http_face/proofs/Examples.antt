@@ -79,6 +79,19 @@ windows :
 unfolding is_utf8 chars encode digits number_of
 windows = (refl, refl, refl, refl, refl, refl)
 
+-- the packets of windows
+window_packets :
+    (route_of (codes "GET") (codes "/window-packet/3/1/12/-2/30/4") ≡ route.WindowPacket 3 1 (record { x0 = pos 12; y0 = negsuc 1; x1 = pos 30; y1 = pos 4 }))
+    × (route_of (codes "GET") (codes "/window-packet/1/3/0/0/0/0") ≡ route.WindowPacket 1 3 (record { x0 = pos 0; y0 = pos 0; x1 = pos 0; y1 = pos 0 }))
+    × (route_of (codes "GET") (codes "/window-packet/3/x/0/0/0/0") ≡ route.BadNumber)
+    × (route_of (codes "GET") (codes "/window-packet/3/1/0/0/2147483649/0") ≡ route.BadNumber)
+    × (route_of (codes "GET") (codes "/window-packet/1/3/1/0/0/0") ≡ route.BadNumber)
+    × (route_of (codes "GET") (codes "/window-packet/1/3/0/1/0/0") ≡ route.BadNumber)
+    × (route_of (codes "POST") (codes "/window-packet/3/x/0/0/0/0") ≡ route.WrongMethod Get)
+    × (route_of (codes "GET") (codes "/window-packet/3/1/0/0/0") ≡ route.NoRoute)
+unfolding is_utf8 chars encode digits number_of
+window_packets = (refl, refl, refl, refl, refl, refl, refl, refl)
+
 topologies : (route_of (codes "GET") (codes "/topo/0") ≡ route.Topo 0)
     × (route_of (codes "GET") (codes "/topo/4294967295?a") ≡ route.Topo 4294967295)
     × (route_of (codes "GET") (codes "/topo/4294967296") ≡ route.BadNumber)

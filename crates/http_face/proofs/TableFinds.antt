@@ -25,6 +25,7 @@ entry_value resource.Slice = refl
 entry_value resource.Packet = refl
 entry_value resource.Window = refl
 entry_value resource.Topo = refl
+entry_value resource.WindowPacket = refl
 entry_value resource.Edit = refl
 
 -- the values that a path has for the names of this route

@@ -13,7 +13,7 @@ use Rattle.plain_io.proofs.Steps.{after_word_again}
 use Rattle.http_face.specs.declared.request.Resource.{Resource}
 use Rattle.http_face.specs.declared.request.Resource.TheVariants as resource
 use Rattle.http_face.specs.Routes.{word_of, parameter_count, resources, segments_of, are_parameters, parameters_of, find_in}
-use Rattle.http_face.specs.Table.{the_rows}
+use Rattle.http_face.specs.Table.{the_rows, version_rows}
 use Rattle.http_face.specs.Parameters.{values_of}
 use Rattle.http_face.proofs.Seeking.{slots, AllParts}
 use Rattle.http_face.proofs.Parts.{HaveNoSlash, split_again}
@@ -36,11 +36,12 @@ ordered =
     ∷ (codes "/pin" ++ [], entry_for resource.Pin)
     ∷ (slots_after (codes "/slice/") [], entry_for resource.Slice)
     ∷ (slots_after (codes "/topo/") [], entry_for resource.Topo)
+    ∷ (slots_after (codes "/window-packet/") ([] ∷ [] ∷ [] ∷ [] ∷ [] ∷ []), entry_for resource.WindowPacket)
     ∷ (slots_after (codes "/window/") ([] ∷ [] ∷ [] ∷ [] ∷ []), entry_for resource.Window)
     ∷ []
 
 rows_in_order : the_rows ≡ ordered
-unfolding the_rows matchit_on_literals
+unfolding the_rows version_rows matchit_on_literals
 rows_in_order = refl
 
 -- ---- a path of each
@@ -97,21 +98,24 @@ form_of_one : (path : List ℕ) → FitsOne ordered path → IsOfRow path
 form_of_one path (inl h) = word_path resource.Edit (codes "/edit") path (bytes_of (codes "/edit") refl) refl h
 form_of_one path (inr (inl h)) = word_path resource.Info (codes "/info") path (bytes_of (codes "/info") refl) refl h
 form_of_one path (inr (inr (inl h))) =
-    slots_path resource.Packet (resource.Window ∷ resource.Topo ∷ resource.Edit ∷ []) (codes "/packet/") path ([] ∷ []) (bytes_of (codes "/packet/") refl) refl refl
+    slots_path resource.Packet (resource.Window ∷ resource.Topo ∷ resource.WindowPacket ∷ resource.Edit ∷ []) (codes "/packet/") path ([] ∷ []) (bytes_of (codes "/packet/") refl) refl refl
     (λ p ps. refl) (λ p ps. refl) h
 form_of_one path (inr (inr (inr (inl h)))) =
-    slots_path resource.PinSeen (resource.Slice ∷ resource.Packet ∷ resource.Window ∷ resource.Topo ∷ resource.Edit ∷ []) (codes "/pin/") path [] (bytes_of (codes "/pin/") refl) refl refl
+    slots_path resource.PinSeen (resource.Slice ∷ resource.Packet ∷ resource.Window ∷ resource.Topo ∷ resource.WindowPacket ∷ resource.Edit ∷ []) (codes "/pin/") path [] (bytes_of (codes "/pin/") refl) refl refl
     (λ p ps. refl) (λ p ps. refl) h
 form_of_one path (inr (inr (inr (inr (inl h))))) = word_path resource.Pin (codes "/pin") path (bytes_of (codes "/pin") refl) refl h
 form_of_one path (inr (inr (inr (inr (inr (inl h)))))) =
-    slots_path resource.Slice (resource.Packet ∷ resource.Window ∷ resource.Topo ∷ resource.Edit ∷ []) (codes "/slice/") path [] (bytes_of (codes "/slice/") refl) refl refl
+    slots_path resource.Slice (resource.Packet ∷ resource.Window ∷ resource.Topo ∷ resource.WindowPacket ∷ resource.Edit ∷ []) (codes "/slice/") path [] (bytes_of (codes "/slice/") refl) refl refl
     (λ p ps. refl) (λ p ps. refl) h
 form_of_one path (inr (inr (inr (inr (inr (inr (inl h))))))) =
-    slots_path resource.Topo (resource.Edit ∷ []) (codes "/topo/") path [] (bytes_of (codes "/topo/") refl) refl refl (λ p ps. refl) (λ p ps. refl) h
+    slots_path resource.Topo (resource.WindowPacket ∷ resource.Edit ∷ []) (codes "/topo/") path [] (bytes_of (codes "/topo/") refl) refl refl (λ p ps. refl) (λ p ps. refl) h
 form_of_one path (inr (inr (inr (inr (inr (inr (inr (inl h)))))))) =
-    slots_path resource.Window (resource.Topo ∷ resource.Edit ∷ []) (codes "/window/") path ([] ∷ [] ∷ [] ∷ [] ∷ []) (bytes_of (codes "/window/") refl) refl refl
+    slots_path resource.WindowPacket (resource.Edit ∷ []) (codes "/window-packet/") path ([] ∷ [] ∷ [] ∷ [] ∷ [] ∷ []) (bytes_of (codes "/window-packet/") refl) refl refl
     (λ p ps. refl) (λ p ps. refl) h
-form_of_one path (inr (inr (inr (inr (inr (inr (inr (inr h)))))))) = absurd h
+form_of_one path (inr (inr (inr (inr (inr (inr (inr (inr (inl h))))))))) =
+    slots_path resource.Window (resource.Topo ∷ resource.WindowPacket ∷ resource.Edit ∷ []) (codes "/window/") path ([] ∷ [] ∷ [] ∷ [] ∷ []) (bytes_of (codes "/window/") refl) refl refl
+    (λ p ps. refl) (λ p ps. refl) h
+form_of_one path (inr (inr (inr (inr (inr (inr (inr (inr (inr h))))))))) = absurd h
 
 -- a path that the router finds is of a row
 pub row_of_found : (path : List ℕ) (e : RouteOf Resource) → IsText path → first the_rows path ≡ Some e → IsOfRow path
@@ -153,6 +157,11 @@ more_names : (a b c d : List ℕ) → ((entry_for resource.Packet).pattern ≡ s
 unfolding matchit_on_literals
 more_names a b c d = (refl, refl, refl, refl)
 
+six_names : (a b c d e : List ℕ) → ((entry_for resource.WindowPacket).pattern ≡ slots_after (codes "/window-packet/") (a ∷ b ∷ c ∷ d ∷ e ∷ []))
+    × (length (entry_for resource.WindowPacket).names ≡ 6)
+unfolding matchit_on_literals
+six_names a b c d e = (refl, refl)
+
 -- the parameters of a path are what the router takes for those of its row
 pub taken_are : (r : Resource) (parameters : Row) (path : List ℕ) → IsPath r parameters path
     → values_of (walk (entry_for r).pattern (entry_for r).text path (entry_for r).names 0 0) ≡ parameters
@@ -168,4 +177,7 @@ taken_are resource.Packet (p ∷ q ∷ []) path h =
 taken_are resource.Window (s ∷ a ∷ b ∷ c ∷ d ∷ []) path h =
     let names = more_names a b c d in
     slots_taken resource.Window (codes "/window/") path s (a ∷ b ∷ c ∷ d ∷ []) names.2 names.3 (bytes_of (codes "/window/") refl) (omega arith) h.joined h.parts
+taken_are resource.WindowPacket (s ∷ t ∷ a ∷ b ∷ c ∷ d ∷ []) path h =
+    let names = six_names t a b c d in
+    slots_taken resource.WindowPacket (codes "/window-packet/") path s (t ∷ a ∷ b ∷ c ∷ d ∷ []) names.0 names.1 (bytes_of (codes "/window-packet/") refl) (omega arith) h.joined h.parts
 taken_are r parameters path h = absurd (omega (arith, count_is (parameter_count r) parameters h.some))

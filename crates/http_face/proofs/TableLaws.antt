@@ -13,31 +13,45 @@ use Rattle.plain_io.proofs.Steps.{bind_some, after_word_is}
 use Rattle.http_face.specs.declared.request.Resource.{Resource}
 use Rattle.http_face.specs.declared.request.Resource.TheVariants as resource
 use Rattle.http_face.specs.Routes.{word_of, parameter_count, resources, segments_of, are_parameters, parameters_of, find_in}
-use Rattle.http_face.specs.Table.{the_rows, entry}
+use Rattle.http_face.specs.Table.{HasPlace, the_rows, version_rows, with_row, entry}
 use Rattle.http_face.proofs.Seeking.{after, found_after, slots, AllParts, found_parameters, split_parts}
 
 -- ---- the rows after the front of each path
 
 pin_rows : after (codes "/pin/") the_rows ≡ (256 ∷ [], entry (codes "/pin/{seen}") resource.PinSeen) ∷ []
-unfolding the_rows matchit_on_literals
+unfolding the_rows version_rows matchit_on_literals
 pin_rows = refl
 
 slice_rows : after (codes "/slice/") the_rows ≡ (256 ∷ [], entry (codes "/slice/{step}") resource.Slice) ∷ []
-unfolding the_rows matchit_on_literals
+unfolding the_rows version_rows matchit_on_literals
 slice_rows = refl
 
 packet_rows : after (codes "/packet/") the_rows ≡ (256 ∷ 47 ∷ 256 ∷ [], entry (codes "/packet/{from}/{to}") resource.Packet) ∷ []
-unfolding the_rows matchit_on_literals
+unfolding the_rows version_rows matchit_on_literals
 packet_rows = refl
 
 window_rows : after (codes "/window/") the_rows
     ≡ (256 ∷ 47 ∷ 256 ∷ 47 ∷ 256 ∷ 47 ∷ 256 ∷ 47 ∷ 256 ∷ [], entry (codes "/window/{step}/{x0}/{y0}/{x1}/{y1}") resource.Window) ∷ []
-unfolding the_rows matchit_on_literals
+unfolding the_rows version_rows matchit_on_literals
 window_rows = refl
 
 topo_rows : after (codes "/topo/") the_rows ≡ (256 ∷ [], entry (codes "/topo/{step}") resource.Topo) ∷ []
-unfolding the_rows matchit_on_literals
+unfolding the_rows version_rows matchit_on_literals
 topo_rows = refl
+
+window_packet_rows : after (codes "/window-packet/") the_rows
+    ≡ (256 ∷ 47 ∷ 256 ∷ 47 ∷ 256 ∷ 47 ∷ 256 ∷ 47 ∷ 256 ∷ 47 ∷ 256 ∷ [], entry (codes "/window-packet/{from}/{to}/{x0}/{y0}/{x1}/{y1}") resource.WindowPacket) ∷ []
+unfolding the_rows version_rows matchit_on_literals
+window_packet_rows = refl
+
+-- the last row has its place after the others
+pub window_packet_place : HasPlace (codes "/window-packet/{from}/{to}/{x0}/{y0}/{x1}/{y1}") (
+    with_row (codes "/topo/{step}") resource.Topo (
+    with_row (codes "/window/{step}/{x0}/{y0}/{x1}/{y1}") resource.Window (
+    with_row (codes "/packet/{from}/{to}") resource.Packet (
+    with_row (codes "/slice/{step}") resource.Slice version_rows))))
+unfolding version_rows matchit_on_literals
+window_packet_place = refl
 
 -- ---- the rows of whole paths
 
@@ -50,6 +64,7 @@ route_text resource.Slice = codes "/slice/{step}"
 route_text resource.Packet = codes "/packet/{from}/{to}"
 route_text resource.Window = codes "/window/{step}/{x0}/{y0}/{x1}/{y1}"
 route_text resource.Topo = codes "/topo/{step}"
+route_text resource.WindowPacket = codes "/window-packet/{from}/{to}/{x0}/{y0}/{x1}/{y1}"
 route_text resource.Edit = codes "/edit"
 
 -- what the router says of each row
@@ -58,7 +73,7 @@ entry_for r = entry (route_text r) r
 
 words : (first the_rows (codes "/info") ≡ Some (entry_for resource.Info)) × (first the_rows (codes "/pin") ≡ Some (entry_for resource.Pin))
     × (first the_rows (codes "/edit") ≡ Some (entry_for resource.Edit))
-unfolding the_rows matchit_on_literals
+unfolding the_rows version_rows matchit_on_literals
 words = (refl, refl, refl)
 
 -- parameters after a front of which one row is left
@@ -86,6 +101,8 @@ row_found resource.Slice (p ∷ []) parts some = with_parameters (codes "/slice/
 row_found resource.Packet (p ∷ q ∷ []) parts some = with_parameters (codes "/packet/") p (q ∷ []) _ packet_rows parts some
 row_found resource.Window (s ∷ a ∷ b ∷ c ∷ d ∷ []) parts some = with_parameters (codes "/window/") s (a ∷ b ∷ c ∷ d ∷ []) _ window_rows parts some
 row_found resource.Topo (p ∷ []) parts some = with_parameters (codes "/topo/") p [] _ topo_rows parts some
+row_found resource.WindowPacket (s ∷ t ∷ a ∷ b ∷ c ∷ d ∷ []) parts some =
+    with_parameters (codes "/window-packet/") s (t ∷ a ∷ b ∷ c ∷ d ∷ []) _ window_packet_rows parts some
 row_found r parameters parts some = absurd (omega (arith, count_is (parameter_count r) parameters some))
 
 -- ---- the row that the table gives

@@ -24,6 +24,7 @@ word_of resource.Slice = codes "slice"
 word_of resource.Packet = codes "packet"
 word_of resource.Window = codes "window"
 word_of resource.Topo = codes "topo"
+word_of resource.WindowPacket = codes "window-packet"
 word_of resource.Edit = codes "edit"
 
 -- how many parameters follow, each after a slash
@@ -35,6 +36,7 @@ parameter_count resource.Slice = 1
 parameter_count resource.Packet = 2
 parameter_count resource.Window = 5
 parameter_count resource.Topo = 1
+parameter_count resource.WindowPacket = 6
 parameter_count resource.Edit = 0
 
 -- the method that it takes
@@ -46,11 +48,13 @@ method_of resource.Slice = Get
 method_of resource.Packet = Get
 method_of resource.Window = Get
 method_of resource.Topo = Get
+method_of resource.WindowPacket = Get
 method_of resource.Edit = Post
 
 -- the rows of the table
 abbrev pub resources : List Resource
-resources = resource.Info ∷ resource.Pin ∷ resource.PinSeen ∷ resource.Slice ∷ resource.Packet ∷ resource.Window ∷ resource.Topo ∷ resource.Edit ∷ []
+resources = resource.Info ∷ resource.Pin ∷ resource.PinSeen ∷ resource.Slice ∷ resource.Packet ∷ resource.Window ∷ resource.Topo
+    ∷ resource.WindowPacket ∷ resource.Edit ∷ []
 
 -- how a method is written
 abbrev pub method_word : Allow → List ℕ
@@ -90,8 +94,17 @@ find_in (r ∷ rows) segments =
 -- ---- the request
 
 -- the ends of the window are in order
-abbrev pub ordered_window : ℕ → Window → Option Route
-ordered_window step w = if le_z w.x0 w.x1 && le_z w.y0 w.y1 then Some (route.Window step w) else None
+abbrev pub is_ordered : Window → Bool
+is_ordered w = le_z w.x0 w.x1 && le_z w.y0 w.y1
+
+-- the window that the next parameters spell, whose ends are in order
+abbrev pub window_at : Row → Option Window
+window_at parameters = do
+  x0 ← coordinate_at parameters
+  y0 ← coordinate_at x0.1
+  x1 ← coordinate_at y0.1
+  y1 ← coordinate_at x1.1
+  let area : Window = record { x0 = x0.0; y0 = y0.0; x1 = x1.0; y1 = y1.0 } in if is_ordered area then Some area else None
 
 -- What the parameters of a row spell, all in canonical decimal: versions and steps, of which none is above 4,294,967,295, and
 -- coordinates within the limits.
@@ -110,14 +123,16 @@ read_parameters resource.Packet parameters = do
   Some (route.Packet from.0 to.0)
 read_parameters resource.Window parameters = do
   step ← count_at parameters
-  x0 ← coordinate_at step.1
-  y0 ← coordinate_at x0.1
-  x1 ← coordinate_at y0.1
-  y1 ← coordinate_at x1.1
-  ordered_window step.0 (record { x0 = x0.0; y0 = y0.0; x1 = x1.0; y1 = y1.0 })
+  area ← window_at step.1
+  Some (route.Window step.0 area)
 read_parameters resource.Topo parameters = do
   step ← count_at parameters
   Some (route.Topo step.0)
+read_parameters resource.WindowPacket parameters = do
+  from ← count_at parameters
+  to ← count_at from.1
+  area ← window_at to.1
+  Some (route.WindowPacket from.0 to.0 area)
 read_parameters resource.Edit parameters = Some route.Edit
 
 -- what a path of this row asks for: another method goes before a number that is out of form

@@ -18,17 +18,22 @@ with_scan (Err e) r rows = rows
 abbrev pub with_row : List ℕ → Resource → Rows → Rows
 with_row text r rows = with_scan (parse_route text) r rows
 
--- the rows of the table, put in one after the other
+-- the rows of versions and of edits, put in one after the other
+unfoldable pub version_rows : Rows
+version_rows =
+    with_row (codes "/edit") resource.Edit (
+    with_row (codes "/pin/{seen}") resource.PinSeen (
+    with_row (codes "/pin") resource.Pin (
+    with_row (codes "/info") resource.Info [])))
+
+-- the rows of the table: after those the rows of what is read of a map
 unfoldable pub the_rows : Rows
 the_rows =
-    with_row (codes "/edit") resource.Edit (
+    with_row (codes "/window-packet/{from}/{to}/{x0}/{y0}/{x1}/{y1}") resource.WindowPacket (
     with_row (codes "/topo/{step}") resource.Topo (
     with_row (codes "/window/{step}/{x0}/{y0}/{x1}/{y1}") resource.Window (
     with_row (codes "/packet/{from}/{to}") resource.Packet (
-    with_row (codes "/slice/{step}") resource.Slice (
-    with_row (codes "/pin/{seen}") resource.PinSeen (
-    with_row (codes "/pin") resource.Pin (
-    with_row (codes "/info") resource.Info [])))))))
+    with_row (codes "/slice/{step}") resource.Slice version_rows))))
 
 -- the route can be read, and it conflicts with none of the rows
 abbrev pub has_place : {E : Type 0} → Result Scan E → Rows → Type 0

@@ -20,5 +20,5 @@ pub use head::{
 pub use head_reading::{head_asks, head_ends, read_head};
 pub use reply::{Reply, ShortReply, head_bytes, reply_bytes, short_reply};
 pub use request::{Allow, Route};
-pub use routing::{route, routes};
+pub use routing::{is_ordered, route, routes};
 pub use table::Routes;

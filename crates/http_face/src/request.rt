@@ -41,6 +41,8 @@ pub enum Route {
     Window(u32, Window),
     /// The slice at a step as a topology.
     Topo(u32),
+    /// The packet of a window from a step to a finer one.
+    WindowPacket(u32, u32, Window),
     /// A batch of edits.
     Edit,
     /// A parameter is no number in its range, or the ends of the window are out of order.
@@ -61,6 +63,7 @@ pub(crate) enum Resource {
     Packet,
     Window,
     Topo,
+    WindowPacket,
     Edit,
 }
 
@@ -74,7 +77,8 @@ impl Resource {
             | Resource::Slice
             | Resource::Packet
             | Resource::Window
-            | Resource::Topo => Allow::Get,
+            | Resource::Topo
+            | Resource::WindowPacket => Allow::Get,
             Resource::Pin | Resource::PinSeen | Resource::Edit => Allow::Post,
         }
     }

@@ -1,9 +1,8 @@
 //! How the route of a request is found. The router goes over the path, and what it takes there for the parameters of the
 //! row is read as numbers.
 
-ghost use Rattle.std.specs.Prelude.{◌≡◌};
-ghost use Rattle.http_face.specs.Routes.{route_of, route_of_path, path_of, read_parameters, request_of};
-ghost use Rattle.http_face.specs.declared.request.Resource.TheVariants.{Window as WindowResource};
+ghost use Rattle.std.specs.Prelude.{◌≡◌, ◌≤ℤ◌, IsTrue};
+ghost use Rattle.http_face.specs.Routes.{route_of, route_of_path, path_of, read_parameters, request_of, window_at, is_ordered};
 
 use crate::parameters::Parameters;
 use crate::request::{Resource, Route};
@@ -75,24 +74,37 @@ fn read_parameters(resource: Resource, mut parameters: Parameters) -> Option<Rou
             let from = parameters.count_at()?;
             Some(Route::Packet(from, parameters.count_at()?))
         }
-        Resource::Window => read_window(parameters),
+        Resource::Window => {
+            let step = parameters.count_at()?;
+            Some(Route::Window(step, window_at(parameters)?))
+        }
         Resource::Topo => Some(Route::Topo(parameters.count_at()?)),
+        Resource::WindowPacket => {
+            let from = parameters.count_at()?;
+            let to = parameters.count_at()?;
+            Some(Route::WindowPacket(from, to, window_at(parameters)?))
+        }
         Resource::Edit => Some(Route::Edit),
     }
 }
 
-/// A step and a window, whose ends are in order.
-fn read_window(mut parameters: Parameters) -> Option<Route>
-    ensures { result ≡ read_parameters WindowResource parameters.entry }
+/// The window that the next parameters spell, whose ends are in order.
+fn window_at(mut parameters: Parameters) -> Option<Window>
+    ensures { result ≡ window_at parameters.entry }
 {
-    let step = parameters.count_at()?;
     let x0 = parameters.coordinate_at()?;
     let y0 = parameters.coordinate_at()?;
     let x1 = parameters.coordinate_at()?;
     let y1 = parameters.coordinate_at()?;
-    if x0 <= x1 && y0 <= y1 {
-        Some(Route::Window(step, Window { x0, y0, x1, y1 }))
-    } else {
-        None
-    }
+    let area = Window { x0, y0, x1, y1 };
+    if is_ordered(area) { Some(area) } else { None }
+}
+
+/// Whether the ends of a window are in order, on each axis.
+pub fn is_ordered(area: Window) -> bool
+    ensures told { result ≡ is_ordered area }
+    ensures across { IsTrue result → area.x0 ≤ℤ area.x1 }
+    ensures up { IsTrue result → area.y0 ≤ℤ area.y1 }
+{
+    area.x0 <= area.x1 && area.y0 <= area.y1
 }

@@ -1,9 +1,9 @@
 //! The table of routes, by which a path is looked up.
 
-ghost use Rattle.std.specs.Prelude.{◌≡◌, Some, None, IfOk, IfSome, IfNone, OnOk};
+ghost use Rattle.std.specs.Prelude.{◌≡◌, [], Some, None, IfOk, IfSome, IfNone, OnOk};
 ghost use Rattle.http_face.specs.Parameters.{taken, AreTexts};
 ghost use Rattle.http_face.specs.Routes.{find_in, resources, segments_of};
-ghost use Rattle.http_face.specs.Table.{HasPlace, the_rows, with_row};
+ghost use Rattle.http_face.specs.Table.{HasPlace, the_rows, version_rows, with_row};
 
 use crate::request::Resource;
 use matchit::{InsertError, Match, Router};
@@ -39,19 +39,42 @@ fn filled(alloc: Global) -> Result<Router<Resource>, Memory>
     ensures { IfOk result (λ router. router ≡ the_rows) }
 {
     let mut router = Router::new(alloc);
-    put_in(&mut router, "/info", Resource::Info)?;
-    put_in(&mut router, "/pin", Resource::Pin)?;
-    put_in(&mut router, "/pin/{seen}", Resource::PinSeen)?;
-    put_in(&mut router, "/slice/{step}", Resource::Slice)?;
-    put_in(&mut router, "/packet/{from}/{to}", Resource::Packet)?;
+    put_version_rows(&mut router)?;
+    put_map_rows(&mut router)?;
+    Ok(router)
+}
+
+/// The rows of versions and of edits.
+fn put_version_rows(router: &mut Router<Resource>) -> Result<(), Memory>
+    requires { router.old ≡ [] }
+    ensures { OnOk result (router.new ≡ version_rows) }
+{
+    put_in(router, "/info", Resource::Info)?;
+    put_in(router, "/pin", Resource::Pin)?;
+    put_in(router, "/pin/{seen}", Resource::PinSeen)?;
+    put_in(router, "/edit", Resource::Edit)?;
+    Ok(())
+}
+
+/// The rows of what is read of a map.
+fn put_map_rows(router: &mut Router<Resource>) -> Result<(), Memory>
+    requires { router.old ≡ version_rows }
+    ensures { OnOk result (router.new ≡ the_rows) }
+{
+    put_in(router, "/slice/{step}", Resource::Slice)?;
+    put_in(router, "/packet/{from}/{to}", Resource::Packet)?;
     put_in(
-        &mut router,
+        router,
         "/window/{step}/{x0}/{y0}/{x1}/{y1}",
         Resource::Window,
     )?;
-    put_in(&mut router, "/topo/{step}", Resource::Topo)?;
-    put_in(&mut router, "/edit", Resource::Edit)?;
-    Ok(router)
+    put_in(router, "/topo/{step}", Resource::Topo)?;
+    put_in(
+        router,
+        "/window-packet/{from}/{to}/{x0}/{y0}/{x1}/{y1}",
+        Resource::WindowPacket,
+    )?;
+    Ok(())
 }
 
 /// One row more, whose route is well formed and conflicts with none that is there.

@@ -8,12 +8,9 @@ use Rattle.refine_packets.specs.declared.fail.PacketFail.{PacketFail}
 use Rattle.refine_packets.specs.declared.fail.PacketFail.TheVariants as fail
 use Rattle.tgap_model.specs.Base.{BaseMap}
 use Rattle.tgap_model.specs.History.{history_of}
-use Rattle.tgap_model.specs.Merged.{merged}
-use Rattle.tgap_model.specs.Records.{packet_of}
-use Rattle.wire_text.specs.SliceTexts.{packet_text}
 use Rattle.line_forms.specs.Texts.{step_too_high_text}
 use Rattle.session.specs.declared.answer.Answer.{Answer}
-use Rattle.session.specs.Answers.{plain, said, not_coarser_words, in_history, at_step, packet_answer}
+use Rattle.session.specs.Answers.{plain, said, not_coarser_words, in_history, at_step, to_finer}
 
 nat_lt_no : (n k : ℕ) → k ≤ n → nat_lt n k ≡ false
 nat_lt_no n k h = grind (arith, nat_tests)
@@ -57,7 +54,6 @@ gave_packet r x n from to e coarser high = elim (cases_lt from to) [
   ]
 ]
 
--- the answer for a packet that leads to no coarser slice
-pub finer_answer : (m : BaseMap) (from to : ℕ) → to ≤ from → packet_answer m from to ≡ at_step m from (packet_text (packet_of (merged m) from to))
-finer_answer m from to h =
-    ap (λ b. if b then said 400 (not_coarser_words from to) else at_step m from (packet_text (packet_of (merged m) from to))) (nat_lt_no from to h)
+-- the answer with a text that leads to no coarser slice
+pub finer_answer : (m : BaseMap) (from to : ℕ) (text : List ℕ) → to ≤ from → to_finer m from to text ≡ at_step m from text
+finer_answer m from to text h = ap (λ b. if b then said 400 (not_coarser_words from to) else at_step m from text) (nat_lt_no from to h)

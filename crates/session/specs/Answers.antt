@@ -1,5 +1,5 @@
 -- What is answered from a version of a map.
-use Rattle.std.specs.Prelude.{◌≡◌, ◌↔◌, IsTrue, IsSome, ℕ, ◌==◌, ◌&&◌, int_le, List, [], ◌∷◌, length, nat_lt, codes, decimal, Option, Some, None, option_map, Result, Ok, Err, if◌then◌else◌}
+use Rattle.std.specs.Prelude.{◌≡◌, ◌↔◌, IsTrue, IsSome, ℕ, ◌==◌, List, [], ◌∷◌, length, nat_lt, codes, decimal, Option, Some, None, option_map, Result, Ok, Err, if◌then◌else◌}
 use Rattle.tgap_model.specs.declared.geometry.Window.{Window}
 use Rattle.tgap_model.specs.Base.{BaseMap, count_points}
 use Rattle.tgap_model.specs.Partition.{map_fault}
@@ -7,14 +7,16 @@ use Rattle.tgap_model.specs.History.{history_of}
 use Rattle.tgap_model.specs.Merged.{merged}
 use Rattle.tgap_model.specs.Slice.{slice, window_of}
 use Rattle.tgap_model.specs.Records.{packet_of}
+use Rattle.tgap_model.specs.WindowRecords.{window_packet_of}
 use Rattle.line_forms.specs.Texts.{line, step_too_high_text, fault_text}
-use Rattle.wire_text.specs.SliceTexts.{slice_text, window_text, packet_text}
+use Rattle.wire_text.specs.SliceTexts.{slice_text, window_text, packet_text, window_packet_text}
 use Rattle.slice_read.specs.Ends.{slice_ends}
 use Rattle.topo_write.specs.declared.flat.FlatRing.{FlatRing}
 use Rattle.topo_write.specs.Topology.{export}
 use Rattle.edit_laws.specs.Edits.{edited}
 use Rattle.http_face.specs.declared.request.Route.{Route}
 use Rattle.http_face.specs.declared.request.Route.TheVariants as route
+use Rattle.http_face.specs.Routes.{is_ordered}
 use Rattle.http_face.specs.Replies.{is_status}
 use Rattle.session.specs.declared.answer.Answer.{Answer}
 use Rattle.session.specs.Items.{Asked, Route as RouteAsked, FaultyHead}
@@ -54,6 +56,14 @@ edit_fault_words fault = codes "edit line" ∷ decimal fault.0 ∷ codes "cause"
 
 -- ---- what is read from a version
 
+-- that a number of the request is out of form, or the ends of its window are out of order
+abbrev pub bad_number : Answer
+bad_number = said 400 (codes "bad number" ∷ [])
+
+-- an answer over a window, where its ends are in order
+abbrev pub over_window : Window → Answer → Answer
+over_window area answer = if is_ordered area then answer else bad_number
+
 -- an answer at a step, or that the history has no such step
 abbrev pub in_history : BaseMap → ℕ → Answer → Answer
 in_history m step answer = if nat_lt (length (history_of m)) step then plain 400 (step_too_high_text (length (history_of m))) else answer
@@ -62,17 +72,21 @@ in_history m step answer = if nat_lt (length (history_of m)) step then plain 400
 abbrev pub at_step : BaseMap → ℕ → List ℕ → Answer
 at_step m step text = in_history m step (plain 200 text)
 
--- the packet between two steps, where it leads to no coarser slice
-abbrev pub packet_answer : BaseMap → ℕ → ℕ → Answer
-packet_answer m from to =
-    if nat_lt from to then said 400 (not_coarser_words from to)
-    else at_step m from (packet_text (packet_of (merged m) from to))
+-- a text that leads from the slice at a step to that at another, which is no coarser one
+abbrev pub to_finer : BaseMap → ℕ → ℕ → List ℕ → Answer
+to_finer m from to text = if nat_lt from to then said 400 (not_coarser_words from to) else at_step m from text
 
--- what a window shows, where its ends are in order
+-- the packet between two steps
+abbrev pub packet_answer : BaseMap → ℕ → ℕ → Answer
+packet_answer m from to = to_finer m from to (packet_text (packet_of (merged m) from to))
+
+-- what a window shows
 abbrev pub window_answer : BaseMap → ℕ → Window → Answer
-window_answer m step area =
-    if int_le area.x0 area.x1 && int_le area.y0 area.y1 then at_step m step (window_text area (window_of area (slice m step)))
-    else said 400 (codes "bad number" ∷ [])
+window_answer m step area = over_window area (at_step m step (window_text area (window_of area (slice m step))))
+
+-- the packet of a window between two steps
+abbrev pub window_packet_answer : BaseMap → ℕ → ℕ → Window → Answer
+window_packet_answer m from to area = over_window area (to_finer m from to (window_packet_text (window_packet_of (merged m) area from to)))
 
 -- a topology, or the face that is no polygon with the key of its ring
 abbrev pub exported : Result (List ℕ) FlatRing → Answer
@@ -90,7 +104,8 @@ route_answer number m (route.Slice step) = Some (at_step m step (slice_text (sli
 route_answer number m (route.Packet from to) = Some (packet_answer m from to)
 route_answer number m (route.Window step area) = Some (window_answer m step area)
 route_answer number m (route.Topo step) = Some (topology_answer m step)
-route_answer number m route.BadNumber = Some (said 400 (codes "bad number" ∷ []))
+route_answer number m (route.WindowPacket from to area) = Some (window_packet_answer m from to area)
+route_answer number m route.BadNumber = Some bad_number
 route_answer number m (route.WrongMethod allow) =
     Some (record { status = 405; allow = Some allow; body = line (codes "wrong method" ∷ []) })
 route_answer number m route.NoRoute = Some (said 404 (codes "no route" ∷ []))

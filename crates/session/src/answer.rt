@@ -4,7 +4,7 @@ ghost use Rattle.std.specs.Prelude.{◌≡◌, ◌∷◌, [], IfOk};
 ghost use Rattle.line_forms.specs.Texts.{line};
 ghost use Rattle.http_face.specs.declared.head.TheConstants.{CONTENT_TOO_LARGE};
 ghost use Rattle.http_face.specs.Replies.{IsReply, reply_text};
-ghost use Rattle.session.specs.Answers.{IsAnswer, plain, numbered, fault_answer};
+ghost use Rattle.session.specs.Answers.{IsAnswer, plain, numbered, bad_number, fault_answer};
 ghost use Rattle.session.specs.Outcomes.{sent};
 
 use crate::sending::Sending;
@@ -49,6 +49,14 @@ pub(crate) fn numbered_line(alloc: Global, phrase: &[u8], number: u64) -> Result
     put_field(alloc, &mut text, i128::from(number))?;
     text.push_slice(b"\n")?;
     Ok(text)
+}
+
+/// The answer to a number out of form, and to a window whose ends are out of order.
+pub(crate) fn bad_number(alloc: Global) -> Result<Answer, Memory>
+    ensures exact { IfOk result (λ a. a ≡ bad_number) }
+    ensures sendable { IfOk result IsAnswer }
+{
+    Ok(plain(400, line(alloc, b"bad number")?))
 }
 
 /// The answer to a head at fault, by the status.

@@ -54,7 +54,8 @@ fn is_same(a: Route, b: Route) -> bool
         Route::Packet(from, to) =>
             matches!(b, Route::Packet(other, last) if from == other && to == last),
         Route::Topo(step) => matches!(b, Route::Topo(other) if step == other),
-        Route::Window(_, _) | Route::BadNumber | Route::WrongMethod(_) | Route::NoRoute => false,
+        Route::Window(_, _) | Route::WindowPacket(_, _, _) => false,
+        Route::BadNumber | Route::WrongMethod(_) | Route::NoRoute => false,
         Route::Pin | Route::PinSeen(_) | Route::Edit => false,
     }
 }

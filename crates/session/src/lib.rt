@@ -19,6 +19,7 @@ mod talk;
 mod topology;
 mod turn;
 mod versions;
+mod window_packet;
 
 pub use connection::{serve_connection, serve_connection_at};
 pub use desk::Desk;

@@ -18,12 +18,13 @@ ghost use Rattle.session.specs.Versions.{IsPin};
 ghost use Rattle.session.specs.Answers.{IsAnswer, plain, info_words, not_coarser_words, route_answer, packet_answer, window_answer, at_step};
 ghost use Rattle.session.specs.Turns.{Reads};
 
-use crate::answer::{Answer, line, plain, reply_of};
+use crate::answer::{Answer, bad_number, line, plain, reply_of};
 use crate::kept_texts::{KEPT_BYTES, KeptTexts, ReplyKey};
 use crate::sending::Sending;
 use crate::topology::topology_answer;
+use crate::window_packet::window_packet_answer;
 use built_text::{packet_text_at, slice_text_at};
-use http_face::{Reply, Route, reply_bytes};
+use http_face::{Reply, Route, is_ordered, reply_bytes};
 use map_version::Version;
 use plain_io::{put_count, put_field, put_size};
 use refine_packets::PacketFail;
@@ -62,7 +63,7 @@ fn info_line(alloc: Global, number: u64, built: &Built) -> Result<Text, Memory>
 }
 
 /// The line of two steps of which the first is below the second.
-fn not_coarser_line(alloc: Global, from: u32, to: u32) -> Result<Text, Memory>
+pub(crate) fn not_coarser_line(alloc: Global, from: u32, to: u32) -> Result<Text, Memory>
     ensures { IfOk result (λ text. text ≡ line (not_coarser_words from to)) }
 {
     let mut text = Text::from_slice(alloc, b"not coarser")?;
@@ -112,10 +113,10 @@ fn window_answer(alloc: Global, built: &Built, step: u32, area: Window) -> Resul
     ensures exact { IfOk result (λ a. a ≡ window_answer built.now step area) }
     ensures sendable { IfOk result IsAnswer }
 {
-    if area.x0 <= area.x1 && area.y0 <= area.y1 {
+    if is_ordered(area) {
         ordered_window_answer(alloc, built, step, area)
     } else {
-        Ok(plain(400, line(alloc, b"bad number")?))
+        bad_number(alloc)
     }
 }
 
@@ -151,7 +152,8 @@ pub(crate) fn route_answer(
         Route::Packet(from, to) => packet_answer(alloc, built, from, to),
         Route::Window(step, area) => window_answer(alloc, built, step, area),
         Route::Topo(step) => topology_answer(alloc, built, step),
-        Route::BadNumber => Ok(plain(400, line(alloc, b"bad number")?)),
+        Route::WindowPacket(from, to, area) => window_packet_answer(alloc, built, from, to, area),
+        Route::BadNumber => bad_number(alloc),
         Route::WrongMethod(allow) => Ok(Answer {
             status: 405,
             allow: Some(allow),
@@ -166,7 +168,8 @@ pub(crate) fn route_answer(
 fn is_kept(asked: Route) -> bool {
     match asked {
         Route::Info | Route::Slice(_) | Route::Packet(_, _) | Route::Topo(_) => true,
-        Route::Window(_, _) | Route::BadNumber | Route::WrongMethod(_) | Route::NoRoute => false,
+        Route::Window(_, _) | Route::WindowPacket(_, _, _) => false,
+        Route::BadNumber | Route::WrongMethod(_) | Route::NoRoute => false,
         Route::Pin | Route::PinSeen(_) | Route::Edit => false,
     }
 }
