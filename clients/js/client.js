@@ -7,11 +7,11 @@
 
 import { OtherHistory, OtherVersion, Refused, Unreachable, sentenceOf } from "./errors.js";
 import { areaOf, boxOf, holdsBox, joinBoxes, lowestAbove } from "./places.js";
-import { Refined } from "./replay.js";
-import { readInfo, readPacket, readSlice, readWindow } from "./wire.js";
+import { Refined, RefinedWindow } from "./replay.js";
+import { readInfo, readPacket, readSlice, readWindow, readWindowPacket } from "./wire.js";
 
 export { OtherHistory, OtherVersion, Refused, Unreachable } from "./errors.js";
-export { Refined, Unfit } from "./replay.js";
+export { Refined, RefinedWindow, Unfit } from "./replay.js";
 export { BadText } from "./wire.js";
 
 /** The greatest coordinate of a map. */
@@ -140,6 +140,24 @@ export class Client {
 
   window(step, { x0, y0, x1, y1 }) {
     return this.#give(`window/${step}/${x0}/${y0}/${x1}/${y1}`, readWindow);
+  }
+
+  /** What leads from the window of a slice to that of a finer one. */
+  windowPacket(from, to, { x0, y0, x1, y1 }) {
+    return this.#give(`window-packet/${from}/${to}/${x0}/${y0}/${x1}/${y1}`, readWindowPacket);
+  }
+
+  /** The window of a slice, which packets can refine. */
+  async refinedWindow(step, area) {
+    return new RefinedWindow(await this.window(step, area));
+  }
+
+  /** Asks for the packet from a window to a finer step, and follows it. The window must be of the version that is shown. */
+  async refineWindow(window, step) {
+    const { version, history } = this;
+    const packet = await this.windowPacket(window.step, step, window.area);
+    this.keepTo({ version, history });
+    window.replay(packet);
   }
 
   /** A slice that packets can refine. */

@@ -2,7 +2,7 @@
 
 import { samePoint } from "./wire.js";
 
-/** A record that does not fit: `rule` is the least of the seven rules that it breaks. */
+/** A record that does not fit: `rule` is the least of the rules that it breaks, seven for a slice and eight for a window. */
 export class Unfit extends Error {
   constructor(step, rule) {
     super(`the record of step ${step} breaks rule ${rule}`);
@@ -79,6 +79,70 @@ export class Refined {
   }
 }
 
+/** The window of a slice, which packets of that window refine: what they do not say is for which window they are, so that of another one is refused here. */
+export class RefinedWindow {
+  constructor(window) {
+    this.area = { ...window.area };
+    this.step = window.step;
+    this.faces = new Map(window.faces);
+    this.edges = new Map(window.edges);
+  }
+
+  /** A copy that shares the edges, which never change. */
+  copy() {
+    return new RefinedWindow(this);
+  }
+
+  /** What undoing the record makes of the edges, without those that come: the pieces of mended edges as far as they touch the window, and all other edges. */
+  #kept(record) {
+    const mends = new Map(record.mends.map((mend) => [mend.key, mend]));
+    return [...this.edges.values()].flatMap((edge) => {
+      const mend = mends.get(edge.key);
+      const become = refined(record, mend, edge);
+      return mend ? become.filter((piece) => touches(this.area, piece.points)) : become;
+    });
+  }
+
+  /** The rows, old and new, of the faces beside these edges. */
+  #rows(record, edges) {
+    const beside = new Set(edges.flatMap((edge) => [edge.left, edge.right]));
+    return new Map([...this.faces, ...record.faces].filter(([face]) => beside.has(face)));
+  }
+
+  /** The least rule that the record breaks, from 1; 0 where it fits. */
+  brokenRule(record) {
+    const rule = 1 + [fitsStep, fitsFacesIn, fitsMends, fitsPuts, fitsPieces, fitsComes].findIndex((fits) => !fits(this, record));
+    if (rule !== 0) return rule;
+    const edges = [...this.#kept(record), ...record.comes];
+    if (new Set(edges.map((edge) => edge.key)).size !== edges.length) return 7;
+    const rows = this.#rows(record, edges);
+    return edges.every(({ left, right }) => [left, right].every((face) => face === 0 || rows.has(face))) ? 0 : 8;
+  }
+
+  /** Takes the window one step back; throws Unfit and changes nothing where the record does not fit. */
+  undo(record) {
+    const rule = this.brokenRule(record);
+    if (rule !== 0) throw new Unfit(record.step, rule);
+    const edges = [...this.#kept(record), ...record.comes];
+    this.faces = this.#rows(record, edges);
+    this.edges = new Map(edges.map((edge) => [edge.key, edge]));
+    this.step -= 1;
+  }
+
+  /** Undoes the records of a packet of this window that begins at its step, as far as they fit. */
+  replay(packet) {
+    const isSame = ["x0", "y0", "x1", "y1"].every((end) => packet.area[end] === this.area[end]);
+    if (this.step !== packet.from || !isSame) throw new Unfit(packet.from, 1);
+    for (const record of packet.records) this.undo(record);
+  }
+}
+
+/** Whether the bounding box of the points overlaps or touches the window. */
+function touches({ x0, y0, x1, y1 }, points) {
+  const some = (holds) => points.some(holds);
+  return some(([x]) => x <= x1) && some(([x]) => x >= x0) && some(([, y]) => y <= y1) && some(([, y]) => y >= y0);
+}
+
 function refined(record, mend, edge) {
   const become = (side) => (face) => (face === record.made ? side : face);
   if (!mend) {
@@ -153,4 +217,13 @@ function fitsKeys(slice, record) {
   const gone = new Set(record.mends.map((mend) => mend.key));
   const come = [...record.mends.flatMap((mend) => mend.pieces), ...record.ended].map((it) => it.key);
   return new Set(come).size === come.length && come.every((key) => gone.has(key) || !slice.edges.has(key));
+}
+
+function fitsFacesIn(window, { loser, winner, made }) {
+  return !window.faces.has(loser) && !window.faces.has(winner) && new Set([loser, winner, made, 0]).size === 4;
+}
+
+function fitsComes(window, { faces, comes }) {
+  const numbers = faces.map(([face]) => face);
+  return ascend(comes.map((edge) => edge.key)) && ascend(numbers) && numbers.every((face) => face !== 0 && !window.faces.has(face));
 }

@@ -170,6 +170,29 @@ export function readPacket(text) {
   return { from, to, records };
 }
 
+function readWindowRecord(lines, expected) {
+  const [step, loser, winner, made, faceCount, mendCount, comeCount] = lines.next("step", 7).map((word) => lines.count(word));
+  if (step !== expected) lines.fail();
+  const record = { step, loser, winner, made, faces: [], mends: [], comes: [] };
+  for (let i = 0; i < faceCount; i++) record.faces.push(lines.next("face", 2).map((word) => lines.count(word)));
+  for (let i = 0; i < mendCount; i++) record.mends.push(readMend(lines));
+  for (let i = 0; i < comeCount; i++) record.comes.push(readEdge(lines));
+  return record;
+}
+
+/** A packet of a window: as a packet, with its `area`, and in its records the rows of `faces` and the edges (`comes`) that come into the window. */
+export function readWindowPacket(text) {
+  const lines = new Lines(text);
+  const words = lines.next("window-packet", 6);
+  const [from, to] = words.slice(0, 2).map((word) => lines.count(word));
+  const [x0, y0, x1, y1] = words.slice(2).map((word) => lines.coordinate(word));
+  if (from < to) lines.fail();
+  const records = [];
+  for (let step = from; step > to; step--) records.push(readWindowRecord(lines, step));
+  lines.end();
+  return { from, to, area: { x0, y0, x1, y1 }, records };
+}
+
 /** The numbers in the answer to `/info`. */
 export function readInfo(text) {
   const words = text.trimEnd().split(" ");
@@ -203,18 +226,36 @@ export function windowText(slice) {
   return sliceLines(`window ${slice.step} ${x0} ${y0} ${x1} ${y1}`, slice);
 }
 
+function mendLines(mend) {
+  return [
+    `mend ${mend.key} ${mend.puts.length} ${mend.pieces.length}`,
+    ...mend.puts.map((put) => `put ${put.at} ${put.point[0]} ${put.point[1]}`),
+    ...mend.pieces.map((piece) => `piece ${piece.key} ${piece.last} ${piece.side} ${piece.turned ? 1 : 0}`),
+  ];
+}
+
 function recordLines(r) {
   return [
     `step ${r.step} ${r.loser} ${r.loserClass} ${r.winner} ${r.winnerClass} ${r.made} ${r.mends.length} ${r.ended.length}`,
-    ...r.mends.flatMap((mend) => [
-      `mend ${mend.key} ${mend.puts.length} ${mend.pieces.length}`,
-      ...mend.puts.map((put) => `put ${put.at} ${put.point[0]} ${put.point[1]}`),
-      ...mend.pieces.map((piece) => `piece ${piece.key} ${piece.last} ${piece.side} ${piece.turned ? 1 : 0}`),
-    ]),
+    ...r.mends.flatMap(mendLines),
     ...r.ended.map(edgeLine),
+  ];
+}
+
+function windowRecordLines(r) {
+  return [
+    `step ${r.step} ${r.loser} ${r.winner} ${r.made} ${r.faces.length} ${r.mends.length} ${r.comes.length}`,
+    ...r.faces.map(([face, ofClass]) => `face ${face} ${ofClass}`),
+    ...r.mends.flatMap(mendLines),
+    ...r.comes.map(edgeLine),
   ];
 }
 
 export function packetText(packet) {
   return [`packet ${packet.from} ${packet.to}`, ...packet.records.flatMap(recordLines), "end", ""].join("\n");
+}
+
+export function windowPacketText(packet) {
+  const { x0, y0, x1, y1 } = packet.area;
+  return [`window-packet ${packet.from} ${packet.to} ${x0} ${y0} ${x1} ${y1}`, ...packet.records.flatMap(windowRecordLines), "end", ""].join("\n");
 }

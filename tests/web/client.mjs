@@ -6,10 +6,10 @@ import { tmpdir } from "node:os";
 import path from "node:path";
 import { fileURLToPath } from "node:url";
 import { promisify } from "node:util";
-import { Client, OtherVersion, Refused, Unreachable } from "../../clients/js/client.js";
+import { Client, OtherVersion, Refused, Unfit, Unreachable } from "../../clients/js/client.js";
 import { pictureOfSlice, pictureOfWindow } from "../../clients/js/pictures.js";
 import { areaOf, boxOf } from "../../clients/js/places.js";
-import { sliceText } from "../../clients/js/wire.js";
+import { readWindowPacket, sliceText, windowPacketText, windowText } from "../../clients/js/wire.js";
 import { Tally, dice, gridListing, serve, tgap, thrown } from "./lib.mjs";
 import { lives } from "./lives.mjs";
 import { refusals } from "./refusals.mjs";
@@ -79,6 +79,63 @@ async function refines(words, client) {
   }
 }
 
+/** Windows that packets refine are those that are served; a packet of another window, or a record that breaks a rule, changes nothing. */
+async function refinesWindows(name, client, random) {
+  const { steps } = await client.info();
+  const all = boxOf((await client.refined(0)).edges.values());
+  for (let i = 0; i < 40; i++) {
+    const span = Math.max(1, Math.floor((all.x1 - all.x0) * random() ** 2));
+    const [x0, y0] = [all.x0 + random() * (all.x1 - all.x0), all.y0 + random() * (all.y1 - all.y0)].map(Math.floor);
+    const area = { x0, y0, x1: x0 + span, y1: y0 + span };
+    const [from, to] = [random(), random()].map((part) => Math.floor(part * (steps + 1))).sort((a, b) => b - a);
+    const map = await client.refinedWindow(from, area);
+    const packet = await client.windowPacket(from, to, area);
+    tally.equal(`${name}: a packet is read and written`, windowPacketText(packet), windowPacketText(readWindowPacket(windowPacketText(packet))));
+    const before = windowText(map);
+    const other = { ...packet, area: { ...area, x1: area.x1 + 1 } };
+    tally.equal(`${name}: a packet of another window`, [ruleOf(() => map.replay(other)), windowText(map)].join("\n"), ["1", before].join("\n"));
+    await client.refineWindow(map, to);
+    tally.equal(`${name}: window ${JSON.stringify(area)} from step ${from} to ${to}`, windowText(map), windowText(await client.window(to, area)));
+  }
+  await breaksRules(name, client, steps, all);
+}
+
+/** The rule that a call says is broken, or none. */
+function ruleOf(call) {
+  try {
+    call();
+    return "none";
+  } catch (error) {
+    if (!(error instanceof Unfit)) throw error;
+    return String(error.rule);
+  }
+}
+
+/** Records of the whole plane that break one rule alone. */
+async function breaksRules(name, client, steps, area) {
+  const { records } = await client.windowPacket(steps, 0, area);
+  const map = await client.refinedWindow(steps, area);
+  const [record] = records;
+  const [mend] = record.mends;
+  const broken = [
+    [1, { step: record.step + 1 }],
+    [2, { loser: record.winner }],
+    [3, { mends: [...record.mends, mend] }],
+    [4, { mends: [{ ...mend, puts: [{ at: 0, point: [0, 0] }, ...mend.puts] }, ...record.mends.slice(1)] }],
+    [5, { mends: [{ ...mend, pieces: [] }, ...record.mends.slice(1)] }],
+    [6, { faces: [...record.faces, [0, 0]] }],
+    [7, { comes: [...record.comes, { ...record.comes[0], key: record.mends[0].pieces[0].key }].sort((a, b) => a.key - b.key) }],
+    [8, { faces: record.faces.slice(1) }],
+  ];
+  tally.holds(`${name}: there is an edge to mend, and one that comes`, mend !== undefined && record.comes.length > 0);
+  for (const [rule, twisted] of broken) {
+    const before = windowText(map);
+    tally.equal(`${name}: rule ${rule}`, [ruleOf(() => map.undo({ ...record, ...twisted })), windowText(map)].join("\n"), [String(rule), before].join("\n"));
+  }
+  map.undo(record);
+  tally.equal(`${name}: a step back`, windowText(map), windowText(await client.window(steps - 1, area)));
+}
+
 async function findsFaces(name, client, random) {
   const { steps } = await client.info();
   for (const step of [0, Math.floor(steps / 2), steps - 2]) {
@@ -145,6 +202,7 @@ async function maps() {
       const client = new Client(root);
       await refines(words, client);
       if (words.length === 1 && words[0] !== grid) continue;
+      await refinesWindows(words[0], client, dice(3));
       await findsFaces(words[0], client, dice(1));
       await paintsWindows(words[0], client, dice(2));
     } finally {
