@@ -36,7 +36,7 @@ starts_front n bytes rest h reads short = record {
   short = short;
 }
 
-starts_stays : (bytes more : List ℕ) (h : RequestHead) → StartsWith bytes h → StartsWith (bytes ++ more) h
+pub starts_stays : (bytes more : List ℕ) (h : RequestHead) → StartsWith bytes h → StartsWith (bytes ++ more) h
 starts_stays bytes more h s = record { rest = s.rest ++ more; reads = ReadsRequest-append bytes h s.rest more s.reads; short = s.short }
 
 hopeless_stays : (bytes more : List ℕ) → IsHopeless bytes → IsHopeless (bytes ++ more)

@@ -7,8 +7,10 @@ use Rattle.http_face.specs.declared.request.Route.{Route}
 use Rattle.http_face.specs.Asks.{TellsAsks}
 use Rattle.http_face.specs.declared.head.HeadEnds.TheVariants.{Whole}
 use Rattle.http_face.specs.Heads.{headers_of, body_of, closes, told_of}
+use Rattle.http_face.proofs.HeadLaws.{starts_stays}
 use Rattle.session.specs.Items.{LacksBody}
-use Rattle.session.specs.Coming.{BeginsWith}
+use Rattle.session.specs.declared.coming.NextRequest.{NextRequest}
+use Rattle.session.specs.Coming.{BeginsWith, BeginsHead}
 use Rattle.session.specs.Reading.{Received}
 
 -- what a whole head tells of it
@@ -55,6 +57,14 @@ whole_lacks bytes size body close asked (h, starts, is, asks_is) few =
       lacks = omega (arith, told.0);
       bytes_are = starts.reads.1;
     }
+
+-- a head stays, where bytes follow
+pub head_stays : (bytes more : List ℕ) (next : NextRequest) → BeginsHead bytes next → BeginsHead (bytes ++ more) next
+head_stays bytes more next (h, starts, is, asks_is) = (h, starts_stays bytes more h starts, is, asks_is)
+
+-- and where bytes were taken
+pub head_received : (before now : Option (List ℕ)) (held room : List ℕ) (next : NextRequest) → Received before now held room → BeginsHead held next → BeginsHead room next
+head_received before now held room next (p, f, e) head = subst (λ b. BeginsHead b next) (sym e) (head_stays held p next head)
 
 -- nothing was taken
 pub received_nothing : (taken : Option (List ℕ)) (held : List ℕ) → Received taken taken held held

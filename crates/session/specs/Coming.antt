@@ -1,14 +1,17 @@
 -- What the bytes that are held begin with, and what comes next on a connection.
-use Rattle.std.specs.Prelude.{◌≡◌, ℕ, ◌⊎◌, Bool, true, false, List, ◌++◌, length}
+use Rattle.std.specs.Prelude.{◌≡◌, ℕ, ◌+◌, ◌<◌, ◌≤◌, ⊤, ◌⊎◌, Bool, true, false, List, ◌++◌, length}
 use Rattle.httparse.specs.Grammar.{RequestHead, print_request}
 use Rattle.tgap_model.specs.Faults.{Rises}
 use Rattle.http_face.specs.declared.head.TheConstants.{BAD_REQUEST, CONTENT_TOO_LARGE}
-use Rattle.http_face.specs.declared.head.HeadEnds.TheVariants.{Bad}
+use Rattle.http_face.specs.declared.head.HeadEnds.TheVariants.{More, Bad}
+use Rattle.http_face.specs.declared.head.HeadAsks.TheVariants.{Whole}
+use Rattle.http_face.specs.Asks.{TellsAsks}
 use Rattle.http_face.specs.Heads.{headers_of, closes, TellsHead}
 use Rattle.http_face.specs.Routes.{route_of}
+use Rattle.session.specs.declared.room.TheConstants.{ROOM}
 use Rattle.session.specs.declared.coming.NextRequest.{NextRequest}
 use Rattle.session.specs.declared.coming.Coming.{Coming}
-use Rattle.session.specs.declared.coming.Coming.TheVariants.{Request, Fault, Part}
+use Rattle.session.specs.declared.coming.Coming.TheVariants.{Head, Fault, Part}
 use Rattle.session.specs.declared.coming.Arrival.{Arrival}
 use Rattle.session.specs.declared.coming.Arrival.TheVariants as arrival
 use Rattle.session.specs.Items.{IsRequest, IsPart}
@@ -30,10 +33,20 @@ pub record BeginsAtFault (bytes : List ℕ) (status : ℕ) : Type 0 where
   pub fault : TellsHead bytes (Bad status)
   pub either : (status ≡ BAD_REQUEST) ⊎ (status ≡ CONTENT_TOO_LARGE)
 
+-- a whole and good head stands there, which announces a body of this size and asks for this
+abbrev pub BeginsHead : List ℕ → NextRequest → Type 0
+BeginsHead bytes next = TellsAsks bytes (Whole next.head next.body next.close next.asked)
+
 abbrev pub IsComing : List ℕ → Coming → Type 0
-IsComing bytes (Request next) = BeginsWith bytes next
+IsComing bytes (Head next) = BeginsHead bytes next
 IsComing bytes (Fault status) = BeginsAtFault bytes status
-IsComing bytes Part = IsPart bytes
+IsComing bytes Part = TellsHead bytes More
+
+-- there is room for what is awaited: for the whole request, or for more of its head
+abbrev pub HasRoom : List ℕ → Coming → Type 0
+HasRoom held (Head next) = next.head + next.body ≤ ROOM
+HasRoom held (Fault status) = ⊤
+HasRoom held Part = length held < ROOM
 
 abbrev pub IsArrival : List ℕ → Arrival → Type 0
 IsArrival bytes (arrival.Request next) = BeginsWith bytes next
