@@ -3,6 +3,7 @@ use Rattle.std.specs.Prelude.{◌≡◌, ◌+◌, ◌-◌, ◌^◌, ℕ, List, [
 use Rattle.std.specs.Arc.{arc_value}
 use Rattle.atomic_table.specs.Seated.{TableId}
 use Rattle.tgap_model.specs.declared.holds.Holds as Held
+use Rattle.tgap_model.specs.declared.keep.Keep as Keeper
 use Rattle.version_store.specs.declared.name.StoreName as Named
 use Rattle.version_store.specs.declared.seat.SeatOf.{SeatOf}
 use Rattle.version_store.specs.declared.press.PressOf.{PressOf}
@@ -23,15 +24,20 @@ module _ {V P : Type 0} {held : Held.Ghosts V} where
   abbrev pub fresh_places : FreshOf V P held → ℕ
   fresh_places f = f.places
 
-module _ {V N P : Type 0} {held : Held.Ghosts V} {named : Named.Ghosts N} where
+module _ {V N K P : Type 0} {held : Held.Ghosts V} {named : Named.Ghosts N} {keep : Keeper.Ghosts K} where
   -- the list of the published versions, as the press knows it: all of them
-  abbrev pub press_versions : PressOf V N P held named → List V
+  abbrev pub press_versions : PressOf V N K P held named keep → List V
   press_versions press = press.place.me.0.list
 
   -- how many versions there may be
-  abbrev pub press_limit : PressOf V N P held named → ℕ
+  abbrev pub press_limit : PressOf V N K P held named keep → ℕ
   press_limit press = press.limit
 
+  -- the keeper of the batches
+  abbrev pub press_keeper : PressOf V N K P held named keep → K
+  press_keeper press = press.keeper
+
+module _ {V N P : Type 0} {held : Held.Ghosts V} {named : Named.Ghosts N} where
   -- the list of the versions that the seat has seen
   abbrev pub seat_versions : SeatOf V N P held named → List V
   seat_versions seat = seat.place.me.0.list

@@ -14,9 +14,9 @@ use crate::seat::Seat;
 use crate::shelf::{fill_all, owners, raise};
 use std::alloc::Global;
 use std::sync::{Arc, Wait};
-use tgap_model::Holds;
+use tgap_model::{Holds, Keep};
 
-impl<V: Holds + Drop, N: StoreName> PressOf<V, N, Growing> {
+impl<V: Holds + Drop, N: StoreName, K: Keep> PressOf<V, N, K, Growing> {
     /// Appends a version, of which there is an owner for each seat.
     fn append(&mut self, version: &V, owners: Vec<Arc<V>>)
         requires owners { AreOwners version.now owners.items }

@@ -11,10 +11,9 @@ use crate::name::StoreName;
 use crate::plays::{Compare, Hear, MakeNote};
 use crate::seat::Seat;
 use std::alloc::Global;
-use std::sync::Wait;
-use tgap_model::{Holds, Memory};
+use tgap_model::{Holds, Keep, Memory};
 
-impl<V: Holds + Drop, N: StoreName> PressOf<V, N, Growing> {
+impl<V: Holds + Drop, N: StoreName, K: Keep> PressOf<V, N, K, Growing> {
     /// A note of the published versions.
     fn note(&mut self) -> Place<V>
         ensures note { (result.table_id ≡ N.store) × (result.me ≡ (note (press_versions self.old), [])) }
@@ -81,10 +80,5 @@ impl<V: Holds + Drop, N: StoreName> PressOf<V, N, Growing> {
         let mut seat = seat;
         let seen = seat.tell();
         self.hear(seen);
-    }
-
-    /// Ends the press. The versions last for as long as a seat or a pin holds them.
-    pub fn end<R: Wait>(self, _rt: &R) {
-        let _press = self;
     }
 }

@@ -1,6 +1,6 @@
 -- It is refused for the cause that was told.
 use Rattle.version_store.proofs.Refusals.{of_refusal}
-use Rattle.version_store.proofs.press.publish.PressOf+V+N+Growing.publish.Goals as goal
+use Rattle.version_store.proofs.press.publish.PressOf+V+N+K+Growing.publish.Goals as goal
 
 pub returns-in_err-ready-clause-stale : goal.returns-in_err-ready-clause-stale
 returns-in_err-ready-clause-stale g c =

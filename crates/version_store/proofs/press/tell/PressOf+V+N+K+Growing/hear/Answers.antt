@@ -2,7 +2,7 @@ use Rattle.std.proofs.Common.{rules, ap, ◌∙◌, subst}
 use Rattle.version_store.specs.Growth.{IsPrefix}
 use Rattle.version_store.specs.Steps.{Holder}
 use Rattle.version_store.proofs.RuleKept.{hears, compares_kept}
-use Rattle.version_store.proofs.press.tell.PressOf+V+N+Growing.hear.Goals as goal
+use Rattle.version_store.proofs.press.tell.PressOf+V+N+K+Growing.hear.Goals as goal
 
 pub join_seat-requires : goal.join_seat-requires
 join_seat-requires g c = (search rules, search rules, search rules, search rules, hears _ _ _ _ _ _ c.requires.1)

@@ -1,6 +1,6 @@
 use Rattle.std.proofs.Common.{rules}
 use Rattle.version_store.proofs.RuleKept.{notes}
-use Rattle.version_store.proofs.press.tell.PressOf+V+N+Growing.note.Goals as goal
+use Rattle.version_store.proofs.press.tell.PressOf+V+N+K+Growing.note.Goals as goal
 
 pub split_seat-requires : goal.split_seat-requires
 split_seat-requires g c = (search rules, search rules, notes _ _ _ _)
