@@ -54,18 +54,29 @@ module _ {V N P : Type 0} {held : Held.Ghosts V} {named : Named.Ghosts N} where
   abbrev pub published_count : SeatOf V N P held named → ℕ
   published_count seat = seat.published
 
+  -- how many of its versions were not published, since the keeper failed to keep their batches; a count that stands at 2^64 - 1 stays there
+  abbrev pub unkept_count : SeatOf V N P held named → ℕ
+  unkept_count seat = seat.unkept
+
+  -- how many were not published, since the keeper had no room for their batches; this count stays at 2^64 - 1 too
+  abbrev pub keeper_full_count : SeatOf V N P held named → ℕ
+  keeper_full_count seat = seat.keeper_full
+
   -- for each number from 0 to 63, how many tellings ended there
   abbrev pub tellings : SeatOf V N P held named → List ℕ
   tellings seat = seat.tellings
 
   -- the limit and all counts are as before
   abbrev pub KeepsCounts : SeatOf V N P held named → SeatOf V N P held named → Type 0
-  KeepsCounts old new = (seat_limit new ≡ seat_limit old) × (published_count new ≡ published_count old) × (tellings new ≡ tellings old)
+  KeepsCounts old new =
+      (seat_limit new ≡ seat_limit old) × (published_count new ≡ published_count old) × (tellings new ≡ tellings old)
+      × (unkept_count new ≡ unkept_count old) × (keeper_full_count new ≡ keeper_full_count old)
 
-  -- a seat that has seen the first version alone, published none and was told nothing
+  -- a seat that has seen the first version alone, of whose versions none was published or refused, and that was told nothing
   abbrev pub IsNewSeat : V → ℕ → SeatOf V N P held named → Type 0
   IsNewSeat first limit seat =
       (seat_versions seat ≡ first ∷ []) × (seat_limit seat ≡ limit) × (published_count seat ≡ 0) × (tellings seat ≡ replicate 64 0)
+      × (unkept_count seat ≡ 0) × (keeper_full_count seat ≡ 0)
 
 -- counts with one more at n, where that is below 2^64
 abbrev pub raised : List ℕ → ℕ → List ℕ

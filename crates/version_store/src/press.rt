@@ -3,6 +3,7 @@
 ghost use Rattle.std.specs.Prelude.{◌≡◌, ◌<◌, ◌≤◌, ◌*◌, [], length};
 ghost use Rattle.std.specs.Arc.{arc_value};
 ghost use Rattle.version_store.specs.Growth.{AreNumbered};
+ghost use Rattle.version_store.specs.Folds.{batches_of, FitsTold};
 
 use crate::known::{Growing, Known, Place};
 use crate::name::StoreName;
@@ -40,4 +41,5 @@ pub struct PressOf<V: Holds, N: StoreName, K: Keep, P: TableRule<Option<Arc<V>>,
     ghost resting: { (place.me.0.filled ≡ 16 * count) × (place.me.0.out ≡ 0) × (place.me.1 ≡ []) },
     ghost counted: { (length place.me.0.list ≡ count) × (count ≤ limit) × (0 < count) },
     ghost numbered: { AreNumbered V.numbered place.me.0.list },
+    ghost kept: { FitsTold (batches_of V.batched place.me.0.list) (K.told keeper) },
 }

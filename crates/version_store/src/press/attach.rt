@@ -1,6 +1,7 @@
 //! The keeper of a press, and the end of a press.
 
 ghost use Rattle.std.specs.Prelude.{◌≡◌};
+ghost use Rattle.version_store.specs.Folds.{batches_of, FitsTold};
 ghost use Rattle.version_store.specs.Store.{press_versions, press_limit, press_keeper};
 
 use super::{Press, PressOf};
@@ -12,6 +13,8 @@ use tgap_model::{Holds, Keep, NoKeeper};
 impl<V: Holds + Drop, N: StoreName> PressOf<V, N, NoKeeper, Growing> {
     /// Gives the press a keeper, with which each further batch is kept before its version is published. The list stays. It takes no memory.
     pub fn attach<J: Keep>(self, keeper: J) -> Press<V, N, J>
+        // Where it is told what is kept, that comes to the batches of the list, and to at most one more.
+        requires kept { FitsTold (batches_of V.batched (press_versions self)) (J.told keeper) }
         ensures same { (press_versions result ≡ press_versions self) × (press_limit result ≡ press_limit self) }
         ensures keeper { press_keeper result ≡ keeper }
     {
@@ -45,6 +48,8 @@ impl<V: Holds + Drop, N: StoreName, K: Keep> PressOf<V, N, K, Growing> {
     /// Ends the press as `end` does, and gives its keeper. It takes no memory.
     pub fn part<R: Wait>(self, _rt: &R) -> K
         ensures keeper { result ≡ press_keeper self }
+        // Where it is told what is kept, that comes to the batches of the list, and to at most one more.
+        ensures kept { FitsTold (batches_of V.batched (press_versions self)) (K.told result) }
     {
         let PressOf {
             table: _,
