@@ -15,13 +15,14 @@ reason_of status =
     else if status == 409 then codes "Conflict"
     else if status == 413 then codes "Content Too Large"
     else if status == 422 then codes "Unprocessable Content"
+    else if status == 500 then codes "Internal Server Error"
     else if status == 503 then codes "Service Unavailable"
     else if status == 507 then codes "Insufficient Storage"
     else []
 
 -- the statuses of replies
 abbrev pub is_status : ℕ → Bool
-is_status status = list_any (λ s. s == status) (200 ∷ 400 ∷ 404 ∷ 405 ∷ 409 ∷ 413 ∷ 422 ∷ 503 ∷ 507 ∷ [])
+is_status status = list_any (λ s. s == status) (200 ∷ 400 ∷ 404 ∷ 405 ∷ 409 ∷ 413 ∷ 422 ∷ 500 ∷ 503 ∷ 507 ∷ [])
 
 -- a line of a head, with its end
 abbrev pub head_line : List ℕ → List ℕ

@@ -129,6 +129,7 @@ fn reason_of(status: u16) -> &'static str
         409 => "Conflict",
         413 => "Content Too Large",
         422 => "Unprocessable Content",
+        500 => "Internal Server Error",
         503 => "Service Unavailable",
         507 => "Insufficient Storage",
         _ => "",

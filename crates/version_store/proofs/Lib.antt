@@ -5,3 +5,6 @@ pub mod RuleKept
 pub mod Holders
 pub mod Lists
 pub mod Refusals
+pub mod Folds
+pub mod Publishing
+pub mod Acknowledged

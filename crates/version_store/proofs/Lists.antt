@@ -1,6 +1,7 @@
 -- What every press and every seat keeps of its list.
 use Rattle.std.proofs.Common.{◌≡◌, ◌≤◌, arith, sym, ◌∙◌}
 use Rattle.tgap_model.specs.declared.holds.Holds as Held
+use Rattle.tgap_model.specs.declared.keep.Keep as Keeper
 use Rattle.version_store.specs.declared.name.StoreName as Named
 use Rattle.version_store.specs.declared.seat.SeatOf.{SeatOf}
 use Rattle.version_store.specs.declared.press.PressOf.{PressOf}
@@ -15,24 +16,26 @@ module _ {V N P : Type 0} {held : Held.Ghosts V} {named : Named.Ghosts N} where
     room = (let n = seat.counted.0 in let l = seat.counted.1 in omega arith);
   }
 
-  pub press_lists : (press : PressOf V N P held named) → IsList held.numbered (press_limit press) (press_versions press)
+  -- the limit is that of the store
+  pub seat_limited : (seat : SeatOf V N P held named) → seat_limit seat ≡ named.limit
+  seat_limited seat = seat.of_store.2
+
+  -- there are at most 64 versions
+  pub few_versions : (seat : SeatOf V N P held named) → seat_limit seat ≤ 64
+  few_versions seat = seat.sized.3
+
+module _ {V N K P : Type 0} {held : Held.Ghosts V} {named : Named.Ghosts N} {keep : Keeper.Ghosts K} where
+  pub press_lists : (press : PressOf V N K P held named keep) → IsList held.numbered (press_limit press) (press_versions press)
   press_lists press = record {
     numbered = press.numbered;
     some = (let n = press.counted.0 in let s = press.counted.2 in omega arith);
     room = (let n = press.counted.0 in let l = press.counted.1 in omega arith);
   }
 
-  -- the limit is that of the store
-  pub seat_limited : (seat : SeatOf V N P held named) → seat_limit seat ≡ named.limit
-  seat_limited seat = seat.of_store.2
-
-  pub press_limited : (press : PressOf V N P held named) → press_limit press ≡ named.limit
+  -- so is that of the press
+  pub press_limited : (press : PressOf V N K P held named keep) → press_limit press ≡ named.limit
   press_limited press = press.of_store.2
 
   -- a press and a seat of one name have one limit
-  pub one_limit : (press : PressOf V N P held named) (seat : SeatOf V N P held named) → press_limit press ≡ seat_limit seat
+  pub one_limit : (press : PressOf V N K P held named keep) (seat : SeatOf V N P held named) → press_limit press ≡ seat_limit seat
   one_limit press seat = press.of_store.2 ∙ sym seat.of_store.2
-
-  -- there are at most 64 versions
-  pub few_versions : (seat : SeatOf V N P held named) → seat_limit seat ≤ 64
-  few_versions seat = seat.sized.3

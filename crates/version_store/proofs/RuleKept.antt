@@ -359,7 +359,7 @@ module _ {V : Type 0} (number : V → ℕ) (limit : ℕ) where
       )
 
   -- one version more has the number of its place
-  numbered_push : (list : List V) (x : V) → AreNumbered number list → number x ≡ length list → AreNumbered number (list ++ x ∷ [])
+  pub numbered_push : (list : List V) (x : V) → AreNumbered number list → number x ≡ length list → AreNumbered number (list ++ x ∷ [])
   numbered_push list x numbered is i y e = elim (cases_lt i (length list)) [
     | inl inside ↦ numbered i y (get_left list x y i inside e)
     | inr past ↦

@@ -3,5 +3,8 @@ pub mod Runs
 pub mod Growth
 pub mod Rule
 pub mod Steps
+pub mod Folds
 pub mod Store
+pub mod Keepers
+pub mod Acknowledged
 pub mod Machine

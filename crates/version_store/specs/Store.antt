@@ -3,6 +3,7 @@ use Rattle.std.specs.Prelude.{◌≡◌, ◌+◌, ◌-◌, ◌^◌, ℕ, List, [
 use Rattle.std.specs.Arc.{arc_value}
 use Rattle.atomic_table.specs.Seated.{TableId}
 use Rattle.tgap_model.specs.declared.holds.Holds as Held
+use Rattle.tgap_model.specs.declared.keep.Keep as Keeper
 use Rattle.version_store.specs.declared.name.StoreName as Named
 use Rattle.version_store.specs.declared.seat.SeatOf.{SeatOf}
 use Rattle.version_store.specs.declared.press.PressOf.{PressOf}
@@ -23,15 +24,20 @@ module _ {V P : Type 0} {held : Held.Ghosts V} where
   abbrev pub fresh_places : FreshOf V P held → ℕ
   fresh_places f = f.places
 
-module _ {V N P : Type 0} {held : Held.Ghosts V} {named : Named.Ghosts N} where
+module _ {V N K P : Type 0} {held : Held.Ghosts V} {named : Named.Ghosts N} {keep : Keeper.Ghosts K} where
   -- the list of the published versions, as the press knows it: all of them
-  abbrev pub press_versions : PressOf V N P held named → List V
+  abbrev pub press_versions : PressOf V N K P held named keep → List V
   press_versions press = press.place.me.0.list
 
   -- how many versions there may be
-  abbrev pub press_limit : PressOf V N P held named → ℕ
+  abbrev pub press_limit : PressOf V N K P held named keep → ℕ
   press_limit press = press.limit
 
+  -- the keeper of the batches
+  abbrev pub press_keeper : PressOf V N K P held named keep → K
+  press_keeper press = press.keeper
+
+module _ {V N P : Type 0} {held : Held.Ghosts V} {named : Named.Ghosts N} where
   -- the list of the versions that the seat has seen
   abbrev pub seat_versions : SeatOf V N P held named → List V
   seat_versions seat = seat.place.me.0.list
@@ -48,18 +54,29 @@ module _ {V N P : Type 0} {held : Held.Ghosts V} {named : Named.Ghosts N} where
   abbrev pub published_count : SeatOf V N P held named → ℕ
   published_count seat = seat.published
 
+  -- how many of its versions were not published, since the keeper failed to keep their batches; a count that stands at 2^64 - 1 stays there
+  abbrev pub unkept_count : SeatOf V N P held named → ℕ
+  unkept_count seat = seat.unkept
+
+  -- how many were not published, since the keeper had no room for their batches; this count stays at 2^64 - 1 too
+  abbrev pub keeper_full_count : SeatOf V N P held named → ℕ
+  keeper_full_count seat = seat.keeper_full
+
   -- for each number from 0 to 63, how many tellings ended there
   abbrev pub tellings : SeatOf V N P held named → List ℕ
   tellings seat = seat.tellings
 
   -- the limit and all counts are as before
   abbrev pub KeepsCounts : SeatOf V N P held named → SeatOf V N P held named → Type 0
-  KeepsCounts old new = (seat_limit new ≡ seat_limit old) × (published_count new ≡ published_count old) × (tellings new ≡ tellings old)
+  KeepsCounts old new =
+      (seat_limit new ≡ seat_limit old) × (published_count new ≡ published_count old) × (tellings new ≡ tellings old)
+      × (unkept_count new ≡ unkept_count old) × (keeper_full_count new ≡ keeper_full_count old)
 
-  -- a seat that has seen the first version alone, published none and was told nothing
+  -- a seat that has seen the first version alone, of whose versions none was published or refused, and that was told nothing
   abbrev pub IsNewSeat : V → ℕ → SeatOf V N P held named → Type 0
   IsNewSeat first limit seat =
       (seat_versions seat ≡ first ∷ []) × (seat_limit seat ≡ limit) × (published_count seat ≡ 0) × (tellings seat ≡ replicate 64 0)
+      × (unkept_count seat ≡ 0) × (keeper_full_count seat ≡ 0)
 
 -- counts with one more at n, where that is below 2^64
 abbrev pub raised : List ℕ → ℕ → List ℕ

@@ -12,6 +12,7 @@ mod name;
 mod pin;
 mod plays;
 mod press;
+mod promise;
 mod seat;
 mod shelf;
 
@@ -22,4 +23,5 @@ pub use machine::Machine;
 pub use name::StoreName;
 pub use pin::Pin;
 pub use press::{Press, PressOf, PublishFail};
+pub use promise::crash_at_any_moment;
 pub use seat::{Seat, SeatOf};

@@ -10,7 +10,7 @@ use std::marker::Brand;
 use std::sync::{Mutex, Wait};
 use std::test::Fail;
 use std::thread::{Threads, map_vec};
-use tgap_model::Memory;
+use tgap_model::{Memory, NoKeeper};
 use version_store::{Fresh, Press, PublishFail, Seat, StoreName, start};
 
 /// What came of a seat's call, and the number of the version that it pins after it.
@@ -20,7 +20,7 @@ type Told = (Result<u64, PublishFail>, u64);
 fn publish_and_pin<N: StoreName, R: Wait>(
     rt: &R,
     alloc: Global,
-    press: &Mutex<Press<Numbered, N>>,
+    press: &Mutex<Press<Numbered, N, NoKeeper>>,
     seat: Seat<Numbered, N>,
 ) -> Result<Told, Memory> {
     let mut seat = seat;

@@ -10,7 +10,7 @@ use std::marker::Brand;
 use std::sync::{Arc, Mutex, Wait};
 use std::test::Fail;
 use std::thread::{Threads, join};
-use tgap_model::{Base, Holds, Memory};
+use tgap_model::{Base, Holds, Memory, NoKeeper};
 use version_store::{Fresh, Press, PublishFail, Seat, StoreName, start};
 
 /// A map with its number. No batch is told of it.
@@ -53,7 +53,7 @@ const FULL: PublishFail = PublishFail::VersionsFull { limit: 2 };
 fn publishes_once<N: StoreName, R: Wait>(
     rt: &R,
     alloc: Global,
-    press: &mut Press<Numbered, N>,
+    press: &mut Press<Numbered, N, NoKeeper>,
     seat: &mut Seat<Numbered, N>,
 ) -> Result<bool, Memory> {
     let next = version(alloc, 1)?;
@@ -67,7 +67,7 @@ fn publishes_once<N: StoreName, R: Wait>(
 fn is_stale<N: StoreName, R: Wait>(
     rt: &R,
     alloc: Global,
-    press: &mut Press<Numbered, N>,
+    press: &mut Press<Numbered, N, NoKeeper>,
     seat: &mut Seat<Numbered, N>,
 ) -> Result<bool, Memory> {
     let next = version(alloc, 1)?;
@@ -78,7 +78,7 @@ fn is_stale<N: StoreName, R: Wait>(
 fn is_full<N: StoreName, R: Wait>(
     rt: &R,
     alloc: Global,
-    press: &mut Press<Numbered, N>,
+    press: &mut Press<Numbered, N, NoKeeper>,
     seat: &mut Seat<Numbered, N>,
 ) -> Result<bool, Memory> {
     let pinned = seat.pin(alloc)?.number;
@@ -94,7 +94,7 @@ fn is_full<N: StoreName, R: Wait>(
 fn are_told<N: StoreName, R: Wait>(
     rt: &R,
     alloc: Global,
-    press: &mut Press<Numbered, N>,
+    press: &mut Press<Numbered, N, NoKeeper>,
     seats: &mut [Seat<Numbered, N>],
 ) -> Result<bool, Fail> {
     let [first, second, last] = seats else {
@@ -137,7 +137,7 @@ fn three_seats_on_one_thread(rt: HostRuntime) -> Result<(), Fail> {
 fn publish_one<N: StoreName, R: Wait>(
     rt: &R,
     alloc: Global,
-    press: &Mutex<Press<Numbered, N>>,
+    press: &Mutex<Press<Numbered, N, NoKeeper>>,
     seat: Seat<Numbered, N>,
 ) -> Result<u64, PublishFail> {
     let mut seat = seat;

@@ -8,13 +8,13 @@ ghost use Rattle.workers.specs.Closing.{MayTakeBack, TakesAllBack, CountsAllBack
 
 use crate::post::PostOf;
 use plain_io::Harbour;
-use tgap_model::Holds;
+use tgap_model::{Holds, Keep};
 use version_store::{Press, Seat, StoreName};
 
 /// Ends the posts: the press gathers each seat, and each door goes back to its harbour.
-pub fn close_posts<V: Holds + Drop, N: StoreName, H: Harbour>(
+pub fn close_posts<V: Holds + Drop, N: StoreName, K: Keep, H: Harbour>(
     posts: Vec<PostOf<H::Gate, Seat<V, N>>>,
-    press: &mut Press<V, N>,
+    press: &mut Press<V, N, K>,
     harbour: &mut H,
 )
     requires { MayTakeBack (length posts.items) (H.told harbour.old) }

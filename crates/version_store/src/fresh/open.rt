@@ -14,7 +14,7 @@ use crate::shelf::{fill, raise};
 use atomic_table::Table;
 use std::alloc::Global;
 use std::sync::{Arc, Wait};
-use tgap_model::{Holds, Memory};
+use tgap_model::{Holds, Memory, NoKeeper};
 
 /// Makes a store of which `first` is the only version, for at most `limit` versions in all and for as many seats as `places`.
 pub fn start<V: Holds + Drop>(
@@ -48,14 +48,14 @@ pub fn start<V: Holds + Drop>(
 }
 
 impl<V: Holds + Drop> FreshOf<V, Growing> {
-    /// Opens the store under its name: the press, and a seat for each place. On want of memory the store is dropped.
+    /// Opens the store under its name: the press, which has no keeper, and a seat for each place. On want of memory the store is dropped.
     ///
     /// `N` is a parameter of the caller, and who calls that one gives `std::marker::Brand` for it, with the ghosts of this store.
     pub fn open<N: StoreName, R: Wait>(
         self,
         _rt: &R,
         alloc: Global,
-    ) -> Result<(Press<V, N>, Vec<Seat<V, N>>), Memory>
+    ) -> Result<(Press<V, N, NoKeeper>, Vec<Seat<V, N>>), Memory>
         requires store { fresh_store self ≡ N.store }
         requires limit { fresh_limit self ≡ N.limit }
         // The press's list is the first version alone.

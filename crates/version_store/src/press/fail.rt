@@ -12,6 +12,10 @@ pub enum PublishFail {
     Stale { newest: u64 },
     /// As many versions are published as there may be.
     VersionsFull { limit: u64 },
+    /// The keeper failed to keep the batch. It may be kept all the same.
+    Unkept,
+    /// The keeper has no room for the batch: what it keeps may have so many bytes.
+    KeeperFull { limit: u64 },
     /// An allocation was refused.
     Memory,
 }

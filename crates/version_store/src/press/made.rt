@@ -12,16 +12,16 @@ use atomic_table::Table;
 use std::alloc::Global;
 use std::marker::PhantomData;
 use std::sync::Arc;
-use tgap_model::Holds;
+use tgap_model::{Holds, NoKeeper};
 
-impl<V: Holds + Drop, N: StoreName> PressOf<V, N, Growing> {
+impl<V: Holds + Drop, N: StoreName> PressOf<V, N, NoKeeper, Growing> {
     /// The press whose place has made this many seats, when the first version alone is published.
     pub(crate) fn over(
         table: Arc<Table<Option<Arc<V>>, Known<V>, u64, Growing, Global>>,
         place: Place<V>,
         limit: u64,
         seats: u64,
-    ) -> Press<V, N>
+    ) -> Press<V, N, NoKeeper>
         requires store { (place.table_id ≡ N.store) × ((arc_value table).shared.table_id ≡ N.store) × (limit ≡ N.limit) }
         requires sized { (N.store.words ≡ 1) × (N.store.slots ≡ 16 * limit) × ((arc_value table).shared.key ≡ limit) × (0 < limit) × (limit ≤ 64) }
         requires press { (place.me.0.role ≡ 1) × (place.me.0.limit ≡ limit) × (place.me.0.seats ≡ seats) × (0 < seats) × (seats ≤ 16) }
@@ -35,6 +35,7 @@ impl<V: Holds + Drop, N: StoreName> PressOf<V, N, Growing> {
             limit,
             count: 1,
             seats,
+            keeper: NoKeeper,
             name: PhantomData,
         }
     }

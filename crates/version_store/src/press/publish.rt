@@ -1,10 +1,14 @@
 //! The press publishes a version.
 
-ghost use Rattle.std.specs.Prelude.{◌≡◌, ◌≢◌, ◌<◌, ◌+◌, ◌*◌, ◌++◌, ℕ, [], ◌∷◌, length, vec_len, Err, IfOk, OnOk, OnErr, ◌↔◌};
+ghost use Rattle.std.specs.Prelude.{◌≡◌, ◌≢◌, ◌<◌, ◌+◌, ◌*◌, ◌++◌, ℕ, [], ◌∷◌, length, vec_len, None, Some, Err, IfOk, IfErr, OnOk, OnErr, MatchOption, ◌↔◌};
 ghost use Rattle.std.specs.Arc.{arc_value};
-ghost use Rattle.version_store.specs.declared.press.fail.PublishFail.TheVariants.{Stale, VersionsFull, Memory as WantOfMemory};
+ghost use Rattle.tgap_model.specs.Faults.{Rose};
+ghost use Rattle.tgap_model.specs.Keeping.{CountsKeep, Keeps};
+ghost use Rattle.version_store.specs.declared.press.fail.PublishFail.TheVariants.{Stale, VersionsFull, KeeperFull, Memory as WantOfMemory};
 ghost use Rattle.version_store.specs.Growth.{IsPrefix, IsList};
-ghost use Rattle.version_store.specs.Store.{press_versions, press_limit, seat_versions, seat_limit, published_count, tellings, KeepsCounts};
+ghost use Rattle.version_store.specs.Folds.{batches_of, FitsTold};
+ghost use Rattle.version_store.specs.Keepers.{ComesOfList, LeavesKeeper, PublishKeeps, CountsFault, CountsUnkept, CountsKeeperFull};
+ghost use Rattle.version_store.specs.Store.{press_versions, press_limit, press_keeper, seat_versions, seat_limit, published_count, unkept_count, keeper_full_count, tellings, KeepsCounts};
 ghost use Rattle.version_store.specs.Rule.{AreOwners};
 
 use super::{PressOf, PublishFail};
@@ -14,9 +18,11 @@ use crate::seat::Seat;
 use crate::shelf::{fill_all, owners, raise};
 use std::alloc::Global;
 use std::sync::{Arc, Wait};
-use tgap_model::Holds;
+use tgap_model::{Holds, Keep, KeepFail};
 
-impl<V: Holds + Drop, N: StoreName> PressOf<V, N, Growing> {
+impl<V: Holds + Drop, N: StoreName, K: Keep> PressOf<V, N, K, Growing> {
+    ghost use Rattle.tgap_model.specs.declared.keep.KeepFail.TheVariants.{Full as IsFull};
+
     /// Appends a version, of which there is an owner for each seat.
     fn append(&mut self, version: &V, owners: Vec<Arc<V>>)
         requires owners { AreOwners version.now owners.items }
@@ -24,7 +30,9 @@ impl<V: Holds + Drop, N: StoreName> PressOf<V, N, Growing> {
         requires some { 0 < self.old.seats }
         requires room { length (press_versions self.old) < press_limit self.old }
         requires number { V.numbered version.now ≡ length (press_versions self.old) }
-        ensures { press_versions self.new ≡ press_versions self.old ++ version.now ∷ [] }
+        requires kept { FitsTold (batches_of V.batched (press_versions self.old ++ version.now ∷ [])) (K.told (press_keeper self.old)) }
+        ensures appended { press_versions self.new ≡ press_versions self.old ++ version.now ∷ [] }
+        ensures keeper { press_keeper self.new ≡ press_keeper self.old }
     {
         let table = &self.table;
         let place = &mut self.place;
@@ -37,6 +45,23 @@ impl<V: Holds + Drop, N: StoreName> PressOf<V, N, Growing> {
         );
         raise(&table.shared, place, version, self.count + 1);
         self.count += 1;
+    }
+
+    /// Keeps the batch of the version that is to be the next one.
+    fn keep(&mut self, alloc: Global, number: u64, version: &V) -> Result<(), KeepFail>
+        requires number { number ≡ length (press_versions self.old) }
+        ensures same { press_versions self.new ≡ press_versions self.old }
+        ensures seats { self.new.seats ≡ self.old.seats }
+        ensures limit { K.limit (press_keeper self.new) ≡ K.limit (press_keeper self.old) }
+        ensures faults { CountsKeep result (K.faults (press_keeper self.old)) (K.faults (press_keeper self.new)) }
+        ensures full { (most : ℕ) → result ≡ Err (IsFull most) → K.limit (press_keeper self.old) ≡ Some most }
+        ensures kept { MatchOption (K.told (press_keeper self.old)) (K.told (press_keeper self.new) ≡ None)
+            (λ before. Keeps (K.limit (press_keeper self.old)) before (K.told (press_keeper self.new))
+            (record { number = number; batch = V.batched version.now }) result) }
+        ensures fits { OnOk result (FitsTold (batches_of V.batched (press_versions self.old ++ version.now ∷ [])) (K.told (press_keeper self.new))) }
+    {
+        let batch = version.batch();
+        self.keeper.keep(alloc, number, batch)
     }
 
     /// Whether a version that is made from the version `named` would be published now. It tells the published versions to the seat,
@@ -57,6 +82,9 @@ impl<V: Holds + Drop, N: StoreName> PressOf<V, N, Growing> {
         ensures stale { (newest : ℕ) → (result ≡ Err (Stale newest)) ↔ ((named < newest) × (newest + 1 ≡ length (press_versions self.old))) }
         ensures full { (limit : ℕ) → (result ≡ Err (VersionsFull limit)) ↔ ((named + 1 ≡ length (press_versions self.old)) × (length (press_versions self.old) ≡ press_limit self.old) × (limit ≡ press_limit self.old)) }
         ensures taken { result ≢ Err WantOfMemory }
+        // The keeper is not asked, and stays.
+        ensures cause { IfErr result ComesOfList }
+        ensures keeper { press_keeper self.new ≡ press_keeper self.old }
         // The store has one limit, which stays, as the counts do.
         ensures limited { (press_limit self.new ≡ press_limit self.old) × (press_limit self.new ≡ seat_limit seat.new) × (press_limit self.new ≡ N.limit) }
         ensures counts { KeepsCounts seat.old seat.new }
@@ -74,8 +102,10 @@ impl<V: Holds + Drop, N: StoreName> PressOf<V, N, Growing> {
 
     /// Publishes a version that was made from the version `named`, where that is the newest.
     ///
-    /// It refuses a stale version first, and then one for which there is no room. A refusal leaves the list and drops the version.
-    /// It waits for no reader: `_rt` allows a store to wait here, and this one does not.
+    /// It refuses a stale version first, then one for which there is no room, and then one whose batch the keeper does not keep. All
+    /// other memory is taken before the batch is kept, so that nothing is wanting afterwards. A refusal leaves the list and drops the version.
+    /// It waits for no reader: `_rt` allows a store to wait here, and this one does not. It takes as long as its keeper does to keep the
+    /// batch, and who waits for the press waits as long; a seat pins all the same.
     pub fn publish<R: Wait>(
         &mut self,
         _rt: &R,
@@ -106,12 +136,39 @@ impl<V: Holds + Drop, N: StoreName> PressOf<V, N, Growing> {
         // A refusal leaves the list and the count. The limit and the counts of tellings stay.
         ensures kept { OnErr result ((press_versions self.new ≡ press_versions self.old) × (published_count seat.new ≡ published_count seat.old)) }
         ensures others { (seat_limit seat.new ≡ seat_limit seat.old) × (tellings seat.new ≡ tellings seat.old) }
+        // Where it is told what is kept: the batch is kept where the answer is Ok, and was not in doubt, and what is kept at each refusal; when
+        // the keeper has no room.
+        ensures batch { MatchOption (K.told (press_keeper self.old)) (K.told (press_keeper self.new) ≡ None)
+            (λ before. PublishKeeps (K.limit (press_keeper self.old)) before (K.told (press_keeper self.new))
+            (record { number = named + 1; batch = V.batched (arc_value next) }) result) }
+        // A keeper that is full has a limit, which the answer tells and which stays.
+        ensures keeper_full { (most : ℕ) → result ≡ Err (KeeperFull most) → K.limit (press_keeper self.old) ≡ Some most }
+        ensures keeper_limit { K.limit (press_keeper self.new) ≡ K.limit (press_keeper self.old) }
+        // Unkept comes only where the keeper's count of faults rose, and else that count stays. The keeper is not asked before the list is.
+        ensures faults { CountsFault (K.faults (press_keeper self.old)) (K.faults (press_keeper self.new)) result }
+        ensures unasked { LeavesKeeper (press_keeper self.old) (press_keeper self.new) result }
+        // The seat counts what the keeper failed to keep, and for what it had no room.
+        ensures unkept { CountsUnkept (unkept_count seat.old) (unkept_count seat.new) result }
+        ensures without_room { CountsKeeperFull (keeper_full_count seat.old) (keeper_full_count seat.new) result }
     {
         self.ready(seat, named)?;
         let owners = owners(alloc, &next, self.seats as usize)?;
-        self.append(&*next, owners);
-        self.tell(seat);
-        seat.count_published();
-        Ok(named + 1)
+        match self.keep(alloc, named + 1, &*next) {
+            Ok(()) => {
+                self.append(&*next, owners);
+                self.tell(seat);
+                seat.count_published();
+                Ok(named + 1)
+            }
+            Err(KeepFail::Failed) => {
+                seat.count_unkept();
+                Err(PublishFail::Unkept)
+            }
+            Err(KeepFail::Full { limit }) => {
+                seat.count_keeper_full();
+                Err(PublishFail::KeeperFull { limit })
+            }
+            Err(KeepFail::Memory) => Err(PublishFail::Memory),
+        }
     }
 }

@@ -3,7 +3,7 @@
 ghost use Rattle.std.specs.Prelude.{◌≡◌, ◌<◌, ◌+◌, ◌^◌, [], length, slice_index, IfOk, IsOk, OnErr};
 ghost use Rattle.version_store.specs.Growth.{IsPrefix, IsList};
 ghost use Rattle.version_store.specs.Rule.{note};
-ghost use Rattle.version_store.specs.Store.{press_versions, press_limit, seat_versions, told_versions, seat_limit, published_count, tellings, KeepsCounts, raised};
+ghost use Rattle.version_store.specs.Store.{press_versions, press_limit, press_keeper, seat_versions, told_versions, seat_limit, published_count, unkept_count, keeper_full_count, tellings, KeepsCounts, raised};
 
 use super::PressOf;
 use crate::known::{Growing, Place};
@@ -11,14 +11,14 @@ use crate::name::StoreName;
 use crate::plays::{Compare, Hear, MakeNote};
 use crate::seat::Seat;
 use std::alloc::Global;
-use std::sync::Wait;
-use tgap_model::{Holds, Memory};
+use tgap_model::{Holds, Keep, Memory};
 
-impl<V: Holds + Drop, N: StoreName> PressOf<V, N, Growing> {
+impl<V: Holds + Drop, N: StoreName, K: Keep> PressOf<V, N, K, Growing> {
     /// A note of the published versions.
     fn note(&mut self) -> Place<V>
         ensures note { (result.table_id ≡ N.store) × (result.me ≡ (note (press_versions self.old), [])) }
         ensures same { press_versions self.new ≡ press_versions self.old }
+        ensures keeper { press_keeper self.new ≡ press_keeper self.old }
     {
         let table = &self.table;
         table.shared.split_seat::<MakeNote>(&mut self.place)
@@ -29,6 +29,7 @@ impl<V: Holds + Drop, N: StoreName> PressOf<V, N, Growing> {
         requires { (told.table_id ≡ N.store) × (told.me.0.role ≡ 0) × (told.me.1 ≡ []) }
         ensures front { IsPrefix told.me.0.list (press_versions self.old) }
         ensures same { press_versions self.new ≡ press_versions self.old }
+        ensures keeper { press_keeper self.new ≡ press_keeper self.old }
     {
         let table = &self.table;
         let place = &mut self.place;
@@ -39,6 +40,7 @@ impl<V: Holds + Drop, N: StoreName> PressOf<V, N, Growing> {
     /// Tells the list to a seat, which has seen all of it then.
     pub(super) fn tell(&mut self, seat: &mut Seat<V, N>)
         ensures same { press_versions self.new ≡ press_versions self.old }
+        ensures keeper { press_keeper self.new ≡ press_keeper self.old }
         ensures seen { seat_versions seat.new ≡ press_versions self.old }
         ensures told { told_versions seat.new ≡ press_versions self.old }
         ensures grows { IsPrefix (seat_versions seat.old) (seat_versions seat.new) }
@@ -66,6 +68,9 @@ impl<V: Holds + Drop, N: StoreName> PressOf<V, N, Growing> {
         // The list's versions have the numbers of their places, and are no more than there may be.
         ensures listed { IsList V.numbered (press_limit self.new) (press_versions self.new) }
         ensures others { (seat_limit seat.new ≡ seat_limit seat.old) × (published_count seat.new ≡ published_count seat.old) }
+        // The keeper and the counts of what it refused stay.
+        ensures keeper { press_keeper self.new ≡ press_keeper self.old }
+        ensures refusals { (unkept_count seat.new ≡ unkept_count seat.old) × (keeper_full_count seat.new ≡ keeper_full_count seat.old) }
     {
         self.tell(seat);
         let newest = self.count - 1;
@@ -77,14 +82,10 @@ impl<V: Holds + Drop, N: StoreName> PressOf<V, N, Growing> {
     pub fn gather(&mut self, seat: Seat<V, N>)
         ensures front { IsPrefix (seat_versions seat) (press_versions self.new) }
         ensures same { press_versions self.new ≡ press_versions self.old }
+        ensures keeper { press_keeper self.new ≡ press_keeper self.old }
     {
         let mut seat = seat;
         let seen = seat.tell();
         self.hear(seen);
-    }
-
-    /// Ends the press. The versions last for as long as a seat or a pin holds them.
-    pub fn end<R: Wait>(self, _rt: &R) {
-        let _press = self;
     }
 }

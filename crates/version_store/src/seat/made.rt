@@ -3,7 +3,8 @@
 ghost use Rattle.std.specs.Prelude.{◌≡◌, ◌<◌, ◌≤◌, ◌+◌, ◌*◌, ◌^◌, [], ◌∷◌, length, slice_index, IfOk};
 ghost use Rattle.std.specs.Arc.{arc_value};
 ghost use Rattle.version_store.specs.Rule.{with_seat};
-ghost use Rattle.version_store.specs.Store.{seat_versions, told_versions, seat_limit, published_count, tellings, raised, IsNewSeat};
+ghost use Rattle.tgap_model.specs.Faults.{Rises};
+ghost use Rattle.version_store.specs.Store.{seat_versions, told_versions, seat_limit, published_count, unkept_count, keeper_full_count, tellings, raised, IsNewSeat};
 
 use super::{Seat, SeatOf};
 use crate::known::{Growing, Known, Place};
@@ -42,6 +43,8 @@ impl<V: Holds + Drop, N: StoreName> SeatOf<V, N, Growing> {
             count: 1,
             newest,
             published: 0,
+            unkept: 0,
+            keeper_full: 0,
             tellings: [0; 64],
             name: PhantomData,
         })
@@ -53,6 +56,7 @@ impl<V: Holds + Drop, N: StoreName> SeatOf<V, N, Growing> {
         ensures counted { tellings self.new ≡ raised (tellings self.old) number }
         ensures sized { (number < length (tellings self.old)) × (slice_index (tellings self.old) number < 2 ^ 64) }
         ensures same { (seat_versions self.new ≡ seat_versions self.old) × (told_versions self.new ≡ told_versions self.old) × (seat_limit self.new ≡ seat_limit self.old) × (published_count self.new ≡ published_count self.old) }
+        ensures others { (unkept_count self.new ≡ unkept_count self.old) × (keeper_full_count self.new ≡ keeper_full_count self.old) }
     {
         let told = &mut self.tellings[number as usize];
         *told = told.saturating_add(1);
@@ -63,7 +67,26 @@ impl<V: Holds + Drop, N: StoreName> SeatOf<V, N, Growing> {
         requires { published_count self.old + 1 < length (seat_versions self.old) }
         ensures counted { published_count self.new ≡ published_count self.old + 1 }
         ensures same { (seat_versions self.new ≡ seat_versions self.old) × (told_versions self.new ≡ told_versions self.old) × (seat_limit self.new ≡ seat_limit self.old) × (tellings self.new ≡ tellings self.old) }
+        ensures others { (unkept_count self.new ≡ unkept_count self.old) × (keeper_full_count self.new ≡ keeper_full_count self.old) }
     {
         self.published += 1;
+    }
+
+    /// Counts a version of the seat whose batch the keeper failed to keep.
+    pub(crate) fn count_unkept(&mut self)
+        ensures counted { Rises (unkept_count self.old) (unkept_count self.new) }
+        ensures same { (seat_versions self.new ≡ seat_versions self.old) × (told_versions self.new ≡ told_versions self.old) × (seat_limit self.new ≡ seat_limit self.old) × (tellings self.new ≡ tellings self.old) }
+        ensures others { (published_count self.new ≡ published_count self.old) × (keeper_full_count self.new ≡ keeper_full_count self.old) }
+    {
+        self.unkept = self.unkept.saturating_add(1);
+    }
+
+    /// Counts a version of the seat for whose batch the keeper had no room.
+    pub(crate) fn count_keeper_full(&mut self)
+        ensures counted { Rises (keeper_full_count self.old) (keeper_full_count self.new) }
+        ensures same { (seat_versions self.new ≡ seat_versions self.old) × (told_versions self.new ≡ told_versions self.old) × (seat_limit self.new ≡ seat_limit self.old) × (tellings self.new ≡ tellings self.old) }
+        ensures others { (published_count self.new ≡ published_count self.old) × (unkept_count self.new ≡ unkept_count self.old) }
+    {
+        self.keeper_full = self.keeper_full.saturating_add(1);
     }
 }

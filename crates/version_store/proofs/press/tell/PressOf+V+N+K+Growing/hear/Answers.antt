@@ -1,8 +1,9 @@
-use Rattle.std.proofs.Common.{rules, ap, ◌∙◌, subst}
+use Rattle.std.proofs.Common.{rules, ◌≡◌, List, sym, ap, ◌∙◌, subst}
+use Rattle.version_store.specs.Folds.{batches_of, FitsTold}
 use Rattle.version_store.specs.Growth.{IsPrefix}
 use Rattle.version_store.specs.Steps.{Holder}
 use Rattle.version_store.proofs.RuleKept.{hears, compares_kept}
-use Rattle.version_store.proofs.press.tell.PressOf+V+N+Growing.hear.Goals as goal
+use Rattle.version_store.proofs.press.tell.PressOf+V+N+K+Growing.hear.Goals as goal
 
 pub join_seat-requires : goal.join_seat-requires
 join_seat-requires g c = (search rules, search rules, search rules, search rules, hears _ _ _ _ _ _ c.requires.1)
@@ -21,4 +22,7 @@ invariant_of-self g c = record {
   resting = search rules;
   counted = search rules;
   numbered = search rules;
+  kept =
+      (let list : c.load.new.seat.me.0.list ≡ c.args.self.now.place.me.0.list = search rules in
+      subst (λ (l : List g.row.V.Denot). FitsTold (batches_of g.V.Holds.batched l) (g.K.Keep.told c.args.self.now.keeper)) (sym list) c.args.self.now.kept);
 }

@@ -3,7 +3,7 @@ use Rattle.version_store.specs.Growth.{IsPrefix}
 use Rattle.version_store.specs.Steps.{Holder}
 use Rattle.version_store.specs.Store.{press_versions, seat_versions, told_versions}
 use Rattle.version_store.proofs.Prefixes.{prefix_both}
-use Rattle.version_store.proofs.press.tell.PressOf+V+N+Growing.tell.Goals as goal
+use Rattle.version_store.proofs.press.tell.PressOf+V+N+K+Growing.tell.Goals as goal
 
 -- the seat has heard the press's list before it sees, and the press hears of what the seat has seen
 pub returns-clause-seen : goal.returns-clause-seen
