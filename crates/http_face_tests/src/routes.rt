@@ -74,20 +74,44 @@ fn packets_of_windows(rt: HostRuntime) -> Result<(), Fail> {
         ),
         // A step, and each end of the window, out of form or of range.
         ("GET", "/window-packet/03/1/12/-2/30/4", Route::BadNumber),
-        ("GET", "/window-packet/3/4294967296/12/-2/30/4", Route::BadNumber),
+        (
+            "GET",
+            "/window-packet/3/4294967296/12/-2/30/4",
+            Route::BadNumber,
+        ),
         ("GET", "/window-packet/3/-1/12/-2/30/4", Route::BadNumber),
-        ("GET", "/window-packet/3/1/-2147483649/-2/30/4", Route::BadNumber),
+        (
+            "GET",
+            "/window-packet/3/1/-2147483649/-2/30/4",
+            Route::BadNumber,
+        ),
         ("GET", "/window-packet/3/1/12/-0/30/4", Route::BadNumber),
-        ("GET", "/window-packet/3/1/12/-2/2147483649/4", Route::BadNumber),
+        (
+            "GET",
+            "/window-packet/3/1/12/-2/2147483649/4",
+            Route::BadNumber,
+        ),
         ("GET", "/window-packet/3/1/12/-2/30/x", Route::BadNumber),
         // Its ends are out of order, across and up.
         ("GET", "/window-packet/3/1/31/-2/30/4", Route::BadNumber),
         ("GET", "/window-packet/3/1/12/5/30/4", Route::BadNumber),
         ("GET", "/window-packet/1/3/12/5/30/4", Route::BadNumber),
         // Another method goes before a number.
-        ("POST", "/window-packet/3/1/12/-2/30/4", Route::WrongMethod(Allow::Get)),
-        ("POST", "/window-packet/3/1/12/5/30/4", Route::WrongMethod(Allow::Get)),
-        ("DELETE", "/window-packet/x/1/12/-2/30/4", Route::WrongMethod(Allow::Get)),
+        (
+            "POST",
+            "/window-packet/3/1/12/-2/30/4",
+            Route::WrongMethod(Allow::Get),
+        ),
+        (
+            "POST",
+            "/window-packet/3/1/12/5/30/4",
+            Route::WrongMethod(Allow::Get),
+        ),
+        (
+            "DELETE",
+            "/window-packet/x/1/12/-2/30/4",
+            Route::WrongMethod(Allow::Get),
+        ),
         // A parameter too few or too many, or an empty one, goes before both.
         ("GET", "/window-packet/3/1/12/-2/30", Route::NoRoute),
         ("GET", "/window-packet/3/1/12/-2/30/4/", Route::NoRoute),
