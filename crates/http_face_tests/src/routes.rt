@@ -10,14 +10,6 @@ fn asked(alloc: Global, method: &[u8], target: &[u8]) -> Result<Route, Memory> {
     Ok(route(&routes, method, target))
 }
 
-fn assert_routes(rt: &HostRuntime, rows: &[(&str, &str, Route)]) -> Result<(), Fail> {
-    for (method, target, route) in rows {
-        let found = asked(rt.alloc(), method.as_bytes(), target.as_bytes())?;
-        assert_eq!(rt; found, *route, "{method} {target}");
-    }
-    Ok(())
-}
-
 #[test]
 fn paths(rt: HostRuntime) -> Result<(), Fail> {
     let rows: &[(&str, &str, Route)] = &[
@@ -35,7 +27,11 @@ fn paths(rt: HostRuntime) -> Result<(), Fail> {
         ("GET", "/topo/0/1", Route::NoRoute),
         ("GET", "/topology/0", Route::NoRoute),
     ];
-    assert_routes(&rt, rows)
+    for (method, target, route) in rows {
+        let found = asked(rt.alloc(), method.as_bytes(), target.as_bytes())?;
+        assert_eq!(rt; found, *route, "{method} {target}");
+    }
+    Ok(())
 }
 
 /// The ends of a window of a small map.
@@ -74,20 +70,44 @@ fn packets_of_windows(rt: HostRuntime) -> Result<(), Fail> {
         ),
         // A step, and each end of the window, out of form or of range.
         ("GET", "/window-packet/03/1/12/-2/30/4", Route::BadNumber),
-        ("GET", "/window-packet/3/4294967296/12/-2/30/4", Route::BadNumber),
+        (
+            "GET",
+            "/window-packet/3/4294967296/12/-2/30/4",
+            Route::BadNumber,
+        ),
         ("GET", "/window-packet/3/-1/12/-2/30/4", Route::BadNumber),
-        ("GET", "/window-packet/3/1/-2147483649/-2/30/4", Route::BadNumber),
+        (
+            "GET",
+            "/window-packet/3/1/-2147483649/-2/30/4",
+            Route::BadNumber,
+        ),
         ("GET", "/window-packet/3/1/12/-0/30/4", Route::BadNumber),
-        ("GET", "/window-packet/3/1/12/-2/2147483649/4", Route::BadNumber),
+        (
+            "GET",
+            "/window-packet/3/1/12/-2/2147483649/4",
+            Route::BadNumber,
+        ),
         ("GET", "/window-packet/3/1/12/-2/30/x", Route::BadNumber),
         // Its ends are out of order, across and up.
         ("GET", "/window-packet/3/1/31/-2/30/4", Route::BadNumber),
         ("GET", "/window-packet/3/1/12/5/30/4", Route::BadNumber),
         ("GET", "/window-packet/1/3/12/5/30/4", Route::BadNumber),
         // Another method goes before a number.
-        ("POST", "/window-packet/3/1/12/-2/30/4", Route::WrongMethod(Allow::Get)),
-        ("POST", "/window-packet/3/1/12/5/30/4", Route::WrongMethod(Allow::Get)),
-        ("DELETE", "/window-packet/x/1/12/-2/30/4", Route::WrongMethod(Allow::Get)),
+        (
+            "POST",
+            "/window-packet/3/1/12/-2/30/4",
+            Route::WrongMethod(Allow::Get),
+        ),
+        (
+            "POST",
+            "/window-packet/3/1/12/5/30/4",
+            Route::WrongMethod(Allow::Get),
+        ),
+        (
+            "DELETE",
+            "/window-packet/x/1/12/-2/30/4",
+            Route::WrongMethod(Allow::Get),
+        ),
         // A parameter too few or too many, or an empty one, goes before both.
         ("GET", "/window-packet/3/1/12/-2/30", Route::NoRoute),
         ("GET", "/window-packet/3/1/12/-2/30/4/", Route::NoRoute),
@@ -97,5 +117,9 @@ fn packets_of_windows(rt: HostRuntime) -> Result<(), Fail> {
         ("GET", "/window/3/1/12/-2/30/4", Route::NoRoute),
         ("GET", "/window/3/12/-2/30/4", Route::Window(3, AREA)),
     ];
-    assert_routes(&rt, rows)
+    for (method, target, route) in rows {
+        let found = asked(rt.alloc(), method.as_bytes(), target.as_bytes())?;
+        assert_eq!(rt; found, *route, "{method} {target}");
+    }
+    Ok(())
 }
