@@ -10,14 +10,6 @@ fn asked(alloc: Global, method: &[u8], target: &[u8]) -> Result<Route, Memory> {
     Ok(route(&routes, method, target))
 }
 
-fn assert_routes(rt: &HostRuntime, rows: &[(&str, &str, Route)]) -> Result<(), Fail> {
-    for (method, target, route) in rows {
-        let found = asked(rt.alloc(), method.as_bytes(), target.as_bytes())?;
-        assert_eq!(rt; found, *route, "{method} {target}");
-    }
-    Ok(())
-}
-
 #[test]
 fn paths(rt: HostRuntime) -> Result<(), Fail> {
     let rows: &[(&str, &str, Route)] = &[
@@ -35,7 +27,11 @@ fn paths(rt: HostRuntime) -> Result<(), Fail> {
         ("GET", "/topo/0/1", Route::NoRoute),
         ("GET", "/topology/0", Route::NoRoute),
     ];
-    assert_routes(&rt, rows)
+    for (method, target, route) in rows {
+        let found = asked(rt.alloc(), method.as_bytes(), target.as_bytes())?;
+        assert_eq!(rt; found, *route, "{method} {target}");
+    }
+    Ok(())
 }
 
 /// The ends of a window of a small map.
@@ -121,5 +117,9 @@ fn packets_of_windows(rt: HostRuntime) -> Result<(), Fail> {
         ("GET", "/window/3/1/12/-2/30/4", Route::NoRoute),
         ("GET", "/window/3/12/-2/30/4", Route::Window(3, AREA)),
     ];
-    assert_routes(&rt, rows)
+    for (method, target, route) in rows {
+        let found = asked(rt.alloc(), method.as_bytes(), target.as_bytes())?;
+        assert_eq!(rt; found, *route, "{method} {target}");
+    }
+    Ok(())
 }
