@@ -80,8 +80,8 @@ def closes(is_old, headers):
 STEP, PLACE = (0, COUNT), (-COORDINATE, COORDINATE)
 # The method of each route, by its word and the number of its parameters.
 ROUTES = {(b"info", 0): "GET", (b"pin", 0): "POST", (b"pin", 1): "POST", (b"slice", 1): "GET", (b"packet", 2): "GET",
-          (b"window", 5): "GET", (b"edit", 0): "POST"}
-FORMS = {b"window": [STEP, PLACE, PLACE, PLACE, PLACE]}
+          (b"window", 5): "GET", (b"window-packet", 6): "GET", (b"edit", 0): "POST"}
+FORMS = {b"window": [STEP, PLACE, PLACE, PLACE, PLACE], b"window-packet": [STEP, STEP, PLACE, PLACE, PLACE, PLACE]}
 REASONS = {200: "OK", 400: "Bad Request", 404: "Not Found", 405: "Method Not Allowed", 409: "Conflict", 413: "Content Too Large",
            422: "Unprocessable Content", 507: "Insufficient Storage"}
 
@@ -100,7 +100,7 @@ def answer(method, target, body, served):
         numbers = [number(word, *limits) for word, limits in zip(parameters, FORMS.get(name, [STEP, STEP]))]
     except ValueError:
         return 400, "bad number", None
-    if name == b"window" and (numbers[1] > numbers[3] or numbers[2] > numbers[4]):
+    if name in (b"window", b"window-packet") and (numbers[-4] > numbers[-2] or numbers[-3] > numbers[-1]):
         return 400, "bad number", None
     return (*served(name.decode(), numbers, body), None)
 

@@ -7,8 +7,9 @@ from model import window_of
 from plain_edits import edited
 from plain_heads import replies
 from plain_maps import History, Topology, check, check_text, read_listing, read_rules
-from plain_records import replayed
+from plain_records import read_packet, read_slice, replayed
 from plain_texts import Refused
+from plain_windows import packet_text
 from damage import OF_JSON, OF_TEXT, damaged
 
 
@@ -122,6 +123,8 @@ COMMANDS = {"listing": damaged_listing, "topology": damaged_topology, "rules": d
 SERVED = MAPS["four_squares"]
 BASE = read_listing(SERVED)
 LAST = len(packets.FOUR_SLICES) - 1
+SLICES = [read_slice(text.encode()) for text in packets.FOUR_SLICES]
+RECORDS = {record.step: record for record in read_packet(packets.four_packet(LAST, 0).encode())[1]}
 BATCHES = [b"", b"class 1 0\n", b"move 20 20 25 25\n", b"add 0 0 10 0 5 -1\ndrop 0 0\n", b"move 10 10 11 11\nmove 11 11 10 10\nclass 4 0\n"]
 
 
@@ -137,10 +140,12 @@ def served(name, numbers, body):
         return 200, f"version 0 steps {LAST} faces 4 arcs 8 points 20"
     if name == "pin":
         return (409, "behind 0") if numbers and numbers[0] > 0 else (200, "pin 0")
-    if name == "packet" and numbers[0] < numbers[1]:
+    if name in ("packet", "window-packet") and numbers[0] < numbers[1]:
         return 400, f"not coarser {numbers[0]} {numbers[1]}"
     if numbers[0] > LAST:
         return 400, f"step too high {LAST}"
+    if name == "window-packet":
+        return 200, packet_text(tuple(numbers[2:]), *numbers[:2], RECORDS, SLICES).decode()[:-1]
     text = packets.FOUR_SLICES[numbers[0]]
     if name == "window":
         text = window_of(text.encode(), numbers[1:]).decode()
