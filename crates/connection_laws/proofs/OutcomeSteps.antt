@@ -8,11 +8,11 @@ use Rattle.version_store.specs.declared.event.Event.TheVariants as event
 use Rattle.version_store.specs.declared.event.Outcome.TheVariants as outcome
 use Rattle.version_store.specs.Machine.{Versions, commit, step}
 use Rattle.session.specs.declared.row.Row.{Row}
-use Rattle.session.specs.declared.row.Row.TheVariants.{Read, Pinned, SeenPinned, Behind, Refused, Published, Stale, Full, NoMemory}
+use Rattle.session.specs.declared.row.Row.TheVariants.{Read, Pinned, SeenPinned, Behind, Refused, Published, Stale, Full, NoMemory, Unkept, KeeperFull}
 use Rattle.session.specs.Items.{Item, asked_of}
 use Rattle.session.specs.Outcomes.{Standing, Turn, next, Holds}
 use Rattle.session.proofs.Talks.{known_within}
-use Rattle.connection_laws.specs.Steps.{machine_at, IsStep, OutcomesAreSteps}
+use Rattle.connection_laws.specs.Steps.{machine_at, IsStep, IsStepOrNone, OutcomesAreSteps}
 
 -- ---- a list that is cut
 
@@ -65,7 +65,9 @@ module _ (limit : ℕ) (history : List BaseMap) (s : Standing) (item : Item) (n 
   abbrev turn : Row → Turn
   turn row = record { item = item; number = n; row = row }
 
-  one_step : (row : Row) → Holds row limit history s (asked_of item) n → IsStep limit history s (turn row)
+  one_step : (row : Row) → Holds row limit history s (asked_of item) n → IsStepOrNone row limit history s (turn row)
+  one_step Unkept (made, good, is) = refl
+  one_step KeeperFull (made, good, is) = refl
   one_step Read (is, some) = record {
     count = s.known + 1;
     event = event.Read 0;
@@ -194,6 +196,8 @@ pin_known limit history s t k holds = by t.row
     by Refused = k
     by Full = k
     by NoMemory = k
+    by Unkept = k
+    by KeeperFull = k
 
 pub outcomes_are_steps : OutcomesAreSteps
 outcomes_are_steps limit history s [] room known there o = tt

@@ -7,7 +7,7 @@ use Rattle.version_store.specs.declared.event.Outcome.{Outcome}
 use Rattle.version_store.specs.declared.event.Outcome.TheVariants as outcome
 use Rattle.version_store.specs.Machine.{Versions, step}
 use Rattle.session.specs.declared.row.Row.{Row}
-use Rattle.session.specs.declared.row.Row.TheVariants.{Read, Pinned, SeenPinned, Behind, Refused, Published, Stale, Full, NoMemory}
+use Rattle.session.specs.declared.row.Row.TheVariants.{Read, Pinned, SeenPinned, Behind, Refused, Published, Stale, Full, NoMemory, Unkept, KeeperFull}
 use Rattle.session.specs.Items.{Asked, asked_of}
 use Rattle.session.specs.Outcomes.{Standing, Turn, next, IsGoodEdit, Outcomes}
 
@@ -19,7 +19,8 @@ machine_at limit history count pin = record { history = take count history; limi
 abbrev pub CommitsEdited : List BaseMap → ℕ → Asked → Event → Type 0
 CommitsEdited history pin asked e = (made : BaseMap) × IsGoodEdit history pin asked made × (e ≡ event.Commit 0 made)
 
--- The event that an outcome is. Where the pin stays and nothing is committed, the version that is pinned is read.
+-- The event that an outcome is. Where the pin stays and nothing is committed, the version that is pinned is read. That a keeper refuses the
+-- batch is no event.
 abbrev pub IsEvent : Row → List BaseMap → ℕ → Asked → Event → Type 0
 IsEvent Pinned history pin asked e = e ≡ event.Pin 0
 IsEvent SeenPinned history pin asked e = e ≡ event.Pin 0
@@ -30,6 +31,8 @@ IsEvent Read history pin asked e = e ≡ event.Read 0
 IsEvent Behind history pin asked e = e ≡ event.Read 0
 IsEvent Refused history pin asked e = e ≡ event.Read 0
 IsEvent NoMemory history pin asked e = e ≡ event.Read 0
+IsEvent Unkept history pin asked e = ⊥
+IsEvent KeeperFull history pin asked e = ⊥
 
 -- what the machine answers where the pin and the number of the outcome are these
 abbrev pub answer_of_machine : Row → ℕ → ℕ → Outcome
@@ -42,6 +45,8 @@ answer_of_machine Read pin n = outcome.At n
 answer_of_machine Behind pin n = outcome.At pin
 answer_of_machine Refused pin n = outcome.At n
 answer_of_machine NoMemory pin n = outcome.At n
+answer_of_machine Unkept pin n = outcome.Idle
+answer_of_machine KeeperFull pin n = outcome.Idle
 
 -- One outcome: when it comes, there are at least the versions that the client knows of. The step of the machine leaves as many as it knows
 -- of afterwards, with the pin that the connection has then, which is no older. A client that is behind is told the newest version.
@@ -56,10 +61,24 @@ pub record IsStep (limit : ℕ) (history : List BaseMap) (s : Standing) (t : Tur
   pub newest : t.row ≡ Behind → t.number + 1 ≡ count
   pub no_older : s.pin ≤ (next s t).pin
 
--- each outcome is a step, where the connection stands after those before it
+-- An outcome is a step, but for an edit that a keeper refuses: that is no event, and the connection stands where it stood.
+abbrev pub IsStepOrNone : Row → ℕ → List BaseMap → Standing → Turn → Type 0
+IsStepOrNone Unkept limit history s t = next s t ≡ s
+IsStepOrNone KeeperFull limit history s t = next s t ≡ s
+IsStepOrNone Read limit history s t = IsStep limit history s t
+IsStepOrNone Pinned limit history s t = IsStep limit history s t
+IsStepOrNone SeenPinned limit history s t = IsStep limit history s t
+IsStepOrNone Behind limit history s t = IsStep limit history s t
+IsStepOrNone Refused limit history s t = IsStep limit history s t
+IsStepOrNone Published limit history s t = IsStep limit history s t
+IsStepOrNone Stale limit history s t = IsStep limit history s t
+IsStepOrNone Full limit history s t = IsStep limit history s t
+IsStepOrNone NoMemory limit history s t = IsStep limit history s t
+
+-- each outcome is a step or none, where the connection stands after those before it
 abbrev pub AreSteps : ℕ → List BaseMap → Standing → List Turn → Type 0
 AreSteps limit history s [] = ⊤
-AreSteps limit history s (t ∷ turns) = IsStep limit history s t × AreSteps limit history (next s t) turns
+AreSteps limit history s (t ∷ turns) = IsStepOrNone t.row limit history s t × AreSteps limit history (next s t) turns
 
 -- so are those that hold over a list of which there is no more than there may be, where the pin is known and there
 abbrev pub OutcomesAreSteps : Type 0

@@ -1,5 +1,5 @@
 -- What becomes of a batch of edits.
-use Rattle.std.proofs.Common.{◌≡◌, ℕ, ◌+◌, ◌<◌, ◌≤◌, Bool, List, length, Option, Some, None, Result, Ok, Err, IsSome, IfOk, refl, sym, ap, ◌∙◌, subst, arith, slice_get, codes, option_map}
+use Rattle.std.proofs.Common.{◌≡◌, ℕ, ◌+◌, ◌<◌, ◌≤◌, Bool, List, [], ◌∷◌, length, Option, Some, None, Result, Ok, Err, IsSome, IfOk, refl, sym, ap, ◌∙◌, subst, arith, slice_get, codes, option_map}
 use Rattle.std.specs.Arc.{arc_value}
 use Rattle.std.specs.Option.{option_and_then}
 use Rattle.tgap_model.specs.declared.fault.MapFault.{MapFault}
@@ -8,7 +8,7 @@ use Rattle.tgap_model.specs.Partition.{map_fault}
 use Rattle.edit_laws.specs.Edits.{edited}
 use Rattle.line_forms.specs.Texts.{line, fault_text}
 use Rattle.http_face.specs.declared.request.Route.TheVariants.{Edit as EditRoute}
-use Rattle.session.specs.declared.row.Row.TheVariants.{Refused, Published, Stale, Full}
+use Rattle.session.specs.declared.row.Row.TheVariants.{Refused, Published, Stale, Full, Unkept, KeeperFull}
 use Rattle.version_store.specs.declared.pin.Pin.{Pin}
 use Rattle.map_version.specs.declared.version.Version.{Version}
 use Rattle.session.specs.declared.turn.Turned.{Turned}
@@ -75,6 +75,30 @@ full_turn before now pin made batch close reply n p c e f limit next is = record
   moved = refl;
 }
 
+pub unkept_turn : (before now : Seen) (pin : Pin Version) (made : BaseMap) (batch : List ℕ) (close : Bool) (reply : List ℕ)
+    → IsPin before.history pin → Continues before now → edited (arc_value pin.held).built batch ≡ Ok made → map_fault made ≡ None
+    → reply ≡ sent pin.number close (plain 500 (line (codes "journal fault" ∷ [])))
+    → IsTurned before now pin.number pin.number (RouteAsked EditRoute batch) close (record { number = pin.number; row = Unkept; reply = reply })
+unkept_turn before now pin made batch close reply p c e f is = record {
+  holds = λ known below. (made, good before now pin made batch p c e f, refl);
+  answer = said 500 (codes "journal fault" ∷ []);
+  answered = refl;
+  reply = is;
+  moved = refl;
+}
+
+pub keeper_full_turn : (before now : Seen) (pin : Pin Version) (made : BaseMap) (batch : List ℕ) (close : Bool) (reply : List ℕ)
+    → IsPin before.history pin → Continues before now → edited (arc_value pin.held).built batch ≡ Ok made → map_fault made ≡ None
+    → reply ≡ sent pin.number close (plain 507 (line (numbered (codes "journal full") 67108864)))
+    → IsTurned before now pin.number pin.number (RouteAsked EditRoute batch) close (record { number = pin.number; row = KeeperFull; reply = reply })
+keeper_full_turn before now pin made batch close reply p c e f is = record {
+  holds = λ known below. (made, good before now pin made batch p c e f, refl);
+  answer = said 507 (numbered (codes "journal full") 67108864);
+  answered = refl;
+  reply = is;
+  moved = refl;
+}
+
 -- what the press answered
 abbrev fail_of : {T : Type 0} → PublishFail → Result T PublishFail
 fail_of fail = Err fail
@@ -93,6 +117,12 @@ refused_commit before now pin made batch close (press.VersionsFull n) t p c e f 
     let P : Turned → Type 0 = IsTurned before now pin.number pin.number (RouteAsked EditRoute batch) close in
     let s = full n refl in
     subst P (sym is) (full_turn before now pin made batch close _ n p c e f s.0 s.1 refl)
+refused_commit before now pin made batch close press.Unkept t p c e f stale full is =
+    let P : Turned → Type 0 = IsTurned before now pin.number pin.number (RouteAsked EditRoute batch) close in
+    subst P (sym is) (unkept_turn before now pin made batch close _ p c e f refl)
+refused_commit before now pin made batch close (press.KeeperFull n) t p c e f stale full is =
+    let P : Turned → Type 0 = IsTurned before now pin.number pin.number (RouteAsked EditRoute batch) close in
+    subst P (sym is) (keeper_full_turn before now pin made batch close _ p c e f refl)
 refused_commit before now pin made batch close press.Memory t p c e f stale full is = absurd is
 
 -- a fact of what is given, from another

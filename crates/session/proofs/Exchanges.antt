@@ -6,7 +6,7 @@ use Rattle.tgap_model.specs.declared.failure.Memory.{Memory}
 use Rattle.plain_io.specs.Puts.{Puts}
 use Rattle.tgap_model.specs.Faults.{Rose}
 use Rattle.session.specs.declared.row.Row.{Row}
-use Rattle.session.specs.declared.row.Row.TheVariants.{Read, Pinned, SeenPinned, Behind, Refused, Published, Stale, Full, NoMemory}
+use Rattle.session.specs.declared.row.Row.TheVariants.{Read, Pinned, SeenPinned, Behind, Refused, Published, Stale, Full, NoMemory, Unkept, KeeperFull}
 use Rattle.version_store.specs.declared.pin.Pin.{Pin}
 use Rattle.map_version.specs.declared.version.Version.{Version}
 use Rattle.session.specs.declared.turn.Turned.{Turned}
@@ -52,6 +52,8 @@ told_row before now item m Published c told n = (let x = c.tellings n in omega a
 told_row before now item m Stale c told n = (let x = c.tellings n in omega arith)
 told_row before now item m Full c told n = (let x = c.tellings n in omega arith)
 told_row before now item m NoMemory c told n = (let x = c.tellings n in omega arith)
+told_row before now item m Unkept c told n = (let x = c.tellings n in omega arith)
+told_row before now item m KeeperFull c told n = (let x = c.tellings n in omega arith)
 
 settled_told : (before now : Seen) (pin : ℕ) (close : Bool) (item : Item) (r : Result Turned Memory) → Continues before now → CountsTold before now r
     → ToldEnough before now (record { item = item; number = (settled pin close r).number; row = (settled pin close r).row } ∷ [])

@@ -7,7 +7,7 @@ use Rattle.std.proofs.lemmas.Option.{slice_get_within}
 use Rattle.std.specs.Option.{option_and_then}
 use Rattle.tgap_model.specs.Base.{BaseMap}
 use Rattle.session.specs.declared.row.Row.{Row}
-use Rattle.session.specs.declared.row.Row.TheVariants.{Read, Pinned, SeenPinned, Behind, Refused, Published, Stale, Full, NoMemory}
+use Rattle.session.specs.declared.row.Row.TheVariants.{Read, Pinned, SeenPinned, Behind, Refused, Published, Stale, Full, NoMemory, Unkept, KeeperFull}
 use Rattle.session.specs.Items.{Item, Asked, asked_of}
 use Rattle.session.specs.Answers.{read_answer}
 use Rattle.session.specs.Outcomes.{Standing, Turn, next, standing, pin_after, IsGoodEdit, IsNews, Holds, answer_of, edit_answer, Outcomes, replies, reply_in, sent, is_final}
@@ -31,6 +31,8 @@ answer_longer Published h more pin asked n b e = refl
 answer_longer Stale h more pin asked n b e = refl
 answer_longer Full h more pin asked n b e = refl
 answer_longer NoMemory h more pin asked n b e = refl
+answer_longer Unkept h more pin asked n b e = refl
+answer_longer KeeperFull h more pin asked n b e = refl
 
 news_longer : (h more : List BaseMap) (known n : ℕ) → IsNews h known n → IsNews (h ++ more) known n
 news_longer h more known n i = record { there = within_longer h more n i.there; news = i.news }
@@ -58,6 +60,8 @@ holds_longer Published limit h more s asked n b e (made, i, there, next, above, 
 holds_longer Stale limit h more s asked n b e (made, i, above, news) = (made, good_longer h more s.pin asked made i, above, news_longer h more s.known n news)
 holds_longer Full limit h more s asked n b e (made, i, is, next) = (made, good_longer h more s.pin asked made i, is, next)
 holds_longer NoMemory limit h more s asked n b e is = is
+holds_longer Unkept limit h more s asked n b e (made, i, is) = (made, good_longer h more s.pin asked made i, is)
+holds_longer KeeperFull limit h more s asked n b e (made, i, is) = (made, good_longer h more s.pin asked made i, is)
 
 -- there is a version of a number that is in the list
 version_at : {X : Type 0} (h : List X) (n : ℕ) → n < length h → (b : X) × (slice_get h n ≡ Some b)
@@ -77,6 +81,8 @@ pin_within Refused limit h s asked n p o = p
 pin_within Stale limit h s asked n p o = p
 pin_within Full limit h s asked n p o = p
 pin_within NoMemory limit h s asked n p o = p
+pin_within Unkept limit h s asked n p o = p
+pin_within KeeperFull limit h s asked n p o = p
 
 -- what the client knows afterwards is in the list
 pub known_within : (row : Row) (limit : ℕ) (h : List BaseMap) (s : Standing) (item : Item) (n : ℕ) → s.known < length h
@@ -90,6 +96,8 @@ known_within Read limit h s item n k o = k
 known_within Refused limit h s item n k o = k
 known_within Full limit h s item n k o = k
 known_within NoMemory limit h s item n k o = k
+known_within Unkept limit h s item n k o = k
+known_within KeeperFull limit h s item n k o = k
 
 pub known_is_there : (limit : ℕ) (h : List BaseMap) (s : Standing) (turns : List Turn) → s.known < length h → Outcomes limit h s turns
     → (standing s turns).known < length h

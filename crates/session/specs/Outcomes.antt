@@ -8,7 +8,7 @@ use Rattle.edit_laws.specs.Edits.{edited}
 use Rattle.http_face.specs.declared.request.Route.TheVariants.{Pin as PinRoute, PinSeen as PinSeenRoute, Edit as EditRoute}
 use Rattle.http_face.specs.Replies.{reply_text}
 use Rattle.session.specs.declared.row.Row.{Row}
-use Rattle.session.specs.declared.row.Row.TheVariants.{Read, Pinned, SeenPinned, Behind, Refused, Published, Stale, Full, NoMemory}
+use Rattle.session.specs.declared.row.Row.TheVariants.{Read, Pinned, SeenPinned, Behind, Refused, Published, Stale, Full, NoMemory, Unkept, KeeperFull}
 use Rattle.session.specs.declared.serve.TheConstants.{MAX_REQUESTS}
 use Rattle.session.specs.declared.answer.Answer.{Answer}
 use Rattle.session.specs.Items.{Item, is_closing, Asked, Route, asked_of}
@@ -40,6 +40,8 @@ place_of Published = 5
 place_of Stale = 6
 place_of Full = 7
 place_of NoMemory = 8
+place_of Unkept = 9
+place_of KeeperFull = 10
 
 -- ---- where a connection stands afterwards
 
@@ -106,6 +108,8 @@ answer_of Published history pin asked n = Some (said 200 (numbered (codes "publi
 answer_of Stale history pin asked n = Some (said 409 (numbered (codes "stale") n))
 answer_of Full history pin asked n = Some (said 507 (numbered (codes "versions full") n))
 answer_of NoMemory history pin asked n = Some (said 503 (codes "memory" ∷ []))
+answer_of Unkept history pin asked n = Some (said 500 (codes "journal fault" ∷ []))
+answer_of KeeperFull history pin asked n = Some (said 507 (numbered (codes "journal full") 67108864))
 
 -- What an outcome asks, by the rows of the table. The limit is the number of versions that there may be.
 abbrev pub Holds : Row → ℕ → List BaseMap → Standing → Asked → ℕ → Type 0
@@ -124,6 +128,8 @@ Holds Stale limit history s asked n =
 Holds Full limit history s asked n =
     (made : BaseMap) × IsGoodEdit history s.pin asked made × (n ≡ limit) × (n ≡ s.pin + 1)
 Holds NoMemory limit history s asked n = n ≡ s.pin
+Holds Unkept limit history s asked n = (made : BaseMap) × IsGoodEdit history s.pin asked made × (n ≡ s.pin)
+Holds KeeperFull limit history s asked n = (made : BaseMap) × IsGoodEdit history s.pin asked made × (n ≡ s.pin)
 
 -- each item has an outcome that holds, where the connection stands after those before it
 abbrev pub Outcomes : ℕ → List BaseMap → Standing → List Turn → Type 0

@@ -1,9 +1,9 @@
 -- What becomes of one item.
-use Rattle.std.specs.Prelude.{◌≡◌, ℕ, ◌+◌, ◌<◌, ◌≤◌, length, Some, Bool, Result, Ok, Err, ⊤, codes}
+use Rattle.std.specs.Prelude.{◌≡◌, ℕ, ◌+◌, ◌<◌, ◌≤◌, [], ◌∷◌, length, Some, Bool, Result, Ok, Err, ⊤, codes}
 use Rattle.tgap_model.specs.declared.failure.Memory.{Memory}
 use Rattle.tgap_model.specs.Faults.{Rose}
 use Rattle.session.specs.declared.row.Row.{Row}
-use Rattle.session.specs.declared.row.Row.TheVariants.{Behind, Published, NoMemory, Stale as StaleRow, Full as FullRow}
+use Rattle.session.specs.declared.row.Row.TheVariants.{Behind, Published, NoMemory, Stale as StaleRow, Full as FullRow, Unkept as UnkeptRow, KeeperFull as KeeperFullRow}
 use Rattle.line_forms.specs.Texts.{line}
 use Rattle.version_store.specs.declared.press.fail.PublishFail.{PublishFail}
 use Rattle.version_store.specs.declared.press.fail.PublishFail.TheVariants as fail
@@ -66,4 +66,8 @@ IsCommitRefused pin close (fail.Stale n) t =
     t ≡ record { number = n; row = StaleRow; reply = sent pin close (plain 409 (line (numbered (codes "stale") n))) }
 IsCommitRefused pin close (fail.VersionsFull n) t =
     t ≡ record { number = n; row = FullRow; reply = sent pin close (plain 507 (line (numbered (codes "versions full") n))) }
+IsCommitRefused pin close fail.Unkept t =
+    t ≡ record { number = pin; row = UnkeptRow; reply = sent pin close (plain 500 (line (codes "journal fault" ∷ []))) }
+IsCommitRefused pin close (fail.KeeperFull n) t =
+    t ≡ record { number = pin; row = KeeperFullRow; reply = sent pin close (plain 507 (line (numbered (codes "journal full") 67108864))) }
 IsCommitRefused pin close fail.Memory t = ⊥

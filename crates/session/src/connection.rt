@@ -17,7 +17,7 @@ use plain_io::{ConnectionEnd, EndKind, Link};
 use std::alloc::Global;
 use std::sync::{Mutex, Wait};
 use std::thread::Threads;
-use tgap_model::List;
+use tgap_model::{List, NoKeeper};
 use version_store::{Press, Seat, StoreName};
 
 /// The end of a connection that had no memory to begin with.
@@ -79,13 +79,14 @@ fn converse<R: Threads + Wait + Sync, L: Link, P, V: Versions<P>>(
 /// were asked for takes memory as they come, and is given up where there is none. The press is locked for a moment for
 /// each `/pin/{seen}` above the newest version that the seat sees, and twice for each edit that is good: once it is
 /// applied and checked, to see whether it would be stale or there is no room for it, and again to publish the version
-/// that was built in between.
+/// that was built in between. There it stays locked while the press's keeper keeps the batch: another connection's edit
+/// or such a `/pin/{seen}` waits as long, and a plain pin does not.
 pub fn serve_connection<L: Link, N: StoreName, R: Threads + Wait + Sync>(
     rt: &R,
     alloc: Global,
     link: &mut L,
     seat: &mut Seat<Version, N>,
-    press: &Mutex<Press<Version, N>>,
+    press: &Mutex<Press<Version, N, NoKeeper>>,
 ) -> ConnectionEnd
     requires { L.ended link.old ≡ false }
     // Each request has an outcome over the versions that the seat has seen at the end, the replies to them were
@@ -110,7 +111,7 @@ pub fn serve_connection_at<L: Link, N: StoreName, R: Threads + Wait + Sync>(
     alloc: Global,
     link: &mut L,
     seat: &mut Seat<Version, N>,
-    press: &Mutex<Press<Version, N>>,
+    press: &Mutex<Press<Version, N, NoKeeper>>,
     desk: &mut Desk,
 ) -> ConnectionEnd
     requires open { L.ended link.old ≡ false }

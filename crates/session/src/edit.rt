@@ -14,7 +14,7 @@ ghost use Rattle.session.specs.Turns.{IsTurned, CountsPublished, CountsTold, IsC
 ghost use Rattle.session.specs.declared.row.Row.TheVariants.{Refused as RowRefused};
 ghost use Rattle.line_forms.specs.Texts.{fault_text};
 
-use crate::answer::{numbered_line, plain, sent};
+use crate::answer::{line, numbered_line, plain, sent};
 use crate::row::Row;
 use crate::turn::Turned;
 use crate::versions::Versions;
@@ -23,7 +23,7 @@ use plain_io::{put_count, put_field};
 use std::alloc::Global;
 use std::sync::{Arc, Wait};
 use std::thread::Threads;
-use tgap_model::{Checked, MapFault, Memory, Text};
+use tgap_model::{Checked, MAX_TEXT_BYTES, MapFault, Memory, Text};
 use version_store::{Pin, PublishFail};
 use wire_text::fault_text;
 
@@ -76,6 +76,14 @@ fn refuse_commit(
         PublishFail::VersionsFull { limit } => {
             let body = numbered_line(alloc, b"versions full", limit)?;
             refused(alloc, pin, limit, Row::Full, 507, body, close)
+        }
+        PublishFail::Unkept => {
+            let body = line(alloc, b"journal fault")?;
+            refused(alloc, pin, pin.number, Row::Unkept, 500, body, close)
+        }
+        PublishFail::KeeperFull { .. } => {
+            let body = numbered_line(alloc, b"journal full", MAX_TEXT_BYTES)?;
+            refused(alloc, pin, pin.number, Row::KeeperFull, 507, body, close)
         }
         PublishFail::Memory => Err(Memory),
     }

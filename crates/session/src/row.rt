@@ -21,4 +21,8 @@ pub enum Row {
     Full,
     /// There was no memory to answer it.
     NoMemory,
+    /// The keeper failed to keep the batch, and so the edited map is not published.
+    Unkept,
+    /// The keeper has no room for the batch, and so the edited map is not published.
+    KeeperFull,
 }

@@ -6,10 +6,10 @@ use crate::versions::Versions;
 use map_version::Version;
 use std::alloc::Global;
 use std::sync::{Arc, Mutex, Wait};
-use tgap_model::Memory;
+use tgap_model::{Memory, NoKeeper};
 use version_store::{Pin, Press, PublishFail, Seat, StoreName};
 
-impl<N: StoreName> Versions<Mutex<Press<Version, N>>> for Seat<Version, N> {
+impl<N: StoreName> Versions<Mutex<Press<Version, N, NoKeeper>>> for Seat<Version, N> {
     ghost use Rattle.session.specs.Versions.{seen_of};
 
     ghost seen = { seen_of };
@@ -22,7 +22,7 @@ impl<N: StoreName> Versions<Mutex<Press<Version, N>>> for Seat<Version, N> {
         &mut self,
         rt: &R,
         alloc: Global,
-        press: &Mutex<Press<Version, N>>,
+        press: &Mutex<Press<Version, N, NoKeeper>>,
     ) -> Result<u64, Memory> {
         let mut press = press.lock(rt);
         press.newest(alloc, self)
@@ -31,7 +31,7 @@ impl<N: StoreName> Versions<Mutex<Press<Version, N>>> for Seat<Version, N> {
     fn ready<R: Wait>(
         &mut self,
         rt: &R,
-        press: &Mutex<Press<Version, N>>,
+        press: &Mutex<Press<Version, N, NoKeeper>>,
         named: u64,
     ) -> Result<(), PublishFail> {
         let mut press = press.lock(rt);
@@ -42,7 +42,7 @@ impl<N: StoreName> Versions<Mutex<Press<Version, N>>> for Seat<Version, N> {
         &mut self,
         rt: &R,
         alloc: Global,
-        press: &Mutex<Press<Version, N>>,
+        press: &Mutex<Press<Version, N, NoKeeper>>,
         named: u64,
         next: Arc<Version>,
     ) -> Result<u64, PublishFail> {

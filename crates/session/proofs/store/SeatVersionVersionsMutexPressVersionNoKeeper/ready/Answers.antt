@@ -1,7 +1,7 @@
 -- The seat has heard of the press's list.
 use Rattle.std.proofs.Common.{◌∙◌, sym}
 use Rattle.session.proofs.Stores.{sees_on, map_count}
-use Rattle.session.proofs.store.SeatVersionVersionsMutexPressVersion.ready.Goals as goal
+use Rattle.session.proofs.store.SeatVersionVersionsMutexPressVersionNoKeeper.ready.Goals as goal
 
 pub returns-clause-stale : goal.returns-clause-stale
 returns-clause-stale g c n is =

@@ -1,6 +1,6 @@
 -- The seat has heard of the press's list.
 use Rattle.session.proofs.Stores.{hears_on, hears_rise, all_taken, of_taken}
-use Rattle.session.proofs.store.SeatVersionVersionsMutexPressVersion.newest.Goals as goal
+use Rattle.session.proofs.store.SeatVersionVersionsMutexPressVersionNoKeeper.newest.Goals as goal
 
 pub returns-clause-told : goal.returns-clause-told
 returns-clause-told g c =

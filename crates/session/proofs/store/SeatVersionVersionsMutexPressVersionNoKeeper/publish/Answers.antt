@@ -2,7 +2,7 @@
 use Rattle.std.proofs.Common.{◌∙◌, sym}
 use Rattle.version_store.proofs.Lists.{one_limit}
 use Rattle.session.proofs.Stores.{sees_on, map_count, published_last, published_next}
-use Rattle.session.proofs.store.SeatVersionVersionsMutexPressVersion.publish.Goals as goal
+use Rattle.session.proofs.store.SeatVersionVersionsMutexPressVersionNoKeeper.publish.Goals as goal
 
 pub returns-clause-last : goal.returns-clause-last
 returns-clause-last g c =

@@ -1,6 +1,6 @@
 -- The seat has seen more.
 use Rattle.session.proofs.Stores.{sees_on}
-use Rattle.session.proofs.store.SeatVersionVersionsMutexPressVersion.pin.Goals as goal
+use Rattle.session.proofs.store.SeatVersionVersionsMutexPressVersionNoKeeper.pin.Goals as goal
 
 pub returns-clause-continues : goal.returns-clause-continues
 returns-clause-continues g c =
