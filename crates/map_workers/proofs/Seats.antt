@@ -9,6 +9,7 @@ use Rattle.plain_io.specs.Doors.{Connections, NoneCame}
 use Rattle.plain_io.specs.Links.{HasNone}
 use Rattle.tgap_model.specs.Base.{BaseMap}
 use Rattle.tgap_model.specs.declared.holds.Holds as Held
+use Rattle.tgap_model.specs.declared.keep.Keep as Keeper
 use Rattle.version_store.specs.declared.name.StoreName as Named
 use Rattle.version_store.specs.declared.seat.SeatOf.{SeatOf}
 use Rattle.version_store.specs.declared.press.PressOf.{PressOf}
@@ -239,8 +240,8 @@ connections_right link (Some all) told' before now history none s e =
 
 -- Of a new door and a seat that had seen all: where the seat's list begins the list that a press has now, the connections of the door are
 -- right over that one, and it begins with the list from before.
-pub door_right : {L N P : Type 0} {held : Held.Ghosts Version} {named : Named.Ghosts N} (link : OfLink.Ghosts L) (told told' : Option (Connections L))
-    (before now : SeatOf Version N P held named) (press press' : PressOf Version N P held named) → NoneCame told → SeesAll press before
+pub door_right : {L N K P : Type 0} {held : Held.Ghosts Version} {named : Named.Ghosts N} {keep : Keeper.Ghosts K} (link : OfLink.Ghosts L) (told told' : Option (Connections L))
+    (before now : SeatOf Version N P held named) (press press' : PressOf Version N K P held named keep) → NoneCame told → SeesAll press before
     → ServesDoor link told told' (Served (seen_of before) (seen_of now)) → IsPrefix (seat_versions now) (press_versions press')
     → Extends (press_maps press) (press_maps press')
     × ServedRight link (press_limit press) (press_maps press') (newest_of (press_maps press)) told'
@@ -255,8 +256,8 @@ door_right link told told' before now press press' none sees s front =
 
 -- Of all posts, each with a new door and a seat that had seen all: the connections of each door are right over the list that a
 -- press has now, and it begins with the list from before.
-pub posts_right : {Q D L N P : Type 0} {held : Held.Ghosts Version} {named : Named.Ghosts N} (door : Q → D) (seat : Q → SeatOf Version N P held named)
-    (link : OfLink.Ghosts L) (told : D → Option (Connections L)) (xs ys : List Q) (press press' : PressOf Version N P held named)
+pub posts_right : {Q D L N K P : Type 0} {held : Held.Ghosts Version} {named : Named.Ghosts N} {keep : Keeper.Ghosts K} (door : Q → D) (seat : Q → SeatOf Version N P held named)
+    (link : OfLink.Ghosts L) (told : D → Option (Connections L)) (xs ys : List Q) (press press' : PressOf Version N K P held named keep)
     → EachBecame (λ x y. ServesDoor link (told (door x)) (told (door y)) (Served (seen_of (seat x)) (seen_of (seat y)))) xs ys
     → All (λ x. NoneCame (told (door x))) xs → All (λ x. SeesAll press (seat x)) xs
     → All (λ y. IsPrefix (seat_versions (seat y)) (press_versions press')) ys

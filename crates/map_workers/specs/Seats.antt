@@ -8,6 +8,7 @@ use Rattle.plain_io.specs.Doors.{Connections}
 use Rattle.plain_io.specs.Links.{HasNone}
 use Rattle.tgap_model.specs.Base.{BaseMap}
 use Rattle.tgap_model.specs.declared.holds.Holds as Held
+use Rattle.tgap_model.specs.declared.keep.Keep as Keeper
 use Rattle.version_store.specs.declared.name.StoreName as Named
 use Rattle.version_store.specs.declared.seat.SeatOf.{SeatOf}
 use Rattle.version_store.specs.declared.press.PressOf.{PressOf}
@@ -130,11 +131,11 @@ pub record AreRight {L : Type 0} (link : OfLink.Ghosts L) (limit : ℕ) (history
 abbrev pub ServedRight : {L : Type 0} → OfLink.Ghosts L → ℕ → List BaseMap → ℕ → Option (Connections L) → Type 0
 ServedRight link limit history seen told = IfSome told (AreRight link limit history seen)
 
-module _ {N P : Type 0} {held : Held.Ghosts Version} {named : Named.Ghosts N} where
+module _ {N K P : Type 0} {held : Held.Ghosts Version} {named : Named.Ghosts N} {keep : Keeper.Ghosts K} where
   -- the maps of the published versions
-  abbrev pub press_maps : PressOf Version N P held named → List BaseMap
+  abbrev pub press_maps : PressOf Version N K P held named keep → List BaseMap
   press_maps press = map (λ v. v.built) (press_versions press)
 
   -- the seat has seen all published versions, and knows how many there may be
-  abbrev pub SeesAll : PressOf Version N P held named → SeatOf Version N P held named → Type 0
+  abbrev pub SeesAll : PressOf Version N K P held named keep → SeatOf Version N P held named → Type 0
   SeesAll press seat = (seat_versions seat ≡ press_versions press) × (seat_limit seat ≡ press_limit press)

@@ -14,6 +14,7 @@ use session::{Desk, serve_connection_at};
 use std::alloc::Global;
 use std::sync::{Mutex, Wait};
 use std::thread::Threads;
+use tgap_model::NoKeeper;
 use version_store::{Press, Seat, StoreName};
 use workers::{Attend, PostOf, ServeEnd, serve_posts};
 
@@ -21,7 +22,7 @@ use workers::{Attend, PostOf, ServeEnd, serve_posts};
 #[derive(Drop)]
 struct Shared<'a, N: StoreName> {
     alloc: Global,
-    press: &'a Mutex<Press<Version, N>>,
+    press: &'a Mutex<Press<Version, N, NoKeeper>>,
 }
 
 impl<N: StoreName> Attend<Shared<'_, N>> for Seat<Version, N> {
@@ -65,7 +66,7 @@ pub fn serve<D: Door + Send, N: StoreName + Send + Sync, R: Threads + Wait + Syn
     rt: &R,
     alloc: Global,
     posts: &mut [Post<D, N>],
-    press: &Mutex<Press<Version, N>>,
+    press: &Mutex<Press<Version, N, NoKeeper>>,
 ) -> ServeEnd
 where
     D::Line: Send,

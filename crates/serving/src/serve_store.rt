@@ -18,14 +18,14 @@ use plain_io::{Door, Harbour, Sink, put_count};
 use std::alloc::Global;
 use std::sync::{Mutex, Wait};
 use std::thread::Threads;
-use tgap_model::{Memory, Text};
+use tgap_model::{Memory, NoKeeper, Text};
 use version_store::{Fresh, Press, Seat, StoreName};
 use workers::PostOf;
 
 /// A store that was opened: its press, a post for each worker, and the line that tells the port.
 #[derive(Drop)]
 struct Service<D, N: StoreName> {
-    press: Press<Version, N>,
+    press: Press<Version, N, NoKeeper>,
     posts: Vec<Post<D, N>>,
     line: Text,
 }
@@ -188,7 +188,7 @@ where
 fn serve_doors<N: StoreName + Send + Sync, R: Threads + Wait + Sync, K: Sink, H: Harbour>(
     rt: &R,
     alloc: Global,
-    press: Press<Version, N>,
+    press: Press<Version, N, NoKeeper>,
     posts: Vec<Post<H::Gate, N>>,
     out: &mut K,
     harbour: &mut H,
@@ -220,7 +220,7 @@ where
 /// Ends the posts and the press. The doors go back to their harbour.
 fn hand_back<N: StoreName, R: Wait, H: Harbour>(
     rt: &R,
-    press: Press<Version, N>,
+    press: Press<Version, N, NoKeeper>,
     posts: Vec<Post<H::Gate, N>>,
     harbour: &mut H,
 )
