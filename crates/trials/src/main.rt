@@ -13,6 +13,7 @@ use outcome::Outcome;
 use plain_io::{HostFiles, HostSink, Sink};
 use std::alloc::Global;
 use std::fs::File;
+use std::io::ErrorKind;
 use std::process::ExitCode;
 use std::rt::{Env, Files as FileSystem};
 use std::thread::Threads;
@@ -31,11 +32,13 @@ fn main(rt: HostRuntime) -> ExitCode {
     ExitCode::from(outcome.status())
 }
 
-/// The words of the command line, without the name of the program; none where they are not to be had.
+/// The words of the command line, without the name of the program; none where one of them is no text.
 fn words<R: Env + AllocGlobal>(rt: &R, alloc: Global) -> Result<Vec<String>, Memory> {
     let mut words = Vec::new(alloc);
-    let Ok(arguments) = env::args(rt) else {
-        return Ok(words);
+    let arguments = match env::args(rt) {
+        Ok(arguments) => arguments,
+        Err(error) if error.kind() == ErrorKind::OutOfMemory => return Err(Memory),
+        Err(_) => return Ok(words),
     };
     for word in arguments.skip(1) {
         words.push(word)?;
