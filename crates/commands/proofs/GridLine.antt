@@ -35,7 +35,7 @@ use Rattle.client_replay.proofs.Form.{slice_parts}
 use Rattle.client_replay.proofs.Replays.{own_step}
 use Rattle.generator.specs.GridMap.{grid_base}
 use Rattle.commands.specs.declared.outcome.Outcome.{Outcome}
-use Rattle.commands.specs.declared.outcome.Outcome.TheVariants.{Done, Usage, LoadFault, Refused, StepTooHigh, NotCoarser, OutOfMemory, PortFault, Unfit}
+use Rattle.commands.specs.declared.outcome.Outcome.TheVariants.{Done, Usage, LoadFault, Refused, StepTooHigh, NotCoarser, OutOfMemory, PortFault, Unfit, JournalFault, BadEntry, LongJournal}
 use Rattle.commands.specs.Outcomes.{refusal}
 use Rattle.plain_io.specs.declared.files.Which.{Which}
 use Rattle.plain_io.specs.Loads.{Told}
@@ -190,6 +190,9 @@ grid_done rows m (NotCoarser from to) is planar faces arcs points (inr h) = absu
 grid_done rows m OutOfMemory is planar faces arcs points (inr h) = absurd h.0
 grid_done rows m PortFault is planar faces arcs points (inr h) = absurd h.0
 grid_done rows m (Unfit misfit) is planar faces arcs points (inr h) = absurd h.0
+grid_done rows m JournalFault is planar faces arcs points (inr h) = absurd h.0
+grid_done rows m (BadEntry place) is planar faces arcs points (inr h) = absurd h.0
+grid_done rows m (LongJournal batches) is planar faces arcs points (inr h) = absurd h.0
 
 -- it is what the words ask for
 pub grid_answers : (words : List (List ℕ)) (told : Which → List ℕ → Told) (rose : Which → Type 0) (rows : ℕ) (o : Outcome) → Some (spec.Grid rows) ≡ command words

@@ -12,7 +12,7 @@ use Rattle.tgap_model.specs.declared.topology.RawMap.{RawMap}
 use Rattle.map_forms.specs.RulesFile.{rules_of}
 use Rattle.topology_forms.specs.Topology.{topology}
 use Rattle.topology_forms.specs.Rings.{based, topology_base}
-use Rattle.tgap_model.specs.Faults.{Rose}
+use Rattle.tgap_model.specs.Faults.{Rises}
 use Rattle.plain_io.specs.declared.files.Which.{Which}
 use Rattle.plain_io.specs.declared.files.Which.TheVariants.{Map, Rules, Slice, Packet}
 use Rattle.plain_io.specs.Loads.{Told, Untold, Missing, Holds, OfFile, OthersStay}
@@ -23,7 +23,7 @@ use Rattle.std.specs.Result.{IsErrAnd}
 use Rattle.commands.specs.Outcomes.{IsOfFiles, refusal}
 use Rattle.commands.specs.Command.{Source, Listing, Topology}
 use Rattle.commands.specs.MapFile.{Contents, FileName, map_file, rules_file, files_of_map, IsTopologyOf, OfMap, of_map}
-use Rattle.commands.specs.Answers.{Answering, Failed, Fetches, KeepCounts, ReadsListing, ReadsTopology, ReadsMap}
+use Rattle.commands.specs.Answers.{Answering, Failed, Fetches, IsReached, KeepCounts, ReadsListing, ReadsTopology, ReadsMap}
 
 -- there are lists of each length
 list_of : (n : ℕ) → (xs : List ℕ) × (length xs ≡ n)
@@ -51,12 +51,16 @@ same_kind Packet Rules = inr (λ e. cc)
 same_kind Packet Slice = inr (λ e. cc)
 same_kind Packet Packet = inl refl
 
--- the first of some names, and the second, are among them
-pub in_first : (n : FileName) (names : List FileName) → Contains (n ∷ names) n
+-- the first of some names is among them, and so are those behind it
+in_first : (n : FileName) (names : List FileName) → Contains (n ∷ names) n
 in_first n names = (0, omega arith, refl)
 
-pub in_second : (m n : FileName) (names : List FileName) → Contains (m ∷ n ∷ names) n
-in_second m n names = (1, omega arith, refl)
+in_rest : (n : FileName) (names : List FileName) (file : FileName) → Contains names file → Contains (n ∷ names) file
+in_rest n names file h = (suc h.0, omega (arith, h.1), h.2)
+
+-- of two names the second is among them
+in_second : (m n : FileName) → Contains (m ∷ n ∷ []) n
+in_second m n = in_rest m (n ∷ []) n (in_first n [])
 
 -- the counts after a load that did not fail
 pub all_stay : (n : FileName) (before now : Which → ℕ) (tells : Which → Type 0) → now n.which ≡ before n.which → OthersStay n.which before now
@@ -87,9 +91,10 @@ pub stay_after : (n : FileName) (before now : Which → ℕ) (text : List ℕ)
     KeepCounts (n ∷ []) before now (λ kind. told (Ok text) ≡ told (Err (LoadFault kind)))) → (kind : Which) → now kind ≡ before kind
 stay_after n before now text keep kind = elim (keep kind) [ inl same ↦ same | inr failed ↦ (let clash = failed.3 in absurd cc) ]
 
--- a count that rises after it stayed
-rose_later : (before middle now : Which → ℕ) → ((kind : Which) → middle kind ≡ before kind) → (kind : Which) → Failed middle now kind → Failed before now kind
-rose_later before middle now stay kind rose = subst (λ (n : ℕ). Rose n (now kind)) (stay kind) rose
+-- a load that fails after the counts stayed
+failed_later : (before middle now : Which → ℕ) → ((kind : Which) → middle kind ≡ before kind) → (kind : Which) → Failed middle now kind → Failed before now kind
+failed_later before middle now stay kind failed =
+    (subst (λ (n : ℕ). Rises n (now kind)) (stay kind) failed.0, λ other apart. failed.1 other apart ∙ stay other)
 
 -- what is told of a file that is loaded after others
 pub fetched_later : (told now : Told) (max : ℕ) (which : Which) (before middle after : Which → ℕ) (r : Result (List ℕ) Outcome) → now ≡ told
@@ -98,7 +103,7 @@ fetched_later told now max which before middle after r same stay h = by r (subst
   where
     by : (r : Result (List ℕ) Outcome) → Fetches told max which (Failed middle after which) r → Fetches told max which (Failed before after which) r
     by (Ok text) h = h
-    by (Err o) (inl failed) = inl (failed.0, rose_later before middle after stay which failed.1)
+    by (Err o) (inl failed) = inl (failed.0, failed_later before middle after stay which failed.1)
     by (Err o) (inr h) = inr h
 
 -- a failed load that is passed on is told in the end
@@ -115,7 +120,7 @@ pub second_failed : {A : Type 0} (m n : FileName) (before middle now : Which →
     → (let told : Outcome → Result A Outcome = λ p. Err p in KeepCounts (m ∷ n ∷ []) before now (λ kind. r ≡ told (LoadFault kind)))
 second_failed m n before middle now o r stay passed keep kind = elim (keep kind) [
   | inl same ↦ inl (same ∙ stay kind)
-  | inr failed ↦ inr (n, in_second m n [], only failed.0 failed.1 ∙ failed.2, told_in_the_end o kind r passed failed.3)
+  | inr failed ↦ inr (n, in_second m n, only failed.0 failed.1 ∙ failed.2, told_in_the_end o kind r passed failed.3)
 ]
   where
     only : (f : FileName) → Contains (n ∷ []) f → n.which ≡ f.which
@@ -139,9 +144,22 @@ long_map (Topology map object rules) told rose o files more held is =
     inr (inr (files, (held, λ fits. absurd (omega (arith, fits, more))), (InputLong MAX_MAP_BYTES, is, inl (more, refl), rw (lt-ltb MAX_MAP_BYTES (length (files Map)) more) refl)))
 
 -- the file of a map is the first of those that are loaded
-map_is_first : (source : Source) → Contains (files_of_map source) (map_file (map_name source))
-map_is_first (Listing name) = in_first _ []
-map_is_first (Topology map object rules) = in_first _ (rules_file rules ∷ [])
+map_is_first : (source : Source) (told : Which → List ℕ → Told) → IsReached told (files_of_map source) (map_file (map_name source))
+map_is_first (Listing name) told = inl refl
+map_is_first (Topology map object rules) told = inl refl
+
+-- the load of a file that is reached is that of one of the named ones
+pub reached_is_named : (told : Which → List ℕ → Told) (names : List FileName) (file : FileName) → IsReached told names file → Contains names file
+reached_is_named told [] file h = absurd h
+reached_is_named told (n ∷ names) file (inl same) = rw same (in_first n names)
+reached_is_named told (n ∷ names) file (inr later) = in_rest n names file (reached_is_named told names file later.1)
+
+-- of a file of which these bytes were had it is not told that it is missing or too long
+pub is_loaded : (max : ℕ) (told : Told) (bytes : List ℕ) → length bytes ≤ max → OfFile told (λ held. bytes ≡ held)
+    → OfFile told (λ held. length held ≤ max)
+is_loaded max Untold bytes few had = tt
+is_loaded max Missing bytes few had = had
+is_loaded max (Holds held) bytes few had = subst (λ (b : List ℕ). length b ≤ max) had few
 
 -- A file that is known to be too long is so in some contents, whatever is told of it.
 pub some_long : (max : ℕ) (told : Told) → OfFile told (λ bytes. max < length bytes)
@@ -153,7 +171,7 @@ some_long max (Holds bytes) h = (bytes, h, refl)
 -- what comes where the file of a map is not had
 pub not_fetched : (source : Source) (told : Which → List ℕ → Told) (rose : Which → Type 0) (o : Outcome)
     → Fetches (told Map (map_name source)) MAX_MAP_BYTES Map (rose Map) (Err o) → ReadsMap source told rose (Err o)
-not_fetched source told rose o (inl failed) = inl (map_file (map_name source), map_is_first source, failed.0, failed.1)
+not_fetched source told rose o (inl failed) = inl (map_file (map_name source), map_is_first source told, failed.0, failed.1)
 not_fetched source told rose o (inr (inl memory)) = inr (inl memory)
 not_fetched source told rose o (inr (inr long)) =
     let some = some_long MAX_MAP_BYTES (told Map (map_name source)) long.1 in
@@ -220,7 +238,7 @@ both bytes rules Packet = []
 module _ (map object rules : List ℕ) (told : Which → List ℕ → Told) (rose : Which → Type 0) (bytes : List ℕ) (had : IsHad (told Map map) bytes) where
   -- what comes where the rules are not had
   no_rules : (o : Outcome) → Fetches (told Rules rules) MAX_MAP_BYTES Rules (rose Rules) (Err o) → ReadsMap (Topology map object rules) told rose (Err o)
-  no_rules o (inl failed) = inl (rules_file rules, in_second _ _ [], failed.0, failed.1)
+  no_rules o (inl failed) = inl (rules_file rules, inr (is_loaded MAX_MAP_BYTES (told Map map) bytes had.0 had.1, inl refl), failed.0, failed.1)
   no_rules o (inr (inl memory)) = inr (inl memory)
   no_rules o (inr (inr long)) =
       let some = some_long MAX_MAP_BYTES (told Rules rules) long.1 in

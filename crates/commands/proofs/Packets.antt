@@ -23,7 +23,7 @@ use Rattle.record_laws.proofs.UndoStep.{undo_goes_back}
 use Rattle.refine_packets.specs.declared.fail.PacketFail.{PacketFail}
 use Rattle.refine_packets.specs.declared.fail.PacketFail.TheVariants as fail
 use Rattle.commands.specs.declared.outcome.Outcome.{Outcome}
-use Rattle.commands.specs.declared.outcome.Outcome.TheVariants.{Done, Usage, LoadFault, Refused, StepTooHigh, NotCoarser, OutOfMemory, PortFault, Unfit}
+use Rattle.commands.specs.declared.outcome.Outcome.TheVariants.{Done, Usage, LoadFault, Refused, StepTooHigh, NotCoarser, OutOfMemory, PortFault, Unfit, JournalFault, BadEntry, LongJournal}
 use Rattle.commands.specs.Outcomes.{refusal, packet_refusal}
 use Rattle.commands.specs.Answers.{IsEither, outcome_from}
 use Rattle.commands.specs.Packet.{IsPacketOf, SaysPacket, SaysPacketOf, packet_outcome, packet_of_outcome}
@@ -62,6 +62,9 @@ packet_passed m from to o is none (inr h) = inr (says o h.0, rw (none, packet_ou
     says OutOfMemory s = absurd s
     says PortFault s = absurd s
     says (Unfit misfit) s = absurd s
+    says JournalFault s = absurd s
+    says (BadEntry place) s = absurd s
+    says (LongJournal batches) s = absurd s
 
 -- ---- what comes of two steps
 

@@ -32,7 +32,7 @@ use Rattle.commands.specs.Commands.{command}
 use Rattle.commands.specs.MapFile.{Contents, FileName}
 use Rattle.commands.specs.Answers.{Answering, Answers, AnswersCommand, Fetches, IsEither, KeepCounts, ReadsText, outcome_from}
 use Rattle.commands.specs.Replay.{slice_file, packet_file, files_of_replay, LeadsOn, IsBroken, IsUnfit, SaysTexts, reached, texts_told, texts_outcome, SaysReplay, replay_outcome}
-use Rattle.commands.proofs.Loads.{in_first, in_second, some_long}
+use Rattle.commands.proofs.Loads.{is_loaded, some_long}
 
 -- ---- records one after the other
 
@@ -192,7 +192,7 @@ module _ (slice packet : List ℕ) (told : Which → List ℕ → Told) (rose : 
   -- what comes where the file of the slice is not had
   no_slice : (o : Outcome) → (let fetched : Outcome → Result (List ℕ) Outcome = λ p. Err p in Fetches (told kind.Slice slice) MAX_TEXT_BYTES kind.Slice (rose kind.Slice) (fetched o))
       → AnswersReplay slice packet told rose o
-  no_slice o (inl failed) = inl (slice_file slice, in_first (slice_file slice) (packet_file packet ∷ []), failed.0, failed.1)
+  no_slice o (inl failed) = inl (slice_file slice, inl refl, failed.0, failed.1)
   no_slice o (inr (inl memory)) = inr (inl memory)
   no_slice o (inr (inr long)) =
       let some = some_long MAX_TEXT_BYTES (told kind.Slice slice) long.1 in
@@ -213,7 +213,7 @@ module _ (slice packet : List ℕ) (told : Which → List ℕ → Told) (rose : 
     -- what comes where the file of the packet is not had
     no_packet : (o : Outcome) → (let fetched : Outcome → Result (List ℕ) Outcome = λ p. Err p in Fetches (told kind.Packet packet) MAX_TEXT_BYTES kind.Packet (rose kind.Packet) (fetched o))
         → AnswersReplay slice packet told rose o
-    no_packet o (inl failed) = inl (packet_file packet, in_second (slice_file slice) (packet_file packet) [], failed.0, failed.1)
+    no_packet o (inl failed) = inl (packet_file packet, inr (is_loaded MAX_TEXT_BYTES (told kind.Slice slice) bytes few had, inl refl), failed.0, failed.1)
     no_packet o (inr (inl memory)) = inr (inl memory)
     no_packet o (inr (inr long)) =
         let some = some_long MAX_TEXT_BYTES (told kind.Packet packet) long.1 in

@@ -19,7 +19,7 @@ use Rattle.slice_read.specs.declared.fail.ReadFail.{ReadFail}
 use Rattle.slice_read.specs.declared.fail.ReadFail.TheVariants as fail
 use Rattle.slice_read.proofs.Slices.{relation, planar_edges, partition, adjacent, unions}
 use Rattle.commands.specs.declared.outcome.Outcome.{Outcome}
-use Rattle.commands.specs.declared.outcome.Outcome.TheVariants.{Done, Usage, LoadFault, Refused, StepTooHigh, NotCoarser, OutOfMemory, PortFault, Unfit}
+use Rattle.commands.specs.declared.outcome.Outcome.TheVariants.{Done, Usage, LoadFault, Refused, StepTooHigh, NotCoarser, OutOfMemory, PortFault, Unfit, JournalFault, BadEntry, LongJournal}
 use Rattle.commands.specs.Outcomes.{IsOfFiles, refusal, read_refusal}
 use Rattle.commands.specs.Answers.{IsEither, outcome_from}
 use Rattle.commands.specs.Borders.{SaysBorders, borders_outcome}
@@ -96,6 +96,9 @@ slice_passed m k o is none (inr h) = inr (says o h.0, rw (none, slice_outcome) h
     says OutOfMemory s = absurd s
     says PortFault s = absurd s
     says (Unfit misfit) s = absurd s
+    says JournalFault s = absurd s
+    says (BadEntry place) s = absurd s
+    says (LongJournal batches) s = absurd s
 
 -- one of two, by numbers
 by_less : {A : Type 0} (a b : ℕ) (x y : A) → a < b → (if nat_lt a b then x else y) ≡ x

@@ -7,13 +7,14 @@ use Rattle.tgap_model.specs.Faults.{Rises}
 use Rattle.tgap_model.specs.declared.fault.MapFault.{MapFault}
 use Rattle.commands.specs.declared.outcome.Misfit.{Misfit}
 use Rattle.commands.specs.declared.outcome.Outcome.{Outcome}
-use Rattle.commands.specs.declared.outcome.Outcome.TheVariants.{Done, Usage, LoadFault, Refused, StepTooHigh, NotCoarser, OutOfMemory, PortFault, Unfit}
+use Rattle.commands.specs.declared.outcome.Outcome.TheVariants.{Done, Usage, LoadFault, Refused, StepTooHigh, NotCoarser, OutOfMemory, PortFault, Unfit, JournalFault, BadEntry, LongJournal}
 use Rattle.commands.specs.Outcomes.{status_of, text_of, load_fault_text, not_coarser, TakesMemory, IsOfFiles}
 use Rattle.commands.specs.Delivery.{Delivers}
 use Rattle.commands.specs.Command.{Command}
 use Rattle.commands.specs.MapFile.{Contents, FileName}
 use Rattle.commands.specs.Commands.{command, files_of, Says, outcome_of}
-use Rattle.commands.specs.Answers.{Answers, AnswersCommand, KeepCounts, LeavesKind, MayHold, MissesOne, PutsAnswer, files_for}
+use Rattle.commands.specs.Answers.{Answers, AnswersCommand, IsReached, KeepCounts, LeavesKind, MayHold, MissesOne, PutsAnswer, files_for}
+use Rattle.commands.proofs.Loads.{reached_is_named}
 
 -- ---- outcomes by status
 
@@ -27,17 +28,24 @@ done_status (NotCoarser from to) e = absurd (omega arith)
 done_status OutOfMemory e = absurd (omega arith)
 done_status PortFault e = absurd (omega arith)
 done_status (Unfit misfit) e = absurd (omega arith)
+done_status JournalFault e = absurd (omega arith)
+done_status (BadEntry place) e = absurd (omega arith)
+done_status (LongJournal batches) e = absurd (omega arith)
 
-refused_status : (o : Outcome) → status_of o ≡ 4 → (fault : MapFault) × (o ≡ Refused fault)
-refused_status (Done text) e = absurd (omega arith)
-refused_status Usage e = absurd (omega arith)
-refused_status (LoadFault which) e = absurd (omega arith)
-refused_status (Refused fault) e = (fault, refl)
-refused_status (StepTooHigh steps) e = absurd (omega arith)
-refused_status (NotCoarser from to) e = absurd (omega arith)
-refused_status OutOfMemory e = absurd (omega arith)
-refused_status PortFault e = absurd (omega arith)
-refused_status (Unfit misfit) e = absurd (omega arith)
+-- a journal is refused with this status too, and that comes of none of the files
+refused_status : (o : Outcome) → status_of o ≡ 4 → IsOfFiles o → (fault : MapFault) × (o ≡ Refused fault)
+refused_status (Done text) e h = absurd (omega arith)
+refused_status Usage e h = absurd h
+refused_status (LoadFault which) e h = absurd h
+refused_status (Refused fault) e h = (fault, refl)
+refused_status (StepTooHigh steps) e h = absurd (omega arith)
+refused_status (NotCoarser from to) e h = absurd (omega arith)
+refused_status OutOfMemory e h = absurd h
+refused_status PortFault e h = absurd h
+refused_status (Unfit misfit) e h = absurd (omega arith)
+refused_status JournalFault e h = absurd h
+refused_status (BadEntry place) e h = absurd h
+refused_status (LongJournal batches) e h = absurd h
 
 above_status : (o : Outcome) → status_of o ≡ 5 → ((steps : ℕ) × (o ≡ StepTooHigh steps)) ⊎ ((steps : ℕ × ℕ) × (o ≡ not_coarser steps))
 above_status (Done text) e = absurd (omega arith)
@@ -49,6 +57,9 @@ above_status (NotCoarser from to) e = inr ((from, to), refl)
 above_status OutOfMemory e = absurd (omega arith)
 above_status PortFault e = absurd (omega arith)
 above_status (Unfit misfit) e = absurd (omega arith)
+above_status JournalFault e = absurd (omega arith)
+above_status (BadEntry place) e = absurd (omega arith)
+above_status (LongJournal batches) e = absurd (omega arith)
 
 unfit_status : (o : Outcome) → status_of o ≡ 9 → (misfit : Misfit) × (o ≡ Unfit misfit)
 unfit_status (Done text) e = absurd (omega arith)
@@ -60,6 +71,9 @@ unfit_status (NotCoarser from to) e = absurd (omega arith)
 unfit_status OutOfMemory e = absurd (omega arith)
 unfit_status PortFault e = absurd (omega arith)
 unfit_status (Unfit misfit) e = (misfit, refl)
+unfit_status JournalFault e = absurd (omega arith)
+unfit_status (BadEntry place) e = absurd (omega arith)
+unfit_status (LongJournal batches) e = absurd (omega arith)
 
 pub usage_apart : (o : Outcome) → status_of o ≡ 2 → IsOfFiles o → ⊥
 usage_apart (Done text) e h = omega arith
@@ -71,6 +85,9 @@ usage_apart (NotCoarser from to) e h = omega arith
 usage_apart OutOfMemory e h = h
 usage_apart PortFault e h = h
 usage_apart (Unfit misfit) e h = omega arith
+usage_apart JournalFault e h = h
+usage_apart (BadEntry place) e h = h
+usage_apart (LongJournal batches) e h = h
 
 port_status : (o : Outcome) → status_of o ≡ 8 → o ≡ PortFault
 port_status (Done text) e = absurd (omega arith)
@@ -82,6 +99,9 @@ port_status (NotCoarser from to) e = absurd (omega arith)
 port_status OutOfMemory e = absurd (omega arith)
 port_status PortFault e = refl
 port_status (Unfit misfit) e = absurd (omega arith)
+port_status JournalFault e = absurd (omega arith)
+port_status (BadEntry place) e = absurd (omega arith)
+port_status (LongJournal batches) e = absurd (omega arith)
 
 six_apart : (o : Outcome) → status_of o ≡ 6 → ⊥
 six_apart (Done text) e = omega arith
@@ -93,6 +113,9 @@ six_apart (NotCoarser from to) e = omega arith
 six_apart OutOfMemory e = omega arith
 six_apart PortFault e = omega arith
 six_apart (Unfit misfit) e = omega arith
+six_apart JournalFault e = omega arith
+six_apart (BadEntry place) e = omega arith
+six_apart (LongJournal batches) e = omega arith
 
 -- what comes of the files has another status than a failed load or want of memory
 files_status : (o : Outcome) → IsOfFiles o → (status_of o ≢ 3) × (status_of o ≢ 7)
@@ -105,6 +128,9 @@ files_status (NotCoarser from to) h = (λ e. omega (arith, e), λ e. omega (arit
 files_status OutOfMemory h = absurd h
 files_status PortFault h = absurd h
 files_status (Unfit misfit) h = (λ e. omega (arith, e), λ e. omega (arith, e))
+files_status JournalFault h = absurd h
+files_status (BadEntry place) h = absurd h
+files_status (LongJournal batches) h = absurd h
 
 -- ---- the outcome of words, by what they ask for
 
@@ -165,6 +191,17 @@ module _ {words : List (List ℕ)} {told : Which → List ℕ → Told} {rose : 
   status_is : (n : ℕ) → n ≢ 6 → status ≡ n → status_of p.outcome ≡ n
   status_is n not_six e = sym (whole (λ six. not_six (sym e ∙ six))).0 ∙ e
 
+  -- with a status that is none of words, loads, puts or memory it comes of the files
+  of_files : (n : ℕ) → status ≡ n → n ≢ 2 → n ≢ 3 → n ≢ 6 → n ≢ 7 → IsOfFiles p.outcome
+  of_files n s not_two not_three not_six not_seven =
+      let is = status_is n not_six s in
+      elim cases [
+        | inl none ↦ absurd (not_two (sym is ∙ ap status_of none.1))
+        | inr (c, asked, inl load) ↦ absurd (not_three (sym is ∙ ap status_of load.2))
+        | inr (c, asked, inr (inl memory)) ↦ absurd (not_seven (sym is ∙ ap status_of memory))
+        | inr (c, asked, inr (inr held)) ↦ held.4
+      ]
+
   -- what an outcome of this form says of the files, where it is none of words, loads or memory
   puts : {A : Type 0} (make : A → Outcome) (n : ℕ) (x : A) → p.outcome ≡ make x → status ≡ n → n ≢ 2 → n ≢ 3 → n ≢ 6 → n ≢ 7
       → PutsAnswer words told old new make
@@ -206,7 +243,8 @@ module _ {words : List (List ℕ)} {told : Which → List ℕ → Told} {rose : 
 
   pub four_says : status ≡ 4 → PutsAnswer words told old new Refused
   four_says e =
-      let d = refused_status p.outcome (status_is 4 (λ t. omega (arith, t)) e) in
+      let held = of_files 4 e (λ t. omega (arith, t)) (λ t. omega (arith, t)) (λ t. omega (arith, t)) (λ t. omega (arith, t)) in
+      let d = refused_status p.outcome (status_is 4 (λ t. omega (arith, t)) e) held in
       puts Refused 4 d.0 d.1 e (λ t. omega (arith, t)) (λ t. omega (arith, t)) (λ t. omega (arith, t)) (λ t. omega (arith, t))
 
   pub five_says : status ≡ 5 → PutsAnswer words told old new StepTooHigh ⊎ PutsAnswer words told old new not_coarser
@@ -229,9 +267,10 @@ module _ {words : List (List ℕ)} {told : Which → List ℕ → Told} {rose : 
     ]
   ]
 
-  pub three_says : status ≡ 3 → (c : Command) × (command words ≡ Some c)
-      × ((n : FileName) × Contains (files_of c) n × rose n.which × Appends old new (load_fault_text n.which))
-  three_says e =
+  -- the load of the file that is named is the first one that failed
+  pub first_says : status ≡ 3 → (c : Command) × (command words ≡ Some c)
+      × ((n : FileName) × IsReached told (files_of c) n × rose n.which × Appends old new (load_fault_text n.which))
+  first_says e =
       let is = status_is 3 (λ t. omega (arith, t)) e in
       elim cases [
         | inl none ↦ absurd (omega (arith, is, ap status_of none.1))
@@ -240,6 +279,13 @@ module _ {words : List (List ℕ)} {told : Which → List ℕ → Told} {rose : 
         | inr (c, asked, inr (inl memory)) ↦ absurd (omega (arith, is, ap status_of memory))
         | inr (c, asked, inr (inr held)) ↦ absurd ((files_status p.outcome held.4).0 is)
       ]
+
+  pub three_says : status ≡ 3 → (c : Command) × (command words ≡ Some c)
+      × ((n : FileName) × Contains (files_of c) n × rose n.which × Appends old new (load_fault_text n.which))
+  three_says e =
+      let f = first_says e in
+      let load = f.2 in
+      (f.0, f.1, (load.0, reached_is_named told (files_of f.0) load.0 load.1, load.2, load.3))
 
   pub missing_says : (c : Command) → command words ≡ Some c → MissesOne told (files_of c) → (status ≡ 3) ⊎ ((status ≡ 6) ⊎ (status ≡ 7))
   missing_says c asked missing = elim p.delivers [

@@ -5,8 +5,8 @@ use Rattle.tgap_model.specs.declared.fault.MapFault.TheVariants.{InputLong}
 use Rattle.tgap_model.specs.Base.{BaseMap}
 use Rattle.map_forms.specs.Listing.{IsListing, listing}
 use Rattle.plain_io.specs.declared.files.Which.{Which}
-use Rattle.tgap_model.specs.Faults.{Rose}
-use Rattle.plain_io.specs.Loads.{Told, Missing, Holds, OfFile}
+use Rattle.tgap_model.specs.Faults.{Rises}
+use Rattle.plain_io.specs.Loads.{Told, Missing, Holds, OfFile, OthersStay}
 use Rattle.plain_io.specs.Puts.{Appends}
 use Rattle.wire_text.specs.declared.row_reading.BadText.{BadText}
 use Rattle.commands.specs.declared.outcome.Misfit.{Misfit}
@@ -33,21 +33,27 @@ MissesOne told (n ∷ names) =
     (told n.which n.name ≡ Missing)
     ⊎ ((bytes : List ℕ) × (told n.which n.name ≡ Holds bytes) × (length bytes ≤ n.max) × MissesOne told names)
 
+-- It is one of the named files, and those before it are loaded: as far as is told, each is there and not too long.
+abbrev pub IsReached : (Which → List ℕ → Told) → List FileName → FileName → Type 0
+IsReached told [] file = ⊥
+IsReached told (n ∷ names) file =
+    (file ≡ n) ⊎ (OfFile (told n.which n.name) (λ bytes. length bytes ≤ n.max) × IsReached told names file)
+
 -- ---- the outcomes of a command
 
--- the count of a kind of file rose between two moments: a load of it failed
+-- Between two moments a load of this kind failed, and none of another: its count rose by one, and those of the others stayed.
 abbrev pub Failed : (Which → ℕ) → (Which → ℕ) → Which → Type 0
-Failed before now kind = Rose (before kind) (now kind)
+Failed before now kind = Rises (before kind) (now kind) × OthersStay kind before now
 
--- a load of one of the named files failed, which the count of its kind shows
-abbrev pub FailsToLoad : List FileName → (Which → Type 0) → Outcome → Type 0
-FailsToLoad names rose outcome = (n : FileName) × Contains names n × (outcome ≡ LoadFault n.which) × rose n.which
+-- A load of one of the named files failed, which the counts show. It is the first that did: those before it are loaded.
+abbrev pub FailsToLoad : (Which → List ℕ → Told) → List FileName → (Which → Type 0) → Outcome → Type 0
+FailsToLoad told names rose outcome = (n : FileName) × IsReached told names n × (outcome ≡ LoadFault n.which) × rose n.which
 
 -- The outcomes of what reads the named files: a load failed; memory is wanting; or what P says of contents that the files may have,
 -- which f computes.
 abbrev pub Answering : List FileName → (Contents → Outcome → Type 0) → (Contents → Outcome) → (Which → List ℕ → Told) → (Which → Type 0) → Outcome → Type 0
 Answering names P f told rose outcome =
-    FailsToLoad names rose outcome
+    FailsToLoad told names rose outcome
     ⊎ ((outcome ≡ OutOfMemory)
     ⊎ ((files : Contents) × MayHold told names files × P files outcome × (outcome ≡ f files) × IsOfFiles outcome))
 
@@ -104,7 +110,7 @@ abbrev pub ReadsMap : Source → (Which → List ℕ → Told) → (Which → Ty
 ReadsMap source told rose (Ok m) =
     (files : Contents) × MayHold told (files_of_map source) files × IsMapFile source files m × (read_map source files ≡ Ok m)
 ReadsMap source told rose (Err outcome) =
-    FailsToLoad (files_of_map source) rose outcome
+    FailsToLoad told (files_of_map source) rose outcome
     ⊎ ((outcome ≡ OutOfMemory)
     ⊎ ((files : Contents) × MayHold told (files_of_map source) files
     × ((fault : MapFault) × (outcome ≡ Refused fault) × IsRefusedFile source files fault × (read_map source files ≡ Err fault))))

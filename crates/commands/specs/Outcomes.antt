@@ -3,7 +3,7 @@ use Rattle.std.specs.Prelude.{ℕ, List, [], ◌∷◌, ◌++◌, codes, decimal
 use Rattle.tgap_model.specs.declared.fault.MapFault.{MapFault}
 use Rattle.tgap_model.specs.declared.failure.Or.{Or}
 use Rattle.tgap_model.specs.declared.failure.Or.TheVariants.{Fault, Memory}
-use Rattle.line_forms.specs.Texts.{line, fault_text, step_too_high_text}
+use Rattle.line_forms.specs.Texts.{line, refused_words, fault_text, step_too_high_text}
 use Rattle.client_replay.specs.declared.unfit.Unfit.{Unfit as Misfitting}
 use Rattle.slice_read.specs.declared.fail.ReadFail.{ReadFail}
 use Rattle.slice_read.specs.declared.fail.ReadFail.TheVariants as fail
@@ -18,10 +18,10 @@ use Rattle.commands.specs.declared.outcome.Misfit.TheVariants.{SliceLine, Packet
 use Rattle.commands.specs.declared.outcome.Line.{Line}
 use Rattle.commands.specs.declared.outcome.Line.TheVariants.{Fixed, Made}
 use Rattle.commands.specs.declared.outcome.Outcome.{Outcome}
-use Rattle.commands.specs.declared.outcome.Outcome.TheVariants.{Done, Usage, LoadFault, Refused, StepTooHigh, NotCoarser, OutOfMemory, PortFault, Unfit}
+use Rattle.commands.specs.declared.outcome.Outcome.TheVariants.{Done, Usage, LoadFault, Refused, StepTooHigh, NotCoarser, OutOfMemory, PortFault, Unfit, JournalFault, BadEntry, LongJournal}
 
 abbrev pub usage_text : List ℕ
-usage_text = codes "usage: borders MAP STEP | check MAP [OBJECT RULES] | slice MAP STEP [OBJECT RULES] | packet MAP FROM TO [OBJECT RULES] | replay SLICE PACKET | grid N | serve MAP PORT WORKERS VERSIONS [OBJECT RULES]" ++ 10 ∷ []
+usage_text = codes "usage: borders MAP STEP | check MAP [OBJECT RULES] | slice MAP STEP [OBJECT RULES] | packet MAP FROM TO [OBJECT RULES] | replay SLICE PACKET | grid N | serve MAP PORT WORKERS VERSIONS [OBJECT RULES] | keep MAP JOURNAL PORT WORKERS VERSIONS [OBJECT RULES]" ++ 10 ∷ []
 
 -- the word of a kind of file
 abbrev pub file_word : Which → List ℕ
@@ -44,6 +44,14 @@ misfit_text (SliceLine n) = line (codes "unfit" ∷ codes "slice" ∷ codes "lin
 misfit_text (PacketLine n) = line (codes "unfit" ∷ codes "packet" ∷ codes "line" ∷ decimal n ∷ [])
 misfit_text (Rule step rule) = line (codes "unfit" ∷ codes "step" ∷ decimal step ∷ codes "rule" ∷ decimal rule ∷ [])
 
+-- the entry at this place of a journal, counted from 0, does not follow those before it, or its batch makes no map
+abbrev pub journal_entry_text : ℕ → List ℕ
+journal_entry_text place = line (refused_words (codes "22") (codes "journal-entry") (decimal place ∷ []))
+
+-- a journal comes to this many batches, which are more than there may be versions for
+abbrev pub journal_long_text : ℕ → List ℕ
+journal_long_text batches = line (refused_words (codes "23") (codes "journal-long") (decimal batches ∷ []))
+
 abbrev pub status_of : Outcome → ℕ
 status_of (Done text) = 0
 status_of Usage = 2
@@ -54,6 +62,9 @@ status_of (NotCoarser from to) = 5
 status_of OutOfMemory = 7
 status_of PortFault = 8
 status_of (Unfit misfit) = 9
+status_of JournalFault = 3
+status_of (BadEntry place) = 4
+status_of (LongJournal batches) = 4
 
 abbrev pub text_of : Outcome → List ℕ
 text_of (Done text) = text
@@ -65,6 +76,9 @@ text_of (NotCoarser from to) = not_coarser_text from to
 text_of OutOfMemory = line (codes "memory" ∷ [])
 text_of PortFault = line (codes "port" ∷ codes "fault" ∷ [])
 text_of (Unfit misfit) = misfit_text misfit
+text_of JournalFault = line (codes "load" ∷ codes "fault" ∷ codes "journal" ∷ [])
+text_of (BadEntry place) = journal_entry_text place
+text_of (LongJournal batches) = journal_long_text batches
 
 -- the first of two steps, to go from, is below the second, to go to
 abbrev pub not_coarser : (ℕ × ℕ) → Outcome
@@ -81,8 +95,11 @@ TakesMemory (NotCoarser from to) = ⊤
 TakesMemory OutOfMemory = ⊥
 TakesMemory PortFault = ⊥
 TakesMemory (Unfit misfit) = ⊤
+TakesMemory JournalFault = ⊥
+TakesMemory (BadEntry place) = ⊤
+TakesMemory (LongJournal batches) = ⊤
 
--- It comes of what the files hold, and not of the words alone, a failed load, a port or want of memory.
+-- It comes of what the files that a command reads hold, and not of the words alone, a failed load, a port, a journal or want of memory.
 abbrev pub IsOfFiles : Outcome → Type 0
 IsOfFiles (Done text) = ⊤
 IsOfFiles Usage = ⊥
@@ -93,6 +110,9 @@ IsOfFiles (NotCoarser from to) = ⊤
 IsOfFiles OutOfMemory = ⊥
 IsOfFiles PortFault = ⊥
 IsOfFiles (Unfit misfit) = ⊤
+IsOfFiles JournalFault = ⊥
+IsOfFiles (BadEntry place) = ⊥
+IsOfFiles (LongJournal batches) = ⊥
 
 -- the bytes of a text that is always there, or of one that was made
 abbrev pub bytes_of : Line → List ℕ

@@ -14,7 +14,8 @@ use std::thread::Threads;
 use tgap_model::Text;
 
 /// Does what the words of a command line ask for, where they are a command that ends by itself: loads the files that they
-/// name, and gives the outcome, of which nothing has been put yet. Where they are none, no file is loaded.
+/// name, one after the other up to one that cannot be loaded or is too long, and gives the outcome, of which nothing has been
+/// put yet. Where they are none, no file is loaded.
 pub fn execute<R: Threads + Sync, F: Files>(
     rt: &R,
     alloc: Global,

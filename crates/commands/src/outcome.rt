@@ -3,18 +3,18 @@
 ghost use Rattle.std.specs.Prelude.{◌≡◌, ◌⊎◌, [], ◌∷◌, ◌++◌, decimal, IfOk, OnErr};
 ghost use Rattle.commands.specs.declared.outcome.Outcome.TheVariants as outcome;
 ghost use Rattle.commands.specs.declared.outcome.Misfit.TheVariants as misfit;
-ghost use Rattle.commands.specs.Outcomes.{TakesMemory, status_of, text_of, load_fault_text, not_coarser_text, misfit_text, bytes_of};
+ghost use Rattle.commands.specs.Outcomes.{TakesMemory, status_of, text_of, load_fault_text, not_coarser_text, misfit_text, journal_entry_text, journal_long_text, bytes_of};
 ghost use Rattle.commands.specs.Delivery.{Delivers, DeliversText};
 
 use client_replay::Unfit;
-use plain_io::{HarbourFail, Sink, Which, put_count};
+use plain_io::{HarbourFail, Sink, Which, put_count, put_field};
 use slice_read::ReadFail;
 use std::alloc::Global;
 use tgap_model::{MapFault, Memory, Or, Text};
 use wire_text::{fault_text, step_too_high_text};
 
 const USAGE: &[u8] =
-    b"usage: borders MAP STEP | check MAP [OBJECT RULES] | slice MAP STEP [OBJECT RULES] | packet MAP FROM TO [OBJECT RULES] | replay SLICE PACKET | grid N | serve MAP PORT WORKERS VERSIONS [OBJECT RULES]\n";
+    b"usage: borders MAP STEP | check MAP [OBJECT RULES] | slice MAP STEP [OBJECT RULES] | packet MAP FROM TO [OBJECT RULES] | replay SLICE PACKET | grid N | serve MAP PORT WORKERS VERSIONS [OBJECT RULES] | keep MAP JOURNAL PORT WORKERS VERSIONS [OBJECT RULES]\n";
 
 /// The status where the text could not be put.
 pub const SINK_FAULT: u8 = 6;
@@ -48,6 +48,12 @@ pub enum Outcome {
     PortFault,
     /// A text of a replay is none, or a record does not fit.
     Unfit(Misfit),
+    /// The journal could not be opened, read or written.
+    JournalFault,
+    /// The entry at this place of the journal, counted from 0, does not follow those before it, or its batch makes no map.
+    BadEntry { place: u64 },
+    /// The journal comes to this many batches, which are more than there may be versions for.
+    LongJournal { batches: u64 },
 }
 
 impl From<Memory> for Outcome {
@@ -144,8 +150,8 @@ impl Outcome {
         match self {
             Outcome::Done(_) => 0,
             Outcome::Usage => 2,
-            Outcome::LoadFault(_) => 3,
-            Outcome::Refused(_) => 4,
+            Outcome::LoadFault(_) | Outcome::JournalFault => 3,
+            Outcome::Refused(_) | Outcome::BadEntry { .. } | Outcome::LongJournal { .. } => 4,
             Outcome::StepTooHigh { .. } | Outcome::NotCoarser { .. } => 5,
             Outcome::OutOfMemory => 7,
             Outcome::PortFault => 8,
@@ -168,6 +174,9 @@ impl Outcome {
             Outcome::OutOfMemory => Line::Fixed(b"memory\n"),
             Outcome::PortFault => Line::Fixed(b"port fault\n"),
             Outcome::Unfit(misfit) => Line::Made(misfit_text(alloc, misfit)?),
+            Outcome::JournalFault => Line::Fixed(b"load fault journal\n"),
+            Outcome::BadEntry { place } => Line::Made(journal_entry_text(alloc, place)?),
+            Outcome::LongJournal { batches } => Line::Made(journal_long_text(alloc, batches)?),
         })
     }
 
@@ -213,18 +222,18 @@ fn misfit_text(alloc: Global, misfit: Misfit) -> Result<Text, Memory>
     ensures { IfOk result (λ text. text ≡ misfit_text misfit) }
 {
     match misfit {
-        Misfit::SliceLine { line } => numbered_text(alloc, b"unfit slice line", line),
-        Misfit::PacketLine { line } => numbered_text(alloc, b"unfit packet line", line),
+        Misfit::SliceLine { line } => numbered_text(alloc, b"unfit slice line", line.into()),
+        Misfit::PacketLine { line } => numbered_text(alloc, b"unfit packet line", line.into()),
         Misfit::Rule { step, rule } => broken_rule_text(alloc, step, rule),
     }
 }
 
 /// A line of these words and a number.
-fn numbered_text(alloc: Global, words: &[u8], number: u32) -> Result<Text, Memory>
+fn numbered_text(alloc: Global, words: &[u8], number: u64) -> Result<Text, Memory>
     ensures { IfOk result (λ text. text ≡ words.now ++ 32 ∷ decimal number ++ 10 ∷ []) }
 {
     let mut text = Text::from_slice(alloc, words)?;
-    put_count(alloc, &mut text, number)?;
+    put_field(alloc, &mut text, number.into())?;
     text.push_slice(b"\n")?;
     Ok(text)
 }
@@ -250,4 +259,18 @@ fn not_coarser_text(alloc: Global, from: u32, to: u32) -> Result<Text, Memory>
     put_count(alloc, &mut text, to)?;
     text.push_slice(b"\n")?;
     Ok(text)
+}
+
+/// The line that tells that the entry at this place of a journal cannot be taken.
+fn journal_entry_text(alloc: Global, place: u64) -> Result<Text, Memory>
+    ensures { IfOk result (λ text. text ≡ journal_entry_text place) }
+{
+    numbered_text(alloc, b"refused 22 journal-entry", place)
+}
+
+/// The line that tells that a journal comes to this many batches, and these are too many.
+fn journal_long_text(alloc: Global, batches: u64) -> Result<Text, Memory>
+    ensures { IfOk result (λ text. text ≡ journal_long_text batches) }
+{
+    numbered_text(alloc, b"refused 23 journal-long", batches)
 }

@@ -10,9 +10,9 @@ use Rattle.version_store.specs.Machine.{Versions, commit, step}
 use Rattle.session.specs.declared.row.Row.{Row}
 use Rattle.session.specs.declared.row.Row.TheVariants.{Read, Pinned, SeenPinned, Behind, Refused, Published, Stale, Full, NoMemory, Unkept, KeeperFull}
 use Rattle.session.specs.Items.{Item, asked_of}
-use Rattle.session.specs.Outcomes.{Standing, Turn, next, Holds}
+use Rattle.session.specs.Outcomes.{Standing, Turn, starting, next, Holds}
 use Rattle.session.proofs.Talks.{known_within}
-use Rattle.connection_laws.specs.Steps.{machine_at, IsStep, IsStepOrNone, OutcomesAreSteps}
+use Rattle.connection_laws.specs.Steps.{machine_at, IsFirstPin, IsStep, IsStepOrNone, OutcomesAreSteps, ConversationsAreSteps}
 
 -- ---- a list that is cut
 
@@ -205,4 +205,20 @@ outcomes_are_steps limit history s (t ∷ turns) room known there (holds, o) = (
   one_step limit history s t.item t.number room known there t.row holds,
   outcomes_are_steps limit history (next s t) turns room (pin_known limit history s t known holds)
       (known_within t.row limit history s t.item t.number there holds) o,
+)
+
+-- the first pin
+first_pin : (limit : ℕ) (history : List BaseMap) (first : ℕ) → first < length history → IsFirstPin limit history first
+first_pin limit history first there =
+    let long : length (take (first + 1) history) ≡ first + 1 = length-take-le (first + 1) history (omega (arith, there)) in
+    let newest : length (take (first + 1) history) - 1 ≡ first = omega (arith, long) in
+    record {
+      there = there;
+      step_is = ap (λ k. (machine_at limit history (first + 1) k, outcome.Pinned k)) newest;
+    }
+
+pub conversations_are_steps : ConversationsAreSteps
+conversations_are_steps before now taken taken' told told' ended end c = (
+  first_pin now.limit now.history end.first c.first,
+  outcomes_are_steps now.limit now.history (starting end.first) c.turns c.room (omega arith) c.first c.outcomes,
 )

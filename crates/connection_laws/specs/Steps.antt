@@ -1,6 +1,7 @@
 -- A connection as the one actor of a machine of versions, in which others publish between its steps.
-use Rattle.std.specs.Prelude.{◌≡◌, ℕ, ◌+◌, ◌<◌, ◌≤◌, List, [], ◌∷◌, length, take, Some, ⊤}
+use Rattle.std.specs.Prelude.{◌≡◌, ℕ, ◌+◌, ◌<◌, ◌≤◌, Bool, List, [], ◌∷◌, length, take, Option, Some, None, ⊤}
 use Rattle.tgap_model.specs.Base.{BaseMap}
+use Rattle.plain_io.specs.declared.connection.ConnectionEnd.{ConnectionEnd}
 use Rattle.version_store.specs.declared.event.Event.{Event}
 use Rattle.version_store.specs.declared.event.Event.TheVariants as event
 use Rattle.version_store.specs.declared.event.Outcome.{Outcome}
@@ -9,7 +10,9 @@ use Rattle.version_store.specs.Machine.{Versions, step}
 use Rattle.session.specs.declared.row.Row.{Row}
 use Rattle.session.specs.declared.row.Row.TheVariants.{Read, Pinned, SeenPinned, Behind, Refused, Published, Stale, Full, NoMemory, Unkept, KeeperFull}
 use Rattle.session.specs.Items.{Asked, asked_of}
-use Rattle.session.specs.Outcomes.{Standing, Turn, next, IsGoodEdit, Outcomes}
+use Rattle.session.specs.Outcomes.{Standing, Turn, starting, next, IsGoodEdit, Outcomes}
+use Rattle.session.specs.Versions.{Seen}
+use Rattle.session.specs.Conversation.{Conversation}
 
 -- the machine when the first versions of a list are there, so many of them, and its one actor has pinned one
 abbrev pub machine_at : ℕ → List BaseMap → ℕ → ℕ → Versions
@@ -85,3 +88,19 @@ abbrev pub OutcomesAreSteps : Type 0
 OutcomesAreSteps =
     (limit : ℕ) (history : List BaseMap) (s : Standing) (turns : List Turn) → length history ≤ limit → s.pin ≤ s.known → s.known < length history
     → Outcomes limit history s turns → AreSteps limit history s turns
+
+-- the machine when the first versions of a list are there, so many of them, and its one actor has pinned none
+abbrev pub machine_before : ℕ → List BaseMap → ℕ → Versions
+machine_before limit history count = record { history = take count history; limit = limit; pins = None ∷ [] }
+
+-- The first pin of a connection: when it comes, the versions up to the one of this number are there, which is pinned and told.
+pub record IsFirstPin (limit : ℕ) (history : List BaseMap) (first : ℕ) : Type 0 where
+  pub there : first < length history
+  pub step_is : step (machine_before limit history (first + 1)) (event.Pin 0) ≡ (machine_at limit history (first + 1) first, outcome.Pinned first)
+
+-- the first pin of any connection that was served is a step, and so is each outcome that follows
+abbrev pub ConversationsAreSteps : Type 0
+ConversationsAreSteps =
+    (before now : Seen) (taken taken' told told' : Option (List ℕ)) (ended : Bool) (end : ConnectionEnd)
+    (c : Conversation before now taken taken' told told' ended end)
+    → IsFirstPin now.limit now.history end.first × AreSteps now.limit now.history (starting end.first) c.turns

@@ -33,6 +33,12 @@ starts_with_doubt held e found either = by_length (nat_lt (length held.entries) 
 pub image_starts : (most : ℕ) (held : Kept) (e : KeptEntry) (image : List ℕ) → IsLeft most held.entries (e ∷ []) image → IsOf (doubting held e) image
 image_starts most held e image left = starts_with_doubt held e (entries_of image).0 left.has
 
+-- what a crash leaves of a journal has its entries, with the one in doubt or without
+pub left_starts : (most : ℕ) (entries : List Entry) (doubt : Option Entry) (image : List ℕ) → IsLeft most (all_kept entries) (doubted doubt) image
+    → IsStart (record { entries = all_kept entries; doubt = option_map kept_of doubt }) (entries_of image).0
+left_starts most entries None image left = inl (ap (λ (p : List KeptEntry × ℕ). p.0) (settled_end most (all_kept entries) image left))
+left_starts most entries (Some e) image left = image_starts most (record { entries = all_kept entries; doubt = None }) (kept_of e) image left
+
 -- one entry more, and the place where the entries end then
 pub more_kept : (entries : List Entry) (entry : Entry) → all_kept (entries ++ entry ∷ []) ≡ all_kept entries ++ kept_of entry ∷ []
 more_kept entries entry = map-append kept_of entries (entry ∷ [])

@@ -71,6 +71,9 @@ pub trait Disk {
     fn faults(&self) -> u64
         ensures { result ≡ faults self.now };
 
+    /// Of a kind of disk each one is told, or none.
+    ghost told_alike: { (one other : Self) → told one ≡ told other };
+
     /// A read gives what a crash might leave.
     ghost seen_is_left: { (disk : Self) → told disk ≡ true → may_leave disk (seen disk) };
 

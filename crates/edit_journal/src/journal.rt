@@ -154,9 +154,10 @@ impl<D: Disk> Journal<D> {
         }
     }
 
-    /// The disk, as it is.
+    /// The disk, as it is: a crash leaves the entries, with the one in doubt or without.
     pub fn into_disk(self) -> D
-        ensures { result ≡ disk_of self }
+        ensures disk { result ≡ disk_of self }
+        ensures left { D.told result ≡ true → (image : List ℕ) → D.may_leave result image → IsOf (held_by self) image }
     {
         self.disk
     }

@@ -1,6 +1,6 @@
 //! A disk that records what is written to it.
 
-ghost use Rattle.std.specs.Prelude.{false, [], ⊤};
+ghost use Rattle.std.specs.Prelude.{false, [], ⊤, refl};
 
 use edit_journal::Disk;
 use plain_io::{Failed, LoadFail};
@@ -81,6 +81,8 @@ impl Disk for Recorder {
     fn faults(&self) -> u64 {
         0
     }
+
+    ghost told_alike = { λ one other. refl };
 
     ghost seen_is_left = { λ disk told. tt };
 

@@ -73,7 +73,7 @@ end_keeps true number m e base made = (let same : m ≡ e = cc in subst (λ (x :
 end_keeps false number m e base made = absurd cc
 
 -- what comes after a line that was applied
-line_then : {P : Type 0} (r : Result BaseMap ℕ) (number : ℕ) (later : BaseMap → Result BaseMap (ℕ × ℕ)) (e : BaseMap) → (at_line number r >>= later) ≡ Ok e
+pub line_then : {P : Type 0} (r : Result BaseMap ℕ) (number : ℕ) (later : BaseMap → Result BaseMap (ℕ × ℕ)) (e : BaseMap) → (at_line number r >>= later) ≡ Ok e
     → ((n : BaseMap) → r ≡ Ok n → later n ≡ Ok e → P) → P
 line_then (Ok n) number later e made use_it = use_it n refl made
 line_then (Err cause) number later e made use_it = absurd cc

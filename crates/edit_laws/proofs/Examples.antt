@@ -1,5 +1,5 @@
 -- Edits of two squares, and the first faults of others, computed from the definitions.
-use Rattle.std.proofs.Common.{◌≡◌, ℕ, false, pos, List, [], ◌∷◌, map, Some, Result, Ok, Err, refl, codes}
+use Rattle.std.proofs.Common.{◌≡◌, ℕ, true, false, pos, List, [], ◌∷◌, ◌++◌, map, Some, Result, Ok, Err, refl, codes}
 use Rattle.std.specs.Prelude.{replicate}
 use Rattle.std.specs.Fmt.{digits}
 use Rattle.tgap_model.specs.declared.geometry.Point.{Point}
@@ -8,6 +8,7 @@ use Rattle.tgap_model.specs.declared.limits.TheConstants.{MAX_POINTS}
 use Rattle.tgap_model.specs.Base.{BaseMap, count_points}
 use Rattle.line_forms.specs.Texts.{number_of}
 use Rattle.edit_laws.specs.Edits.{has_point, put_between, change_first, set_class, move_point, add_point, drop_point, edited}
+use Rattle.edit_laws.specs.EditLaws.{ends_line, joined_entry}
 
 -- an arc from the numbers of its line
 abbrev points_of : List ℕ → List Point
@@ -144,3 +145,22 @@ no_room m a b new arcs segment free full = rw (segment, free, full) refl
 first_fault : edited squares (codes "class 1 1\ndrop 10 0\nx\n") ≡ Err (2, 6)
 unfolding set_class drop_point number_of digits
 first_fault = refl
+
+-- ---- batches that are joined
+
+ends : map ends_line ([] ∷ codes "\n" ∷ codes "class 1 1\nclass 2 1\n" ∷ codes "class 1 1" ∷ codes "class 1 1\nclass 2 " ∷ []) ≡ true ∷ true ∷ true ∷ false ∷ false ∷ []
+ends = refl
+
+-- two halves of a line, each of which is refused by itself
+halves : each squares (codes "class 1 " ∷ codes "1\n" ∷ []) ≡ all_at 2 1 1
+unfolding number_of digits
+halves = refl
+
+halves_joined : edited squares (codes "class 1 " ++ codes "1\n") ≡ Ok (map_of (1 ∷ 0 ∷ []) squares.arcs)
+unfolding set_class number_of digits
+halves_joined = refl
+
+-- of three entries the second does not count, since the third makes its version anew
+three_joined : joined_entry (record { number = 1; batch = codes "class 1 1\n" } ∷ record { number = 2; batch = codes "class 1 0\n" } ∷ record { number = 2; batch = codes "class 2 1\n" } ∷ [])
+    ≡ record { number = 1; batch = codes "class 1 1\nclass 2 1\n" }
+three_joined = refl

@@ -4,3 +4,4 @@ pub mod Laws
 pub mod Numbers
 pub mod EditsKeep
 pub mod Batches
+pub mod Joined

@@ -1,17 +1,24 @@
--- The arcs with faces that are told of their sides, arc by arc.
-use Rattle.std.proofs.Common.{◌≡◌, ℕ, ◌+◌, ◌*◌, ◌<◌, ◌==◌, Bool, false, ◌&&◌, ◌||◌, List, [], ◌∷◌, ◌++◌, length, get_or, take, refl, sym, ap, ap₂, ◌∙◌, eqb-true, if◌then◌else◌, arith}
+-- The arcs with faces that are told of their sides, arc by arc, and those after a cut.
+use Rattle.std.proofs.Common.{◌≡◌, ℕ, ◌+◌, ◌*◌, ◌<◌, ◌==◌, Bool, false, ◌&&◌, List, [], ◌∷◌, ◌++◌, length, filter, get_or, take, All, Contains, refl, sym, ap, ap₂, ◌∙◌, true≢false, if◌then◌else◌, arith}
 use Rattle.std.specs.List.{list_any}
 use Rattle.std.proofs.lemmas.List.{take_more, length-take}
+use Rattle.std.proofs.lemmas.List.Elements.{All-filter, filter_passes}
+use Rattle.std.proofs.lemmas.List.Folds.{list_any_none, list_any-from_Any}
+use Rattle.lemmas.proofs.Members.{Contains-filter}
 use Rattle.tgap_model.specs.declared.geometry.Point.{Point}
 use Rattle.tgap_model.specs.declared.base.BaseArc.{BaseArc}
 use Rattle.ring_walk.specs.declared.side.Side.{Side}
-use Rattle.ring_walk.specs.Sides.{face_of, same_side, side_number}
-use Rattle.ring_walk.specs.Rings.{ring_from}
+use Rattle.ring_walk.specs.Sides.{face_of, same_side, side_number, sides}
 use Rattle.ring_walk.specs.Spans.{IsSide}
+use Rattle.ring_walk.proofs.SideNumbers.{all_sides_within, number_within, same_side-itself, same_side-true, sides_contain}
 use Rattle.face_cuts.specs.Sectors.{spans_of}
-use Rattle.face_cuts.specs.Cuts.{face_after, goes_over, lines_of, with_faces}
-use Rattle.face_cuts.specs.NewRings.{AreMoved, told_face}
-use Rattle.face_cuts.proofs.Cases.{by_test}
+use Rattle.face_cuts.specs.Cuts.{face_after, with_faces}
+use Rattle.face_cuts.specs.Moves.{divided_arcs, face_with, is_moved, moved_sides}
+use Rattle.face_cuts.specs.NewRings.{AreNoted, cut_arcs, told_face}
+use Rattle.face_cuts.specs.Tables.{sides_beside}
+use Rattle.face_cuts.proofs.Cases.{by_test, not_held}
+use Rattle.face_cuts.proofs.OverRings.{in_row_is}
+use Rattle.face_cuts.proofs.SpansOfArcs.{of_arc, of_span}
 use Rattle.face_cuts.proofs.CutsKeep.{along, against, number_of}
 
 pub faces_append : (face : Side → ℕ) (i : ℕ) (xs ys : List BaseArc) → with_faces face i (xs ++ ys) ≡ with_faces face i xs ++ with_faces face (i + length xs) ys
@@ -53,14 +60,49 @@ faces_more arcs f new moved k a b made more l here left right points so_far push
     ∙ ap (λ j. with_faces face 0 (take k arcs) ++ with_faces face j (a ∷ [])) place
     )
 
--- the faces that such notes tell are those after the cut
-pub told_is : (arcs : List BaseArc) (f new : ℕ) (points : List Point) (walk : List Side) (moved : List Bool) → AreMoved arcs f points walk moved
-    → with_faces (told_face arcs f new moved) 0 arcs ≡ with_faces (face_after arcs f new points walk) 0 arcs
-told_is arcs f new points walk moved m =
-    faces_agree (told_face arcs f new moved) (face_after arcs f new points walk) 0 arcs (λ s l. by_test (face_of (spans_of arcs) s == f)
-    (λ e.
+-- the faces that notes of the sides that go over tell
+pub told_is : (arcs : List BaseArc) (f new : ℕ) (moved : List Side) (notes : List Bool) → AreNoted (length arcs) moved notes
+    → with_faces (told_face arcs f new notes) 0 arcs ≡ with_faces (face_with arcs f new moved) 0 arcs
+told_is arcs f new moved notes h =
+    faces_agree (told_face arcs f new notes) (face_with arcs f new moved) 0 arcs (λ s l.
     let inside : IsSide (length arcs) s = omega (arith, l) in
-    let over = m.each s false inside (eqb-true (face_of (spans_of arcs) s) f e) in
-    ap (λ (b : Bool). if (face_of (spans_of arcs) s == f) && b then new else face_of (spans_of arcs) s) over)
-    (λ e. ap (λ (b : Bool). if b && get_or moved (side_number s) false then new else face_of (spans_of arcs) s) e
-    ∙ sym (ap (λ (b : Bool). if b && (list_any (same_side s) walk || goes_over (lines_of arcs) points walk (ring_from (spans_of arcs) s)) then new else face_of (spans_of arcs) s) e)))
+    ap (λ (b : Bool). if (face_of (spans_of arcs) s == f) && b then new else face_of (spans_of arcs) s)
+    (h.each (side_number s) false (number_within (length arcs) s inside) ∙ in_row_is moved s))
+
+-- ---- the sides that go over, and no others
+
+-- of the sides that a filter keeps, a side is one where it passes
+kept_has : (p : Side → Bool) (xs : List Side) (s : Side) → Contains xs s → list_any (same_side s) (filter p xs) ≡ p s
+kept_has p xs s c = by_test (p s)
+    (λ e.
+    let k = Contains-filter p xs s c e in
+    list_any-from_Any (same_side s) (filter p xs) (k.0, s, k.1, k.2, same_side-itself s) ∙ sym e)
+    (λ e.
+    list_any_none (same_side s) (filter p xs) (λ k d l.
+    let t = get_or (filter p xs) k d in
+    not_held (same_side s t) (λ same.
+    let is : s ≡ t = same_side-true s t same in
+    true≢false (sym (filter_passes p xs k d l) ∙ ap p (sym is) ∙ e)))
+    ∙ sym e)
+
+-- the arcs with the sides that go over are those after the cut
+pub divided_is : (arcs : List BaseArc) (f new : ℕ) (points : List Point) (walk : List Side) → divided_arcs arcs f new points (moved_sides arcs f points walk) ≡ cut_arcs arcs f new points walk
+divided_is arcs f new points walk =
+    let spans = spans_of arcs in
+    let moved = moved_sides arcs f points walk in
+    ap (λ (xs : List BaseArc). xs ++ record { left = new; right = f; points = points } ∷ [])
+    (faces_agree (face_with arcs f new moved) (face_after arcs f new points walk) 0 arcs (λ s l. by_test (face_of spans s == f)
+    (λ e.
+    let inside : IsSide (length spans) s = of_span arcs s (omega (arith, l)) in
+    let beside : Contains (sides_beside spans f) s = Contains-filter (λ t. face_of spans t == f) (sides (length spans)) s (sides_contain (length spans) s inside) e in
+    ap (λ (b : Bool). if (face_of spans s == f) && b then new else face_of spans s) (kept_has (is_moved arcs points walk) (sides_beside spans f) s beside))
+    (λ e. ap (λ (b : Bool). if b && list_any (same_side s) moved then new else face_of spans s) e
+    ∙ sym (ap (λ (b : Bool). if b && is_moved arcs points walk s then new else face_of spans s) e))))
+
+-- they are sides of the arcs
+pub moved_within : (arcs : List BaseArc) (f : ℕ) (points : List Point) (walk : List Side) → All (IsSide (length arcs)) (moved_sides arcs f points walk)
+moved_within arcs f points walk =
+    let spans = spans_of arcs in
+    let all = All-filter (is_moved arcs points walk) (IsSide (length spans)) (sides_beside spans f)
+    (All-filter (λ s. face_of spans s == f) (IsSide (length spans)) (sides (length spans)) (all_sides_within (length spans))) in
+    λ k d l. of_arc arcs (get_or (moved_sides arcs f points walk) k d) (all k d l)

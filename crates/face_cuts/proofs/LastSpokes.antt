@@ -1,5 +1,5 @@
--- The last one of the spokes of a node, found from the side of greatest number on.
-use Rattle.std.proofs.Common.{◌≡◌, ◌≢◌, ℕ, zero, suc, ◌+◌, ◌*◌, ◌<◌, Bool, true, false, ◌&&◌, ◌||◌, Option, Some, None, List, [], ◌∷◌, length, filter, drop, get_or, All, AllPairs, refl, sym, ap, ap₂, ◌∙◌, subst, length-drop, arith}
+-- The last one of the spokes of a node, found from the one of greatest number on.
+use Rattle.std.proofs.Common.{◌≡◌, ◌≢◌, ℕ, zero, suc, ◌+◌, ◌<◌, Bool, true, false, ◌&&◌, ◌||◌, Option, Some, None, List, [], ◌∷◌, length, filter, drop, get_or, All, AllPairs, refl, sym, ap, ap₂, ◌∙◌, subst, length-drop, arith}
 use Rattle.std.specs.Prelude.{⊤, cond, IsTrue, IfSome}
 use Rattle.std.specs.List.{last_or, list_any}
 use Rattle.std.specs.Option.{option_or}
@@ -17,12 +17,13 @@ use Rattle.ring_walk.specs.declared.side.Side.{Side}
 use Rattle.ring_walk.specs.declared.side.Way.{Way}
 use Rattle.ring_walk.specs.declared.side.Way.TheVariants.{Along, Against}
 use Rattle.ring_walk.specs.declared.spoke.Spoke.{Spoke}
-use Rattle.ring_walk.specs.Sides.{numbered, start_by, toward_by, start_of, toward_of, span_number, sides, spoke_before, spokes_at}
+use Rattle.ring_walk.specs.Sides.{start_by, toward_by, start_of, toward_of, span_number, sides, spoke_before, spokes_at}
 use Rattle.ring_walk.specs.Spans.{AreSpans, IsSide, before}
 use Rattle.ring_walk.proofs.Order.{before_strict, before_tied}
-use Rattle.ring_walk.proofs.SideNumbers.{all_sides_within, numbered_within, side_number-inj, sides_differ, length-sides, get_or-sides}
+use Rattle.ring_walk.proofs.SideNumbers.{all_sides_within, side_number-inj, sides_differ}
 use Rattle.face_cuts.specs.Sectors.{leaves_along, leaves_before, sector_at, spokes}
 use Rattle.face_cuts.specs.Spokes.{IsSpoke, later}
+use Rattle.face_cuts.specs.Tables.{sides_leaving}
 use Rattle.face_cuts.proofs.Cases.{by_test, or_left, or_right}
 
 -- ---- the last one of a sorted list to which one is added
@@ -132,51 +133,52 @@ module _ (spans : List Span) (h : AreSpans spans) (v : Point) where
       by true = h
       by false = p
 
--- ---- the sides from a number on
+-- ---- the spokes from a place on, in the order of their numbers
 
 abbrev pub spokes_from : List Span → Point → ℕ → List Side
-spokes_from spans v i = filter (λ s. same_point (start_of spans s) v) (drop i (sides (length spans)))
+spokes_from spans v i = drop i (sides_leaving spans v)
 
 module _ (spans : List Span) (v : Point) where
   abbrev at : Side → Bool
   at s = same_point (start_of spans s) v
 
-  pub next_from : (i : ℕ) → i < 2 * length spans → spokes_from spans v i ≡ cond (at (numbered i)) (numbered i ∷ spokes_from spans v (i + 1)) (spokes_from spans v (i + 1))
-  next_from i l =
-      let n = length spans in
-      ap (filter at) (drop_more (sides n) i (numbered i) (omega (arith, l, length-sides n)) ∙ ap (λ (s : Side). s ∷ drop (i + 1) (sides n)) (get_or-sides n i (numbered i) l))
+  abbrev leaving : List Side
+  leaving = sides_leaving spans v
 
-  -- no side is left
-  pub none_from : spokes_from spans v (2 * length spans) ≡ []
-  none_from = ap (filter at) (drop_all (2 * length spans) (sides (length spans)) (omega (arith, length-sides (length spans))))
+  -- none is left
+  pub none_from : spokes_from spans v (length leaving) ≡ []
+  none_from = drop_all (length leaving) leaving (omega arith)
+
+  pub all_are_spokes : (h : AreSpans spans) → AreSpokes spans h v leaving
+  all_are_spokes h =
+      let all = sides (length spans) in
+      record {
+        each = λ k d l. record {
+          side = All-filter at (IsSide (length spans)) all (all_sides_within (length spans)) k d l;
+          node = points.same (start_of spans (get_or leaving k d)) v (filter_passes at all k d l);
+        };
+        differ = AllPairs-filter (λ s t. s ≢ t) at all (sides_differ (length spans));
+      }
 
   pub are_spokes : (h : AreSpans spans) (i : ℕ) → AreSpokes spans h v (spokes_from spans v i)
   are_spokes h i =
-      let all = sides (length spans) in
-      let rest = drop i all in
+      let whole = all_are_spokes h in
       record {
-        each = λ k d l. record {
-          side = All-filter at (IsSide (length spans)) rest (All-drop (IsSide (length spans)) i all (all_sides_within (length spans))) k d l;
-          node = points.same (start_of spans (get_or (filter at rest) k d)) v (filter_passes at rest k d l);
-        };
-        differ = AllPairs-filter (λ s t. s ≢ t) at rest (λ j k d less short e.
-            let m = length-drop i all in
-            sides_differ (length spans) (i + j) (i + k) d (omega (arith, less)) (omega (arith, short, m)) (sym (get_or-drop i all j d) ∙ e ∙ get_or-drop i all k d));
+        each = All-drop (IsSpoke spans v) i leaving whole.each;
+        differ = λ j k d less short e.
+            let m = length-drop i leaving in
+            whole.differ (i + j) (i + k) d (omega (arith, less)) (omega (arith, short, m)) (sym (get_or-drop i leaving j d) ∙ e ∙ get_or-drop i leaving k d);
       }
 
-  -- what some spoke passes from a number on, some spoke passes
-  any_drop : (q : Side → Bool) (i : ℕ) (xs : List Side) → list_any q (filter at (drop i xs)) ≡ true → list_any q (filter at xs) ≡ true
+  -- what some spoke passes from a place on, some spoke passes
+  any_drop : (q : Side → Bool) (i : ℕ) (xs : List Side) → list_any q (drop i xs) ≡ true → list_any q xs ≡ true
   any_drop q zero xs e = e
   any_drop q (suc i) [] e = e
-  any_drop q (suc i) (x ∷ xs) e = more (at x) (any_drop q i xs e)
-    where
-      more : (b : Bool) → list_any q (filter at xs) ≡ true → list_any q (cond b (x ∷ filter at xs) (filter at xs)) ≡ true
-      more true f = or_right (q x) (list_any q (filter at xs)) f
-      more false f = f
+  any_drop q (suc i) (x ∷ xs) e = or_right (q x) (list_any q xs) (any_drop q i xs e)
 
 -- ---- the loop
 
--- what is known of the sides from a number on: no spoke leaves along the direction, the last spoke, and the last one before the direction
+-- what is known of the spokes from a place on: none leaves along the direction, the last spoke, and the last one before the direction
 pub record AreSeen (spans : List Span) (v p : Point) (i : ℕ) (all front : Option Side) : Type 0 where
   pub apart : list_any (leaves_along spans v p) (spokes_from spans v i) ≡ false
   pub last : all ≡ last_or None (sort_by (spoke_before spans) (spokes_from spans v i))
@@ -185,7 +187,7 @@ pub record AreSeen (spans : List Span) (v p : Point) (i : ℕ) (all front : Opti
   pub before_spoke : IfSome front (IsSpoke spans v)
 
 module _ (spans : List Span) (h : AreSpans spans) (v p : Point) where
-  pub seen_none : AreSeen spans v p (2 * length spans) None None
+  pub seen_none : AreSeen spans v p (length (sides_leaving spans v)) None None
   seen_none = record {
     apart = ap (list_any (leaves_along spans v p)) (none_from spans v);
     last = sym (ap (last_of spans h v) (none_from spans v));
@@ -194,67 +196,51 @@ module _ (spans : List Span) (h : AreSpans spans) (v p : Point) where
     before_spoke = tt;
   }
 
-  module _ (i : ℕ) (l : i < 2 * length spans) (last before : Option Side) (a : AreSeen spans v p (i + 1) last before) where
-    abbrev s : Side
-    s = numbered i
+  module _ (i : ℕ) (s : Side) (l : i < length (sides_leaving spans v)) (here : s ≡ get_or (sides_leaving spans v) i s) (last before : Option Side) (a : AreSeen spans v p (i + 1) last before) where
+    more : spokes_from spans v i ≡ s ∷ spokes_from spans v (i + 1)
+    more = drop_more (sides_leaving spans v) i s l ∙ ap (λ (t : Side). t ∷ spokes_from spans v (i + 1)) (sym here)
 
-    -- a side that is no spoke of the node
-    pub seen_other : same_point (start_of spans s) v ≡ false → AreSeen spans v p i last before
-    seen_other e =
-        let same : spokes_from spans v i ≡ spokes_from spans v (i + 1) = next_from spans v i l ∙ ap (λ b. cond b (s ∷ spokes_from spans v (i + 1)) (spokes_from spans v (i + 1))) e in
+    pub is_spoke : IsSpoke spans v s
+    is_spoke = subst (IsSpoke spans v) (sym here) ((all_are_spokes spans v h).each i s l)
+
+    -- a spoke in the direction
+    pub seen_along : leaves_along spans v p s ≡ true → None ≡ sector_at spans v p
+    unfolding spokes_at
+    seen_along f =
+        let found : list_any (leaves_along spans v p) (spokes_from spans v i) ≡ true = ap (list_any (leaves_along spans v p)) more ∙ or_left (leaves_along spans v p s) (list_any (leaves_along spans v p) (spokes_from spans v (i + 1))) f in
+        let all : list_any (leaves_along spans v p) (spokes spans v) ≡ true =
+        list_any-sort_by (spoke_before spans) (leaves_along spans v p) (sides_leaving spans v) ∙ any_drop spans v (leaves_along spans v p) i (sides_leaving spans v) found in
+        sym (ap (λ (b : Bool). cond b None (last_or (last_or None (spokes spans v)) (filter (leaves_before spans v p) (spokes spans v)))) all)
+
+    pub seen_spoke : (now : Option Side) → leaves_along spans v p s ≡ false → now ≡ cond (leaves_before spans v p s) (Some (later spans s before)) before → AreSeen spans v p i (Some (later spans s last)) now
+    seen_spoke now f is =
+        let rest = spokes_from spans v (i + 1) in
+        let q = leaves_before spans v p in
+        let spoken = are_spokes spans v h (i + 1) in
         record {
-          apart = ap (list_any (leaves_along spans v p)) same ∙ a.apart;
-          last = a.last ∙ sym (ap (last_of spans h v) same);
-          before = a.before ∙ sym (ap (λ (xs : List Side). last_of spans h v (filter (leaves_before spans v p) xs)) same);
-          last_spoke = a.last_spoke;
-          before_spoke = a.before_spoke;
+          apart = ap (list_any (leaves_along spans v p)) more ∙ ap (λ b. b || list_any (leaves_along spans v p) rest) f ∙ a.apart;
+          last = sym (ap (last_of spans h v) more ∙ last_more spans h v s rest is_spoke spoken ∙ ap (λ o. Some (later spans s o)) (sym a.last));
+          before = by_test (q s)
+              (λ t. is ∙ ap (λ b. cond b (Some (later spans s before)) before) t
+              ∙ sym (ap (λ (xs : List Side). last_of spans h v (filter q xs)) more ∙ ap (λ b. last_of spans h v (cond b (s ∷ filter q rest) (filter q rest))) t
+              ∙ last_more spans h v s (filter q rest) is_spoke (filtered spans h v q rest spoken) ∙ ap (λ o. Some (later spans s o)) (sym a.before)))
+              (λ t. is ∙ ap (λ b. cond b (Some (later spans s before)) before) t ∙ a.before
+              ∙ sym (ap (λ (xs : List Side). last_of spans h v (filter q xs)) more ∙ ap (λ b. last_of spans h v (cond b (s ∷ filter q rest) (filter q rest))) t));
+          last_spoke = later_spoke spans h v s last is_spoke a.last_spoke;
+          before_spoke = by_test (q s)
+              (λ t. subst (λ (o : Option Side). IfSome o (IsSpoke spans v)) (sym (is ∙ ap (λ b. cond b (Some (later spans s before)) before) t)) (later_spoke spans h v s before is_spoke a.before_spoke))
+              (λ t. subst (λ (o : Option Side). IfSome o (IsSpoke spans v)) (sym (is ∙ ap (λ b. cond b (Some (later spans s before)) before) t)) a.before_spoke);
         }
 
-    module _ (e : same_point (start_of spans s) v ≡ true) where
-      more : spokes_from spans v i ≡ s ∷ spokes_from spans v (i + 1)
-      more = next_from spans v i l ∙ ap (λ b. cond b (s ∷ spokes_from spans v (i + 1)) (spokes_from spans v (i + 1))) e
-
-      is_spoke : IsSpoke spans v s
-      is_spoke = record { side = numbered_within (length spans) i l; node = points.same (start_of spans s) v e }
-
-      -- a spoke in the direction
-      pub seen_along : leaves_along spans v p s ≡ true → None ≡ sector_at spans v p
-      unfolding spokes_at
-      seen_along f =
-          let found : list_any (leaves_along spans v p) (spokes_from spans v i) ≡ true = ap (list_any (leaves_along spans v p)) more ∙ or_left (leaves_along spans v p s) (list_any (leaves_along spans v p) (spokes_from spans v (i + 1))) f in
-          let all : list_any (leaves_along spans v p) (spokes spans v) ≡ true =
-          list_any-sort_by (spoke_before spans) (leaves_along spans v p) (spokes_from spans v 0) ∙ any_drop spans v (leaves_along spans v p) i (sides (length spans)) found in
-          sym (ap (λ (b : Bool). cond b None (last_or (last_or None (spokes spans v)) (filter (leaves_before spans v p) (spokes spans v)))) all)
-
-      pub seen_spoke : (now : Option Side) → leaves_along spans v p s ≡ false → now ≡ cond (leaves_before spans v p s) (Some (later spans s before)) before → AreSeen spans v p i (Some (later spans s last)) now
-      seen_spoke now f is =
-          let rest = spokes_from spans v (i + 1) in
-          let q = leaves_before spans v p in
-          let spoken = are_spokes spans v h (i + 1) in
-          record {
-            apart = ap (list_any (leaves_along spans v p)) more ∙ ap (λ b. b || list_any (leaves_along spans v p) rest) f ∙ a.apart;
-            last = sym (ap (last_of spans h v) more ∙ last_more spans h v s rest is_spoke spoken ∙ ap (λ o. Some (later spans s o)) (sym a.last));
-            before = by_test (q s)
-                (λ t. is ∙ ap (λ b. cond b (Some (later spans s before)) before) t
-                ∙ sym (ap (λ (xs : List Side). last_of spans h v (filter q xs)) more ∙ ap (λ b. last_of spans h v (cond b (s ∷ filter q rest) (filter q rest))) t
-                ∙ last_more spans h v s (filter q rest) is_spoke (filtered spans h v q rest spoken) ∙ ap (λ o. Some (later spans s o)) (sym a.before)))
-                (λ t. is ∙ ap (λ b. cond b (Some (later spans s before)) before) t ∙ a.before
-                ∙ sym (ap (λ (xs : List Side). last_of spans h v (filter q xs)) more ∙ ap (λ b. last_of spans h v (cond b (s ∷ filter q rest) (filter q rest))) t));
-            last_spoke = later_spoke spans h v s last is_spoke a.last_spoke;
-            before_spoke = by_test (q s)
-                (λ t. subst (λ (o : Option Side). IfSome o (IsSpoke spans v)) (sym (is ∙ ap (λ b. cond b (Some (later spans s before)) before) t)) (later_spoke spans h v s before is_spoke a.before_spoke))
-                (λ t. subst (λ (o : Option Side). IfSome o (IsSpoke spans v)) (sym (is ∙ ap (λ b. cond b (Some (later spans s before)) before) t)) a.before_spoke);
-          }
-
-  -- all sides are seen
+  -- all spokes are seen
   pub seen_all : (last before : Option Side) → AreSeen spans v p 0 last before → option_or before last ≡ sector_at spans v p
   unfolding spokes_at
   seen_all last before a =
-      let all = spokes_from spans v 0 in
+      let all = sides_leaving spans v in
       let q = leaves_before spans v p in
       let sorted = spokes spans v in
       let apart : list_any (leaves_along spans v p) sorted ≡ false = list_any-sort_by (spoke_before spans) (leaves_along spans v p) all ∙ a.apart in
-      let front : last_or None (filter q sorted) ≡ before = last_filtered spans h v q all (are_spokes spans v h 0) ∙ sym a.before in
+      let front : last_or None (filter q sorted) ≡ before = last_filtered spans h v q all (all_are_spokes spans v h) ∙ sym a.before in
       sym (
       ap (λ (b : Bool). cond b None (last_or (last_or None sorted) (filter q sorted))) apart
       ∙ last_or_else (last_or None sorted) (filter q sorted)

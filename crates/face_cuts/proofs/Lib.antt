@@ -18,3 +18,7 @@ pub mod FreePoints
 pub mod LeastSegments
 pub mod FusedAgain
 pub mod NearColumns
+pub mod SortedRows
+pub mod SpansOfArcs
+pub mod NextRows
+pub mod TableRows

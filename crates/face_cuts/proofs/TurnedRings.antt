@@ -7,8 +7,7 @@ use Rattle.ring_walk.specs.declared.side.Side.{Side}
 use Rattle.ring_walk.specs.Rings.{row_until, next_side, ring_from}
 use Rattle.ring_walk.specs.Spans.{IsSide}
 use Rattle.ring_walk.proofs.NextSides.{next_within, next_inj}
-use Rattle.ring_walk.proofs.Orbits.{after, Follows, Returns, GoesOn, row_follows, row_ends, IsCycle, ring_is_cycle, cycle_round}
-use Rattle.face_cuts.specs.Spokes.{IsRow}
+use Rattle.ring_walk.proofs.Orbits.{after, Follows, Returns, GoesOn, row_follows, row_ends, IsCycle, ring_is_cycle}
 
 -- ---- one row
 
@@ -115,8 +114,3 @@ module _ (spans : List Span) where
 
   pub ring_cycle : (s : Side) → IsSide n s → IsCycle n (next_side spans) s (ring_from spans s)
   ring_cycle s l = ring_is_cycle n (next_side spans) (next_within spans) (next_inj spans) s l
-
-  pub ring_row : (s : Side) → IsSide n s → IsRow spans (ring_from spans s)
-  ring_row s l =
-      let c = ring_cycle s l in
-      record { ring = record { sides = c.within; short = c.short }; round = cycle_round n (next_side spans) (next_within spans) (next_inj spans) s (ring_from spans s) c }

@@ -1,75 +1,78 @@
--- Walks along a face, of rows of sides.
-use Rattle.std.proofs.Common.{◌≡◌, ℕ, ◌+◌, ◌<◌, ◌≤◌, ◌==◌, nat_lt, Bool, true, false, not, ◌||◌, Option, Some, None, List, [], ◌∷◌, ◌++◌, length, get_or, take, drop, Contains, refl, sym, ap, ap₂, ◌∙◌, subst, append_assoc, if◌then◌else◌, arith}
-use Rattle.std.specs.Prelude.{cond, option_map}
-use Rattle.std.specs.List.{list_any, position, position_or_len}
-use Rattle.std.proofs.lemmas.Bool.{false≢true}
-use Rattle.std.proofs.lemmas.Bool.Decides.{nat_tests}
-use Rattle.std.proofs.lemmas.List.{drop_more, take_all, take_more}
-use Rattle.std.proofs.lemmas.List.Folds.{list_any-append}
-use Rattle.std.proofs.lemmas.List.Quantifiers.{position-Some}
+-- Walks along a face and rings, side by side.
+use Rattle.std.proofs.Common.{◌≡◌, ℕ, suc, ◌==◌, Bool, true, false, Option, Some, None, List, [], ◌∷◌, ◌++◌, length, All, refl, sym, ap, ap₂, ◌∙◌, subst, append_assoc, if◌then◌else◌, length-append, ◌+◌, arith}
+use Rattle.std.specs.Prelude.{option_map}
+use Rattle.std.proofs.lemmas.List.Elements.{All-nil, All-cons, All-append}
 use Rattle.ring_walk.specs.declared.span.Span.{Span}
 use Rattle.ring_walk.specs.declared.side.Side.{Side}
 use Rattle.ring_walk.specs.Sides.{face_of, same_side}
-use Rattle.ring_walk.specs.Rings.{is_in_ring, next_side, ring_from, rings_of}
+use Rattle.ring_walk.specs.Rings.{next_side, row_until}
 use Rattle.ring_walk.specs.Spans.{IsSide}
-use Rattle.ring_walk.proofs.SideNumbers.{same_side-true}
 use Rattle.face_cuts.specs.Walks.{walk_along}
-use Rattle.face_cuts.proofs.Cases.{by_test}
-use Rattle.face_cuts.proofs.TurnedRings.{turn}
-use Rattle.face_cuts.proofs.OverRings.{ring_turned, in_some_ring}
 
-module _ (spans : List Span) (f : ℕ) (start : Side) (row : List Side) (k : ℕ) (d : Side) (l : k < length row) where
-  abbrev s : Side
-  s = get_or row k d
+-- ---- a row of sides that grows
 
-  -- the walk goes on after a side
-  pub walk_on : (face_of spans s == f) ≡ true → same_side (next_side spans s) start ≡ false
-      → option_map (λ walk. take (k + 1) row ++ walk) (walk_along spans f start (drop (k + 1) row)) ≡ option_map (λ walk. take k row ++ walk) (walk_along spans f start (drop k row))
-  walk_on e g =
-      let rest = drop (k + 1) row in
-      let whole : walk_along spans f start (drop k row) ≡ option_map (λ walk. s ∷ walk) (walk_along spans f start rest) =
-      ap (walk_along spans f start) (drop_more row k d l)
-      ∙ ap₂ (λ (a b : Bool). if a then (if b then Some (s ∷ []) else option_map (λ walk. s ∷ walk) (walk_along spans f start rest)) else None) e g in
-      by (walk_along spans f start rest) ∙ sym (ap (option_map (λ walk. take k row ++ walk)) whole)
-    where
-      by : (o : Option (List Side)) → option_map (λ walk. take (k + 1) row ++ walk) o ≡ option_map (λ walk. take k row ++ walk) (option_map (λ walk. s ∷ walk) o)
-      by None = refl
-      by (Some walk) = ap Some (ap (λ (r : List Side). r ++ walk) (take_more row k d l) ∙ append_assoc (take k row) (s ∷ []) walk)
+pub within_more : (n : ℕ) (row new : List Side) (s : Side) → new ≡ row ++ s ∷ [] → All (IsSide n) row → IsSide n s → All (IsSide n) new
+within_more n row new s e h w = subst (All (IsSide n)) (sym e) (All-append (IsSide n) row (s ∷ []) h (All-cons (IsSide n) s [] w (All-nil (IsSide n))))
 
--- ---- the ring of a side among all rings
+pub longer : (row new : List Side) (s : Side) (k : ℕ) → new ≡ row ++ s ∷ [] → length row ≡ k → length new ≡ k + 1
+longer row new s k e f = ap length e ∙ omega (arith, length-append row (s ∷ []), f)
 
--- where no place is found, no member passes
-none_passes : {A : Type 0} (p : A → Bool) (xs : List A) → length xs ≤ position_or_len p xs → list_any p xs ≡ false
-none_passes p [] l = refl
-none_passes p (x ∷ xs) l =
-    by_test (p x)
-    (λ e. absurd (let short : length (x ∷ xs) ≤ cond (not true) (1 + position_or_len p xs) 0 = subst (λ b. length (x ∷ xs) ≤ cond (not b) (1 + position_or_len p xs) 0) e l in omega (arith, short)))
-    (λ e.
-    let long : length (x ∷ xs) ≤ cond (not false) (1 + position_or_len p xs) 0 = subst (λ b. length (x ∷ xs) ≤ cond (not b) (1 + position_or_len p xs) 0) e l in
-    ap (λ b. b || list_any p xs) e ∙ none_passes p xs (omega (arith, long)))
+-- ---- the walk
 
-no_place : {A : Type 0} (p : A → Bool) (xs : List A) → position p xs ≡ None → list_any p xs ≡ false
-no_place p xs e = by_test (nat_lt (position_or_len p xs) (length xs))
-    (λ t. absurd (let some : Some (position_or_len p xs) ≡ None = sym (ap (λ b. cond b (Some (position_or_len p xs)) None) t) ∙ e in cc))
-    (λ f. none_passes p xs (let le : length xs ≤ position_or_len p xs = grind (arith, nat_tests) in le))
+-- the walk whose first sides are known
+abbrev pub whole_walk : List Side → Option (List Side) → Option (List Side)
+whole_walk walk o = option_map (λ more. walk ++ more) o
 
-module _ (spans : List Span) (rings : List (List Side)) (all : rings ≡ rings_of spans) (ring : List Side) (i : ℕ) (l : i < length rings) (here : ring ≡ get_or rings i ring) (s : Side) where
-  -- the ring from a side on
-  pub row_of : (k : ℕ) → position (same_side s) ring ≡ Some k → turn k ring ≡ ring_from spans s
-  row_of k e =
-      let p = position-Some (same_side s) ring k s e in
-      let is : s ≡ get_or ring k s = same_side-true s (get_or ring k s) p.1 in
-      let c : Contains (rings_of spans) ring = subst (λ (rs : List (List Side)). Contains rs ring) all (i, l, sym here) in
-      sym (ap (ring_from spans) is ∙ ring_turned spans ring k s c p.0)
+module _ (spans : List Span) (f : ℕ) (start end : Side) where
+  -- what is left of the walk, from a side on, where so many sides are left at most
+  abbrev pub left_of_walk : ℕ → Side → Option (List Side)
+  left_of_walk m s = walk_along spans f start (row_until (next_side spans) end m s)
 
-  -- a ring that does not have it
-  pub none_of : position (same_side s) ring ≡ None → is_in_ring (take i rings) s ≡ false → is_in_ring (take (i + 1) rings) s ≡ false
-  none_of e so_far =
-      ap (λ (rs : List (List Side)). is_in_ring rs s) (take_more rings i ring l ∙ ap (λ (r : List Side). take i rings ++ r ∷ []) (sym here))
-      ∙ list_any-append (λ r. list_any (same_side s) r) (take i rings) (ring ∷ [])
-      ∙ ap₂ (λ (a b : Bool). a || (b || false)) so_far (no_place (same_side s) ring e)
+  module _ (s t : Side) (m : ℕ) (next : t ≡ next_side spans s) where
+    abbrev row : Bool → List Side
+    row back = if back then [] else row_until (next_side spans) end m (next_side spans s)
 
--- each side is in a ring
-pub never_none : {P : Type 0} (spans : List Span) (rings : List (List Side)) (s : Side) (i : ℕ) → rings ≡ rings_of spans → IsSide (length spans) s → length rings ≤ i → is_in_ring (take i rings) s ≡ false → P
-never_none spans rings s i all l end e =
-    absurd (false≢true (sym e ∙ ap (λ (rs : List (List Side)). is_in_ring rs s) (take_all i rings end ∙ all) ∙ in_some_ring spans s l))
+    abbrev along : Bool → Bool → Bool → Option (List Side)
+    along face arrives back = if face then (if arrives then Some (s ∷ []) else option_map (λ walk. s ∷ walk) (walk_along spans f start (row back))) else None
+
+    arrival : same_side t start ≡ same_side (next_side spans s) start
+    arrival = ap (λ (u : Side). same_side u start) next
+
+    return : same_side t end ≡ same_side (next_side spans s) end
+    return = ap (λ (u : Side). same_side u end) next
+
+    -- the side has another face
+    pub walk_none : (face_of spans s == f) ≡ false → left_of_walk (suc m) s ≡ None
+    walk_none e = ap (λ (b : Bool). along b (same_side (next_side spans s) start) (same_side (next_side spans s) end)) e
+
+    -- the walk arrives
+    pub walk_ends : (face_of spans s == f) ≡ true → same_side t start ≡ true → left_of_walk (suc m) s ≡ Some (s ∷ [])
+    walk_ends e a = ap₂ (λ (b c : Bool). along b c (same_side (next_side spans s) end)) e (sym arrival ∙ a)
+
+    -- it comes back to where it began
+    pub walk_back : (face_of spans s == f) ≡ true → same_side t start ≡ false → same_side t end ≡ true → left_of_walk (suc m) s ≡ None
+    walk_back e a b = ap₂ (λ (c d : Bool). along c d (same_side (next_side spans s) end)) e (sym arrival ∙ a) ∙ ap (along true false) (sym return ∙ b)
+
+    -- it goes on
+    pub walk_on : (face_of spans s == f) ≡ true → same_side t start ≡ false → same_side t end ≡ false → left_of_walk (suc m) s ≡ option_map (λ walk. s ∷ walk) (left_of_walk m t)
+    walk_on e a b = ap₂ (λ (c d : Bool). along c d (same_side (next_side spans s) end)) e (sym arrival ∙ a) ∙ ap (along true false) (sym return ∙ b)
+        ∙ ap (λ (u : Side). option_map (λ walk. s ∷ walk) (left_of_walk m u)) (sym next)
+
+  module _ (walk new : List Side) (s : Side) (pushed : new ≡ walk ++ s ∷ []) where
+    whole_more : (o : Option (List Side)) → whole_walk new o ≡ whole_walk walk (option_map (λ more. s ∷ more) o)
+    whole_more None = refl
+    whole_more (Some more) = ap Some (ap (λ (r : List Side). r ++ more) pushed ∙ append_assoc walk (s ∷ []) more)
+
+    -- one side more is known
+    pub walked_more : (m k : ℕ) (t : Side) (w : Option (List Side)) → k ≡ suc m → left_of_walk (suc m) s ≡ option_map (λ more. s ∷ more) (left_of_walk m t) → whole_walk walk (left_of_walk k s) ≡ w → whole_walk new (left_of_walk m t) ≡ w
+    walked_more m k t w e on so_far =
+        whole_more (left_of_walk m t) ∙ ap (whole_walk walk) (sym on) ∙ ap (λ (j : ℕ). whole_walk walk (left_of_walk j s)) (sym e) ∙ so_far
+
+    -- the last one is
+    pub walked_all : (m k : ℕ) (w : Option (List Side)) → k ≡ suc m → left_of_walk (suc m) s ≡ Some (s ∷ []) → whole_walk walk (left_of_walk k s) ≡ w → Some new ≡ w
+    walked_all m k w e ends so_far =
+        ap Some pushed ∙ ap (whole_walk walk) (sym ends) ∙ ap (λ (j : ℕ). whole_walk walk (left_of_walk j s)) (sym e) ∙ so_far
+
+  -- there is none
+  pub walked_none : (walk : List Side) (m k : ℕ) (s : Side) (w : Option (List Side)) → k ≡ suc m → left_of_walk (suc m) s ≡ None → whole_walk walk (left_of_walk k s) ≡ w → None ≡ w
+  walked_none walk m k s w e none so_far = ap (whole_walk walk) (sym none) ∙ ap (λ (j : ℕ). whole_walk walk (left_of_walk j s)) (sym e) ∙ so_far

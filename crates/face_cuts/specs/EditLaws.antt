@@ -1,5 +1,5 @@
 -- Laws of nodes, cuts and fusions.
-use Rattle.std.specs.Prelude.{◌≡◌, ◌≢◌, ◌≤◌, ℕ, ◌+◌, List, length, IsTrue, Ok}
+use Rattle.std.specs.Prelude.{◌≡◌, ◌≢◌, ◌≤◌, ℕ, ◌+◌, nat_lt, List, [], ◌∷◌, ◌++◌, length, IsTrue, Ok}
 use Rattle.std.specs.List.{list_all}
 use Rattle.lemmas.specs.Parity.{either_alone}
 use Rattle.tgap_model.specs.declared.geometry.Fraction.{Fraction}
@@ -8,8 +8,10 @@ use Rattle.tgap_model.specs.Base.{BaseMap, in_limits, is_base}
 use Rattle.tgap_model.specs.Partition.{base_segments}
 use Rattle.map_laws.specs.Inside.{is_inside}
 use Rattle.face_cuts.specs.Nodes.{add_node}
-use Rattle.face_cuts.specs.Fusions.{fuse_faces, renumbered}
-use Rattle.face_cuts.specs.Cuts.{cut_face}
+use Rattle.face_cuts.specs.Outcomes.{◌>>=◌, has_room}
+use Rattle.face_cuts.specs.Fusions.{fuse_faces, is_face, renumbered}
+use Rattle.face_cuts.specs.Cuts.{are_free, cut_face}
+use Rattle.face_cuts.specs.Moves.{cut_off_sides, divided_arcs}
 
 -- ---- where an edit is not refused, it makes a base map of a base map
 
@@ -51,3 +53,11 @@ FusionsKeepInside = (m e : BaseMap) (f g : ℕ) (p : Fraction) → IsTrue (is_ba
 abbrev pub CutsFuseAgain : Type 0
 CutsFuseAgain =
     (m e : BaseMap) (f k : ℕ) (points : List Point) → IsTrue (is_base m) → cut_face m f k points ≡ Ok e → fuse_faces e f (length m.classes + 1) ≡ Ok m
+
+-- ---- a cut by the sides that go over
+
+-- A cut that is not refused for its numbers, for want of room or for its points is refused where the sides that go over are, and else it takes these over.
+abbrev pub CutsMoveSides : Type 0
+CutsMoveSides =
+    (m : BaseMap) (f k : ℕ) (points : List Point) → IsTrue (is_face m f) → IsTrue (nat_lt k (length m.rules.weights)) → IsTrue (has_room m 1 1 (length points)) → IsTrue (are_free m.arcs points)
+    → cut_face m f k points ≡ (cut_off_sides m.arcs f points >>= λ moved. Ok (record m { classes = m.classes ++ k ∷ []; arcs = divided_arcs m.arcs f (length m.classes + 1) points moved }))

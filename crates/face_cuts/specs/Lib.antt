@@ -6,7 +6,11 @@ pub mod Walks
 pub mod Cuts
 pub mod EditLaws
 pub mod PointSets
+pub mod SideSets
 pub mod Spokes
+pub mod Tables
+pub mod Moves
+pub mod NodeTables
 pub mod NewRings
 pub mod Partings
 pub mod Columns

@@ -1,5 +1,5 @@
 -- The ring that a new arc makes with its walk.
-use Rattle.std.specs.Prelude.{◌≡◌, ◌≤◌, ◌<◌, ◌*◌, ◌==◌, ℕ, Bool, true, false, ◌&&◌, ◌||◌, Option, Some, None, List, [], ◌∷◌, ◌++◌, length, get_or, slice_index_or, All, IfSome, Result, Ok, if◌then◌else◌}
+use Rattle.std.specs.Prelude.{◌≡◌, ◌≤◌, ◌<◌, ◌*◌, ◌==◌, ℕ, Bool, true, false, ◌&&◌, Option, Some, None, List, [], ◌∷◌, ◌++◌, length, get_or, slice_index_or, All, IfSome, Result, Ok, if◌then◌else◌}
 use Rattle.std.specs.List.{list_all, list_any}
 use Rattle.std.specs.Option.{ok_or}
 use Rattle.tgap_model.specs.declared.geometry.Point.{Point}
@@ -7,14 +7,12 @@ use Rattle.tgap_model.specs.declared.geometry.Seg.{Seg}
 use Rattle.tgap_model.specs.declared.base.BaseArc.{BaseArc}
 use Rattle.tgap_model.specs.Base.{in_limits}
 use Rattle.tgap_model.specs.declared.limits.TheConstants.{MAX_ARCS}
-use Rattle.ring_walk.specs.declared.span.Span.{Span}
 use Rattle.ring_walk.specs.declared.side.Side.{Side}
-use Rattle.ring_walk.specs.Sides.{face_of, same_side, side_number}
-use Rattle.ring_walk.specs.Rings.{ring_from}
+use Rattle.ring_walk.specs.Sides.{face_of, side_number}
 use Rattle.ring_walk.specs.Areas.{first_leaning, segments_of}
-use Rattle.ring_walk.specs.Spans.{IsRing, IsSide}
+use Rattle.ring_walk.specs.Spans.{IsRing}
 use Rattle.ring_probe.specs.Rows.{IsLeaning, IsLine}
-use Rattle.face_cuts.specs.Cuts.{all_different, face_after, goes_over, lines_of, new_area, new_ring, sectors_of, with_faces}
+use Rattle.face_cuts.specs.Cuts.{all_different, face_after, lines_of, new_area, new_ring, sectors_of, with_faces}
 use Rattle.face_cuts.specs.Outcomes.{◌>>=◌}
 use Rattle.face_cuts.specs.Sectors.{spans_of}
 use Rattle.face_cuts.specs.Walks.{walk_between}
@@ -27,13 +25,12 @@ pub record AreLines (arcs : List BaseArc) : Type 0 where
   pub few : length arcs ≤ MAX_ARCS
   pub each : All (λ a. IsLine a.points) arcs
 
--- an arc within the limits, and a walk along others
-pub record IsNewRing (ring : NewRing) : Type 0 where
-  pub lines : AreLines ring.arcs.now
+-- an arc within the limits, and a walk along others, which these are
+pub record IsNewRing (arcs : List BaseArc) (ring : NewRing) : Type 0 where
   pub points : IsLine ring.points.now
-  pub walk : IsRing (length ring.arcs.now) ring.walk.now
-  pub area : ring.area ≡ new_area (lines_of ring.arcs.now) ring.points.now ring.walk.now
-  pub columns : IfSome ring.columns (AreColumns (new_ring (lines_of ring.arcs.now) ring.points.now ring.walk.now))
+  pub walk : IsRing (length arcs) ring.walk.now
+  pub area : ring.area ≡ new_area (lines_of arcs) ring.points.now ring.walk.now
+  pub columns : IfSome ring.columns (AreColumns (new_ring (lines_of arcs) ring.points.now ring.walk.now))
 
 -- the first segment of an arc that is not vertical
 abbrev pub leaning_of : List (List Point) → ℕ → Option Seg
@@ -58,16 +55,6 @@ in_row row i = list_any (λ s. side_number s == i) row
 pub record AreNoted (n : ℕ) (row : List Side) (notes : List Bool) : Type 0 where
   pub long : length notes ≡ 2 * n
   pub each : (i : ℕ) (d : Bool) → i < 2 * n → get_or notes i d ≡ in_row row i
-
--- a ring with a side beside face f that goes over
-abbrev pub takes_over : List Span → ℕ → List BaseArc → List Point → List Side → List Side → Bool
-takes_over spans f arcs points walk row = list_any (λ s. face_of spans s == f) row && goes_over (lines_of arcs) points walk row
-
--- of n sides by number, whether those beside face f go over: those on the walk, and those of rings that lie at the left
-pub record AreMoved (arcs : List BaseArc) (f : ℕ) (points : List Point) (walk : List Side) (moved : List Bool) : Type 0 where
-  pub long : length moved ≡ 2 * length arcs
-  pub each : (s : Side) (d : Bool) → IsSide (length arcs) s → face_of (spans_of arcs) s ≡ f
-      → get_or moved (side_number s) d ≡ (list_any (same_side s) walk || goes_over (lines_of arcs) points walk (ring_from (spans_of arcs) s))
 
 -- the face of a side afterwards, told by such notes
 abbrev pub told_face : List BaseArc → ℕ → ℕ → List Bool → Side → ℕ

@@ -1,6 +1,6 @@
 //! Laws of nodes, cuts and fusions. The functions do nothing: the contract of each is a law.
 
-ghost use Rattle.face_cuts.specs.EditLaws.{CutsFuseAgain, CutsKeepInside, CutsKeepMaps, FusionsKeepInside, FusionsKeepMaps, NodesKeepMaps};
+ghost use Rattle.face_cuts.specs.EditLaws.{CutsFuseAgain, CutsKeepInside, CutsKeepMaps, CutsMoveSides, FusionsKeepInside, FusionsKeepMaps, NodesKeepMaps};
 
 /// A base map with a node where it had an inner vertex is a base map.
 pub fn nodes_keep_maps()
@@ -32,4 +32,10 @@ pub fn fusions_keep_inside()
 /// The fusion of a face that was cut with its new part gives the base map as it was.
 pub fn cuts_fuse_again()
     ensures { CutsFuseAgain }
+{}
+
+/// A cut that is not refused for its numbers, for want of room or for its points takes over the sides that `cut_along` gives,
+/// or is refused where that is.
+pub fn cuts_move_sides()
+    ensures { CutsMoveSides }
 {}

@@ -4,26 +4,37 @@
 //! edits.
 #![tactic(auto)]
 
+mod along;
 mod cause;
 mod columns;
 mod cut;
+mod face_sides;
 mod free;
 mod fusion;
 mod laws;
 mod new_ring;
+mod next;
 mod node;
+mod node_sides;
+mod node_table;
 mod over;
+mod parting;
 mod parts;
 mod points;
 mod sector;
+mod side_set;
 mod spans;
+mod table;
 mod walk;
 
+pub use along::cut_along;
 pub use cause::Cause;
 pub use cut::cut_face;
 pub use fusion::fuse_faces;
 pub use laws::{
-    cuts_fuse_again, cuts_keep_inside, cuts_keep_maps, fusions_keep_inside, fusions_keep_maps,
-    nodes_keep_maps,
+    cuts_fuse_again, cuts_keep_inside, cuts_keep_maps, cuts_move_sides, fusions_keep_inside,
+    fusions_keep_maps, nodes_keep_maps,
 };
 pub use node::add_node;
+pub use node_table::NodeTable;
+pub use table::ArcTable;

@@ -1,29 +1,31 @@
 //! The ring that a new arc makes with its walk, and which other rings lie at its left.
 
-ghost use Rattle.std.specs.Prelude.{◌≡◌, ◌≤◌, ◌<◌, false, List as Sequence, [], ◌∷◌, ◌++◌, All, IfOk, IfSome, get_or, length, slice_index_or, unsigned_abs};
+ghost use Rattle.std.specs.Prelude.{◌≡◌, ◌≤◌, ◌<◌, List as Sequence, [], ◌∷◌, ◌++◌, IfOk, IfSome, length, slice_index_or, unsigned_abs};
 ghost use Rattle.std.specs.List.{list_any};
 ghost use Rattle.tgap_model.specs.Bounds.{max_arc_area};
 ghost use Rattle.tgap_model.specs.Point.{shoelace};
 ghost use Rattle.ring_walk.specs.declared.side.Side.{Side as OneSide};
 ghost use Rattle.ring_walk.specs.Areas.{are_round, points_of};
-ghost use Rattle.ring_walk.specs.Sides.{side_number};
+ghost use Rattle.ring_walk.specs.Sides.{same_side};
 ghost use Rattle.ring_walk.specs.Spans.{IsRing, IsSide};
 ghost use Rattle.ring_probe.specs.Rows.{IsLeaning, IsLine};
 ghost use Rattle.face_cuts.specs.Cuts.{goes_over, is_at_left, least_leaning, lines_of, new_area, new_ring};
 ghost use Rattle.face_cuts.specs.Columns.{AreColumns};
-ghost use Rattle.face_cuts.specs.NewRings.{AreLines, AreNoted, IsLeast, IsNewRing, leaning_of};
+ghost use Rattle.face_cuts.specs.NewRings.{AreLines, IsLeast, IsNewRing, leaning_of};
+ghost use Rattle.face_cuts.specs.SideSets.{has};
 
 use crate::columns::{Columns, push_segments};
+use crate::side_set::SideSet;
+use crate::table::ArcTable;
 use ring_probe::{area_of, either_alone, is_over_odd, leaning_of};
 use ring_walk::{Side, Way};
 use std::alloc::Global;
-use tgap_model::{BaseArc, List, Memory, Point, Seg};
+use tgap_model::{List, Memory, Point, Seg};
 
 /// A new arc and its walk along other arcs, with twice the area that they go round: positive where they do so
 /// counter-clockwise. Where several rings are held to it, its segments are looked up by their abscissas.
 #[derive(Drop)]
 pub struct NewRing<'a> {
-    arcs: &'a [BaseArc],
     points: &'a [Point],
     walk: &'a [Side],
     area: i128,
@@ -31,47 +33,47 @@ pub struct NewRing<'a> {
 }
 
 /// The points of the arc of a side.
-fn points_at(arcs: &[BaseArc], side: Side) -> &[Point]
-    requires lines { AreLines arcs.now }
-    requires side { IsSide (length arcs.now) side }
-    ensures value { result.now ≡ slice_index_or (lines_of arcs.now) side.span [] }
+fn points_at<T: ArcTable>(table: &T, side: Side) -> &[Point]
+    requires lines { AreLines (T.arcs table.now) }
+    requires side { IsSide (length (T.arcs table.now)) side }
+    ensures value { result.now ≡ slice_index_or (lines_of (T.arcs table.now)) side.span [] }
     ensures line { IsLine result.now }
 {
-    arcs[side.span as usize].points.as_slice()
+    table.points(side.span)
 }
 
 /// What a side adds to twice the area of its ring.
-fn side_area(arcs: &[BaseArc], side: Side) -> i128
-    requires lines { AreLines arcs.now }
-    requires side { IsSide (length arcs.now) side }
-    ensures value { result ≡ shoelace (points_of (lines_of arcs.now) side) }
+fn side_area<T: ArcTable>(table: &T, side: Side) -> i128
+    requires lines { AreLines (T.arcs table.now) }
+    requires side { IsSide (length (T.arcs table.now)) side }
+    ensures value { result ≡ shoelace (points_of (lines_of (T.arcs table.now)) side) }
     ensures size { unsigned_abs result ≤ max_arc_area }
 {
-    area_of(points_at(arcs, side), side.way)
+    area_of(points_at(table, side), side.way)
 }
 
 /// Twice the area that an arc and its walk go round, in square grid units.
-fn new_area(arcs: &[BaseArc], points: &[Point], walk: &[Side]) -> i128
-    requires lines { AreLines arcs.now }
+fn new_area<T: ArcTable>(table: &T, points: &[Point], walk: &[Side]) -> i128
+    requires lines { AreLines (T.arcs table.now) }
     requires points { IsLine points.now }
-    requires walk { IsRing (length arcs.now) walk.now }
-    ensures { result ≡ new_area (lines_of arcs.now) points.now walk.now }
+    requires walk { IsRing (length (T.arcs table.now)) walk.now }
+    ensures { result ≡ new_area (lines_of (T.arcs table.now)) points.now walk.now }
 {
     let mut area = area_of(points, Way::Along);
     for side in walk {
-        area += side_area(arcs, *side);
+        area += side_area(table, *side);
     }
     area
 }
 
 /// The first segment of the arc of a side that is not vertical.
-fn leaning_at(arcs: &[BaseArc], side: Side) -> Option<Seg>
-    requires lines { AreLines arcs.now }
-    requires side { IsSide (length arcs.now) side }
-    ensures value { result ≡ leaning_of (lines_of arcs.now) side.span }
+fn leaning_at<T: ArcTable>(table: &T, side: Side) -> Option<Seg>
+    requires lines { AreLines (T.arcs table.now) }
+    requires side { IsSide (length (T.arcs table.now)) side }
+    ensures value { result ≡ leaning_of (lines_of (T.arcs table.now)) side.span }
     ensures leaning { IfSome result IsLeaning }
 {
-    leaning_of(points_at(arcs, side), Way::Along)
+    leaning_of(points_at(table, side), Way::Along)
 }
 
 /// A segment that is not vertical, with the number of its arc.
@@ -82,17 +84,17 @@ struct Leaning {
 }
 
 /// The segment of least number that is not vertical, of the arcs of some sides of which it is known and of one side more.
-fn lesser(arcs: &[BaseArc], least: Option<Leaning>, side: Side) -> Option<Leaning>
-    requires lines { AreLines arcs.now }
-    requires side { IsSide (length arcs.now) side }
-    ensures { (row : Sequence OneSide) → IsLeast (lines_of arcs.now) row least → IsLeast (lines_of arcs.now) (row ++ side ∷ []) result }
+fn lesser<T: ArcTable>(table: &T, least: Option<Leaning>, side: Side) -> Option<Leaning>
+    requires lines { AreLines (T.arcs table.now) }
+    requires side { IsSide (length (T.arcs table.now)) side }
+    ensures { (row : Sequence OneSide) → IsLeast (lines_of (T.arcs table.now)) row least → IsLeast (lines_of (T.arcs table.now)) (row ++ side ∷ []) result }
 {
     if let Some(found) = least {
         if found.arc <= side.span {
             return least;
         }
     }
-    match leaning_at(arcs, side) {
+    match leaning_at(table, side) {
         Some(segment) => Some(Leaning {
             arc: side.span,
             segment,
@@ -102,15 +104,15 @@ fn lesser(arcs: &[BaseArc], least: Option<Leaning>, side: Side) -> Option<Leanin
 }
 
 /// Of the arcs along which a row of sides goes, the segment of least number that is not vertical.
-fn least_leaning(arcs: &[BaseArc], row: &[Side]) -> Option<Seg>
-    requires lines { AreLines arcs.now }
-    requires row { IsRing (length arcs.now) row.now }
-    ensures value { result ≡ least_leaning (lines_of arcs.now) row.now }
+fn least_leaning<T: ArcTable>(table: &T, row: &[Side]) -> Option<Seg>
+    requires lines { AreLines (T.arcs table.now) }
+    requires row { IsRing (length (T.arcs table.now)) row.now }
+    ensures value { result ≡ least_leaning (lines_of (T.arcs table.now)) row.now }
     ensures leaning { IfSome result IsLeaning }
 {
     let mut least = None;
     for side in row {
-        least = lesser(arcs, least, *side);
+        least = lesser(table, least, *side);
     }
     match least {
         Some(found) => Some(found.segment),
@@ -118,57 +120,44 @@ fn least_leaning(arcs: &[BaseArc], row: &[Side]) -> Option<Seg>
     }
 }
 
-/// Whether one of the sides is noted.
-fn is_any_noted(notes: &[bool], row: &[Side]) -> bool
-    requires { All (λ s. side_number s < length notes.now) row.now }
-    ensures { result ≡ list_any (λ s. get_or notes.now (side_number s) false) row.now }
-{
-    for side in row {
-        if notes[side.number()] {
-            return true;
-        }
-    }
-    false
-}
-
 /// The segments of a new arc and its walk.
-fn segments_of(
+fn segments_of<T: ArcTable>(
     alloc: Global,
-    arcs: &[BaseArc],
+    table: &T,
     points: &[Point],
     walk: &[Side],
 ) -> Result<List<Seg>, Memory>
-    requires lines { AreLines arcs.now }
+    requires lines { AreLines (T.arcs table.now) }
     requires points { IsLine points.now }
-    requires walk { IsRing (length arcs.now) walk.now }
-    ensures { IfOk result (λ segments. segments ≡ new_ring (lines_of arcs.now) points.now walk.now) }
+    requires walk { IsRing (length (T.arcs table.now)) walk.now }
+    ensures { IfOk result (λ segments. segments ≡ new_ring (lines_of (T.arcs table.now)) points.now walk.now) }
 {
     let mut segments = List::new(alloc);
     push_segments(&mut segments, points, Way::Along)?;
     for side in walk {
-        push_segments(&mut segments, points_at(arcs, *side), side.way)?;
+        push_segments(&mut segments, points_at(table, *side), side.way)?;
     }
     Ok(segments)
 }
 
 /// The look-up of the segments of a new arc and its walk. There is none where fewer than two rings are held to them, or where
 /// there are more segments than a look-up has places.
-fn columns_of(
+fn columns_of<T: ArcTable>(
     alloc: Global,
-    arcs: &[BaseArc],
+    table: &T,
     points: &[Point],
     walk: &[Side],
     rings: usize,
 ) -> Result<Option<Columns>, Memory>
-    requires lines { AreLines arcs.now }
+    requires lines { AreLines (T.arcs table.now) }
     requires points { IsLine points.now }
-    requires walk { IsRing (length arcs.now) walk.now }
-    ensures { IfOk result (λ columns. IfSome columns (AreColumns (new_ring (lines_of arcs.now) points.now walk.now))) }
+    requires walk { IsRing (length (T.arcs table.now)) walk.now }
+    ensures { IfOk result (λ columns. IfSome columns (AreColumns (new_ring (lines_of (T.arcs table.now)) points.now walk.now))) }
 {
     if rings < 2 {
         return Ok(None);
     }
-    let segments = segments_of(alloc, arcs, points, walk)?;
+    let segments = segments_of(alloc, table, points, walk)?;
     if u32::MAX as usize <= segments.len() {
         return Ok(None);
     }
@@ -177,27 +166,25 @@ fn columns_of(
 
 impl<'a> NewRing<'a> {
     /// The ring of an arc with these points and its walk, to which so many other rings are held.
-    pub fn of(
+    pub fn of<T: ArcTable>(
         alloc: Global,
-        arcs: &'a [BaseArc],
+        table: &T,
         points: &'a [Point],
         walk: &'a [Side],
         rings: usize,
     ) -> Result<NewRing<'a>, Memory>
-        requires lines { AreLines arcs.now }
+        requires lines { AreLines (T.arcs table.now) }
         requires points { IsLine points.now }
-        requires walk { IsRing (length arcs.now) walk.now }
-        ensures ring { IfOk result IsNewRing }
-        ensures arcs { IfOk result (λ ring. ring.arcs.now ≡ arcs.now) }
+        requires walk { IsRing (length (T.arcs table.now)) walk.now }
+        ensures ring { IfOk result (IsNewRing (T.arcs table.now)) }
         ensures points { IfOk result (λ ring. ring.points.now ≡ points.now) }
         ensures walk { IfOk result (λ ring. ring.walk.now ≡ walk.now) }
     {
         Ok(NewRing {
-            arcs,
             points,
             walk,
-            area: new_area(arcs, points, walk),
-            columns: columns_of(alloc, arcs, points, walk, rings)?,
+            area: new_area(table, points, walk),
+            columns: columns_of(alloc, table, points, walk, rings)?,
         })
     }
 
@@ -209,53 +196,63 @@ impl<'a> NewRing<'a> {
     }
 
     /// Whether an odd number of its segments cross the line of the probe above it: each is tried.
-    fn is_round_by_all(&self, probe: Seg) -> bool
-        requires ring { IsNewRing self.now }
+    fn is_round_by_all<T: ArcTable>(&self, table: &T, probe: Seg) -> bool
+        requires lines { AreLines (T.arcs table.now) }
+        requires ring { IsNewRing (T.arcs table.now) self.now }
         requires probe { IsLeaning probe }
-        ensures { result ≡ are_round probe (new_ring (lines_of self.now.arcs.now) self.now.points.now self.now.walk.now) }
+        ensures { result ≡ are_round probe (new_ring (lines_of (T.arcs table.now)) self.now.points.now self.now.walk.now) }
     {
         let mut odd = is_over_odd(probe, self.points, Way::Along);
         for side in self.walk {
-            let over = is_over_odd(probe, points_at(self.arcs, *side), side.way);
+            let over = is_over_odd(probe, points_at(table, *side), side.way);
             odd = either_alone(odd, over);
         }
         odd
     }
 
     /// Whether an odd number of its segments cross the line of the probe above it.
-    fn is_round(&self, alloc: Global, probe: Seg) -> Result<bool, Memory>
-        requires ring { IsNewRing self.now }
+    fn is_round<T: ArcTable>(&self, alloc: Global, table: &T, probe: Seg) -> Result<bool, Memory>
+        requires lines { AreLines (T.arcs table.now) }
+        requires ring { IsNewRing (T.arcs table.now) self.now }
         requires probe { IsLeaning probe }
-        ensures { IfOk result (λ round. round ≡ are_round probe (new_ring (lines_of self.now.arcs.now) self.now.points.now self.now.walk.now)) }
+        ensures { IfOk result (λ round. round ≡ are_round probe (new_ring (lines_of (T.arcs table.now)) self.now.points.now self.now.walk.now)) }
     {
         match &self.columns {
             Some(columns) => columns.is_round(alloc, probe),
-            None => Ok(self.is_round_by_all(probe)),
+            None => Ok(self.is_round_by_all(table, probe)),
         }
     }
 
     /// Whether a segment lies at its left.
-    fn is_at_left(&self, alloc: Global, probe: Seg) -> Result<bool, Memory>
-        requires ring { IsNewRing self.now }
+    fn is_at_left<T: ArcTable>(&self, alloc: Global, table: &T, probe: Seg) -> Result<bool, Memory>
+        requires lines { AreLines (T.arcs table.now) }
+        requires ring { IsNewRing (T.arcs table.now) self.now }
         requires probe { IsLeaning probe }
-        ensures { IfOk result (λ left. left ≡ is_at_left (lines_of self.now.arcs.now) self.now.points.now self.now.walk.now probe) }
+        ensures { IfOk result (λ left. left ≡ is_at_left (lines_of (T.arcs table.now)) self.now.points.now self.now.walk.now probe) }
     {
-        let round = self.is_round(alloc, probe)?;
+        let round = self.is_round(alloc, table, probe)?;
         Ok(if 0 < self.area { round } else { !round })
     }
 
-    /// Whether a ring of which no side is on the walk lies at its left. Its sides on the walk are noted.
-    pub fn goes_over(&self, alloc: Global, on_walk: &[bool], row: &[Side]) -> Result<bool, Memory>
-        requires ring { IsNewRing self.now }
-        requires noted { AreNoted (length self.now.arcs.now) self.now.walk.now on_walk.now }
-        requires row { IsRing (length self.now.arcs.now) row.now }
-        ensures { IfOk result (λ over. over ≡ goes_over (lines_of self.now.arcs.now) self.now.points.now self.now.walk.now row.now) }
+    /// Whether a ring of which no side is on the walk lies at its left. The sides on the walk are lent as a set.
+    pub fn goes_over<T: ArcTable>(
+        &self,
+        alloc: Global,
+        table: &T,
+        on_walk: &SideSet,
+        row: &[Side],
+    ) -> Result<bool, Memory>
+        requires lines { AreLines (T.arcs table.now) }
+        requires ring { IsNewRing (T.arcs table.now) self.now }
+        requires set { (s : OneSide) → has on_walk.now s ≡ list_any (same_side s) self.now.walk.now }
+        requires row { IsRing (length (T.arcs table.now)) row.now }
+        ensures { IfOk result (λ over. over ≡ goes_over (lines_of (T.arcs table.now)) self.now.points.now self.now.walk.now row.now) }
     {
-        if is_any_noted(on_walk, row) {
+        if on_walk.has_any(row) {
             return Ok(false);
         }
-        match least_leaning(self.arcs, row) {
-            Some(probe) => self.is_at_left(alloc, probe),
+        match least_leaning(table, row) {
+            Some(probe) => self.is_at_left(alloc, table, probe),
             None => Ok(false),
         }
     }

@@ -1,140 +1,97 @@
-//! The sides beside a face that is cut: which of them go over to the new face, and the arcs afterwards.
+//! The sides beside a face that is cut, and which of them go over to the new face. Each ring is decided once.
 
-ghost use Rattle.std.specs.Prelude.{◌≡◌, ◌<◌, ◌+◌, ◌*◌, ◌^◌, ◌==◌, ◌||◌, ℕ, Bool, IfOk, All, count_by, get_or, length};
+ghost use Rattle.std.specs.Prelude.{◌≡◌, ◌||◌, ◌&&◌, ◌<◌, ◌^◌, IfOk, All, filter, length};
 ghost use Rattle.std.specs.List.{list_any};
-ghost use Rattle.ring_walk.specs.Rings.{rings_of};
-ghost use Rattle.ring_walk.specs.Sides.{face_of, side_number};
-ghost use Rattle.ring_walk.specs.Spans.{IsRing};
+ghost use Rattle.ring_walk.specs.declared.side.Side.{Side as OneSide};
+ghost use Rattle.ring_walk.specs.Sides.{same_side};
+ghost use Rattle.ring_walk.specs.Spans.{IsRing, IsSide};
+ghost use Rattle.ring_probe.specs.Rows.{IsLine};
+ghost use Rattle.face_cuts.specs.Cuts.{goes_over, lines_of};
 ghost use Rattle.face_cuts.specs.Sectors.{spans_of};
-ghost use Rattle.face_cuts.specs.Cuts.{with_faces};
-ghost use Rattle.face_cuts.specs.Partings.{parted};
-ghost use Rattle.face_cuts.specs.NewRings.{AreMoved, AreNoted, IsNewRing, in_row, told_face};
+ghost use Rattle.face_cuts.specs.SideSets.{has};
+ghost use Rattle.face_cuts.specs.Moves.{AreRingsOf, moved_sides};
+ghost use Rattle.face_cuts.specs.NewRings.{AreLines, IsNewRing};
 
 use crate::new_ring::NewRing;
-use crate::sector::face_of;
-use ring_walk::{Side, Span};
+use crate::side_set::SideSet;
+use crate::table::ArcTable;
+use crate::walk::ring_from;
+use ring_walk::Side;
 use std::alloc::Global;
-use tgap_model::{BaseArc, List, Memory, copied_points};
+use tgap_model::{List, Memory, Point};
 
-/// Notes the sides of a row by their numbers.
-fn note_all(notes: &mut [bool], row: &[Side])
-    requires { All (λ s. side_number s < length notes.old) row.now }
-    ensures { (i : ℕ) (d : Bool) → i < length notes.old → get_or notes.new i d ≡ (get_or notes.old i d || in_row row.now i) }
+/// The rings of some sides, each once.
+fn rings_of<T: ArcTable>(alloc: Global, table: &T, row: &[Side]) -> Result<List<List<Side>>, Memory>
+    requires few { length (T.arcs table.now) < 2 ^ 32 }
+    requires row { All (IsSide (length (T.arcs table.now))) row.now }
+    ensures { IfOk result (AreRingsOf (spans_of (T.arcs table.now)) row.now) }
 {
+    let mut taken = SideSet::new(alloc);
+    let mut rings = List::new(alloc);
     for side in row {
-        notes[side.number()] = true;
-    }
-}
-
-/// The sides of a row, noted by their numbers among those of so many spans.
-fn noted(alloc: Global, spans: usize, row: &[Side]) -> Result<Vec<bool>, Memory>
-    requires few { spans < 2 ^ 32 }
-    requires row { IsRing spans row.now }
-    ensures { IfOk result (λ notes. AreNoted spans row.now notes.items) }
-{
-    let mut notes = vec![in alloc; false; 2 * spans]?;
-    note_all(&mut notes, row);
-    Ok(notes)
-}
-
-/// Whether a side of the row is beside the face.
-fn is_beside(spans: &[Span], face: u32, row: &[Side]) -> bool
-    requires { IsRing (length spans.now) row.now }
-    ensures { result ≡ list_any (λ s. face_of spans.now s == face) row.now }
-{
-    for side in row {
-        if face_of(spans, *side) == face {
-            return true;
+        if !taken.has(*side) {
+            let ring = ring_from(alloc, table, *side)?;
+            taken.put_all(ring.as_slice())?;
+            rings.push(ring)?;
         }
     }
-    false
+    Ok(rings)
 }
 
-/// How many rings have a side beside the face.
-pub fn count_beside(spans: &[Span], face: u32, rings: &[List<Side>]) -> usize
-    requires { All (IsRing (length spans.now)) rings.now }
-    ensures { result ≡ count_by (λ ring. list_any (λ s. face_of spans.now s == face) ring) rings.now }
-{
-    let mut count = 0;
-    for ring in rings {
-        if is_beside(spans, face, ring.as_slice()) {
-            count += 1;
-        }
-    }
-    count
-}
-
-/// By number, the sides that go over where they are beside the face: those on the walk, and those of rings at the left of the
-/// new one. Each ring that has a side beside the face is decided once.
-pub fn moved_sides(
+/// The sides on the walk, and those of rings at the left of the new one.
+fn moved_set<T: ArcTable>(
     alloc: Global,
-    spans: &[Span],
+    table: &T,
     rings: &[List<Side>],
-    face: u32,
     ring: &NewRing<'_>,
-) -> Result<Vec<bool>, Memory>
-    requires ring { IsNewRing ring.now }
-    requires spans { spans.now ≡ spans_of ring.now.arcs.now }
-    requires rings { rings.now ≡ rings_of spans.now }
-    requires each { All (IsRing (length spans.now)) rings.now }
-    ensures { IfOk result (λ moved. AreMoved ring.now.arcs.now face ring.now.points.now ring.now.walk.now moved.items) }
+) -> Result<SideSet, Memory>
+    requires lines { AreLines (T.arcs table.now) }
+    requires ring { IsNewRing (T.arcs table.now) ring.now }
+    requires each { All (IsRing (length (T.arcs table.now))) rings.now }
+    ensures { IfOk result (λ moved. (s : OneSide) → has moved s
+        ≡ (list_any (same_side s) ring.now.walk.now || list_any (λ r. goes_over (lines_of (T.arcs table.now)) ring.now.points.now ring.now.walk.now r && list_any (same_side s) r) rings.now)) }
 {
-    let on_walk = noted(alloc, spans.len(), ring.walk())?;
-    let mut moved = noted(alloc, spans.len(), ring.walk())?;
+    let on_walk = SideSet::of(alloc, ring.walk())?;
+    let mut moved = SideSet::of(alloc, ring.walk())?;
     for row in rings {
         let row = row.as_slice();
-        if is_beside(spans, face, row) && ring.goes_over(alloc, &on_walk, row)? {
-            note_all(&mut moved, row);
+        if ring.goes_over(alloc, table, &on_walk, row)? {
+            moved.put_all(row)?;
         }
     }
     Ok(moved)
 }
 
-/// A face that is cut, the face that is new, and by number the sides that go over to it where they are beside the one that
-/// is cut.
-#[derive(Clone, Copy)]
-pub struct Parting<'a> {
-    pub face: u32,
-    pub new: u32,
-    pub moved: &'a [bool],
+/// The sides of a row that are in the set.
+fn kept(alloc: Global, row: &[Side], set: &SideSet) -> Result<List<Side>, Memory>
+    ensures { IfOk result (λ found. found ≡ filter (has set.now) row.now) }
+{
+    let mut found = List::new(alloc);
+    for side in row {
+        if set.has(*side) {
+            found.push(*side)?;
+        }
+    }
+    Ok(found)
 }
 
-impl<'a> Parting<'a> {
-    /// The face afterwards of the side with a number.
-    fn face_after(&self, old: u32, side: usize) -> u32
-        requires { side < length self.now.moved.now }
-        ensures { result ≡ parted self.now old side }
-    {
-        if old == self.face && self.moved[side] {
-            self.new
-        } else {
-            old
-        }
-    }
-
-    /// A copy of the arc with this number, with its faces afterwards.
-    fn arc_after(&self, alloc: Global, arc: &BaseArc, number: usize) -> Result<BaseArc, Memory>
-        requires { 2 * number + 1 < length self.now.moved.now }
-        ensures left { IfOk result (λ made. made.left ≡ parted self.now arc.now.left (2 * number)) }
-        ensures right { IfOk result (λ made. made.right ≡ parted self.now arc.now.right (2 * number + 1)) }
-        ensures points { IfOk result (λ made. made.points ≡ arc.now.points) }
-    {
-        Ok(BaseArc {
-            left: self.face_after(arc.left, 2 * number),
-            right: self.face_after(arc.right, 2 * number + 1),
-            points: copied_points(alloc, arc.points.as_slice())?,
-        })
-    }
-
-    /// The arcs afterwards.
-    pub fn arcs(&self, alloc: Global, arcs: &[BaseArc]) -> Result<List<BaseArc>, Memory>
-        requires { length self.now.moved.now ≡ 2 * length arcs.now }
-        ensures { IfOk result (λ made. made ≡ with_faces (told_face arcs.now self.now.face self.now.new self.now.moved.now) 0 arcs.now) }
-    {
-        let mut made = List::new(alloc);
-        for number in 0..arcs.len() {
-            made.push(self.arc_after(alloc, &arcs[number], number)?)?;
-        }
-        Ok(made)
-    }
+/// The sides beside the face that go over to the new one, in the order of their numbers: those on the walk, and those of rings at
+/// the left of the arc and the walk.
+pub fn moved_sides<T: ArcTable>(
+    alloc: Global,
+    table: &T,
+    face: u32,
+    points: &[Point],
+    walk: &[Side],
+) -> Result<List<Side>, Memory>
+    requires lines { AreLines (T.arcs table.now) }
+    requires points { IsLine points.now }
+    requires walk { IsRing (length (T.arcs table.now)) walk.now }
+    ensures { IfOk result (λ moved. moved ≡ moved_sides (T.arcs table.now) face points.now walk.now) }
+{
+    let beside = table.beside(alloc, face)?;
+    let rings = rings_of(alloc, table, &beside)?;
+    let ring = NewRing::of(alloc, table, points, walk, rings.len().saturating_sub(1))?;
+    let moved = moved_set(alloc, table, rings.as_slice(), &ring)?;
+    kept(alloc, &beside, &moved)
 }

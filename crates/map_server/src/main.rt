@@ -1,10 +1,11 @@
 //! The program: the words of a command line, the files that they name, and the text that answers them. The top call is `run`;
-//! `main` hands it the real files, the standard output and the network. It stands on `commands` and `serving`.
+//! `main` hands it the real files, the standard output, the network and the disks. It stands on `commands` and `serving`.
 #![tactic(auto)]
 
 mod run;
 
 use commands::Outcome;
+use edit_journal::HostDisks;
 use plain_io::{HostFiles, HostSink, TcpHarbour};
 pub use run::run;
 use std::alloc::Global;
@@ -18,6 +19,7 @@ fn main(rt: HostRuntime) -> ExitCode {
     let mut files = HostFiles::new(&rt);
     let mut out = HostSink::new(io::writer(&rt));
     let mut harbour = TcpHarbour::new(&rt);
+    let mut disks = HostDisks::new(&rt);
     let status = match words(&rt, rt.alloc()) {
         Ok(words) => run(
             &rt,
@@ -26,6 +28,7 @@ fn main(rt: HostRuntime) -> ExitCode {
             &mut files,
             &mut out,
             &mut harbour,
+            &mut disks,
         ),
         Err(Memory) => Outcome::OutOfMemory.put(rt.alloc(), &mut out),
     };

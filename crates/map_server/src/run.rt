@@ -1,6 +1,6 @@
 //! The top call.
 
-ghost use Rattle.std.specs.Prelude.{◌≡◌, ◌≢◌, ◌⊎◌, ◌++◌, ◌∷◌, [], true, ℕ, List, length, All, map, string_bytes, Contains, Some, None};
+ghost use Rattle.std.specs.Prelude.{◌≡◌, ◌≢◌, ◌⊎◌, ◌++◌, ◌∷◌, [], true, ℕ, List, length, All, map, string_bytes, Some, None, IfSome};
 ghost use Rattle.tgap_model.specs.Base.{BaseMap};
 ghost use Rattle.tgap_model.specs.Faults.{Rises, Rose};
 ghost use Rattle.plain_io.specs.Puts.{Appends};
@@ -12,10 +12,12 @@ ghost use Rattle.commands.specs.Delivery.{Delivers, PutsWhole};
 ghost use Rattle.commands.specs.Command as spec;
 ghost use Rattle.commands.specs.MapFile.{Contents, FileName, files_of_map};
 ghost use Rattle.commands.specs.Commands.{command, files_of, outcome_of};
-ghost use Rattle.commands.specs.Answers.{Answers, Failed, LeavesKind, MayHold, MissesOne, PutsAnswer, files_for};
-ghost use Rattle.serving.specs.Serving.{ServeCommand, CameBack, HasNoDoors, IsLoaded, IsRefusal, IsSoundMap, PutsFront, PutsRefusal, ServesAll, serve_words, serving_text};
+ghost use Rattle.commands.specs.Answers.{Answers, Failed, IsReached, LeavesKind, MayHold, MissesOne, PutsAnswer, files_for};
+ghost use Rattle.serving.specs.Serving.{ServeCommand, CameBack, HasNoDoors, IsLoaded, IsSoundMap, PutsFront, PutsOne, serve_words, serving_text};
+ghost use Rattle.serving.specs.Journals.{IsServed, RefusesServing};
 
 use commands::execute;
+use edit_journal::Disks;
 use plain_io::{Door, Files, Harbour, Sink};
 use serving::{parse_serve, run_serve};
 use std::alloc::Global;
@@ -29,20 +31,21 @@ use std::thread::Threads;
 /// |---|---|---|
 /// | 0 | the command was done | the borders text or the slice text of the step, the packet text of the two steps, the text of the slice that a replay reaches, `ok` with the numbers of faces, arcs and points, or the line of a generated map; or the map was served until the doors closed: `serving` and the port |
 /// | 2 | the words are no command | the usage line |
-/// | 3 | a file that the command reads could not be loaded; the count of faults of its kind rose | `load fault` and the kind |
+/// | 3 | a file that the command reads could not be loaded, the first of them in its order; the count of faults of its kind rose, and no other | `load fault` and the kind |
 /// | 4 | a file is too long, or the map file is the listing of no base map, or the two files are no topology and rules that make one, or the map is no planar partition, which `borders` does not ask | the first fault |
 /// | 5 | the step is above the last one; or the step to go to is above the step to go from, which is told first | `step too high` with that step, or `not coarser` with the two |
 /// | 6 | the text could not be put; the count of faults of the sink rose | a front of the text |
 /// | 7 | memory is wanting | `memory` |
 /// | 8 | the port could not be opened, or a door failed; the count of faults of the harbour rose | `port fault`, after the line that tells the port where there were doors |
 /// | 9 | a text of a replay is none, or a record does not fit | the first line that is not of its form, or the record's step and the least rule that it breaks |
-pub fn run<R: Threads + Wait + Sync, F: Files, K: Sink, H: Harbour>(
+pub fn run<R: Threads + Wait + Sync, F: Files, K: Sink, H: Harbour, D: Disks>(
     rt: &R,
     alloc: Global,
     words: &[String],
     files: &mut F,
     out: &mut K,
     harbour: &mut H,
+    disks: &mut D,
 ) -> u8
 where
     <H::Gate as Door>::Line: Send,
@@ -68,7 +71,7 @@ where
     ensures usage { result ≡ 2 → (command (map string_bytes words.now) ≡ None) × (serve_words (map string_bytes words.now) ≡ None) }
     ensures no_command { command (map string_bytes words.now) ≡ None → serve_words (map string_bytes words.now) ≡ None → (result ≡ 2) ⊎ (result ≡ 6) }
     ensures load_fault { serve_words (map string_bytes words.now) ≡ None → result ≡ 3 → (c : spec.Command) × (command (map string_bytes words.now) ≡ Some c)
-        × ((n : FileName) × Contains (files_of c) n × Failed (F.faults files.old) (F.faults files.new) n.which
+        × ((n : FileName) × IsReached (F.told files.old) (files_of c) n × Failed (F.faults files.old) (F.faults files.new) n.which
         × Appends (K.told out.old) (K.told out.new) (load_fault_text n.which)) }
     ensures missing { serve_words (map string_bytes words.now) ≡ None → (c : spec.Command) → command (map string_bytes words.now) ≡ Some c
         → MissesOne (F.told files.old) (files_of c) → (result ≡ 3) ⊎ ((result ≡ 6) ⊎ (result ≡ 7)) }
@@ -88,7 +91,8 @@ where
     ensures serve_sound { (c : ServeCommand) → serve_words (map string_bytes words.now) ≡ Some c → (result ≡ 0) ⊎ (result ≡ 8)
         → IsSoundMap c.source (F.told files.old) }
     ensures serve_refused { (c : ServeCommand) → serve_words (map string_bytes words.now) ≡ Some c → result ≢ 0 → result ≢ 6 → result ≢ 8
-        → PutsRefusal c.source (F.told files.old) (Failed (F.faults files.old) (F.faults files.new)) (K.told out.old) (K.told out.new) result }
+        → PutsOne (RefusesServing c (F.told files.old) (Failed (F.faults files.old) (F.faults files.new)) (D.told disks.old) (D.held disks.old)
+        (Rose (D.faults disks.old) (D.faults disks.new))) (K.told out.old) (K.told out.new) result }
     ensures serve_kinds_kept { (c : ServeCommand) → serve_words (map string_bytes words.now) ≡ Some c → (kind : Kind) → LeavesKind (files_of_map c.source) kind
         → F.faults files.new kind ≡ F.faults files.old kind }
     // The line that tells the port is put, and after it that a door failed; or there are no doors, and the port's fault alone is told.
@@ -102,9 +106,10 @@ where
     ensures serve_front { (c : ServeCommand) → serve_words (map string_bytes words.now) ≡ Some c → result ≡ 6
         → PutsFront (serving_text c.port) (CameBack (H.told harbour.old) (H.told harbour.new))
         ((m : BaseMap) × IsLoaded c.source (F.told files.old) m
-        × ServesAll H.Gate.closed H.Gate.faults H.Gate.told H.Gate.Line.Link (CameBack (H.told harbour.old) (H.told harbour.new))
-        c.workers c.versions (m ∷ []) result)
-        (IsRefusal c.source (F.told files.old) (Failed (F.faults files.old) (F.faults files.new)))
+        × IsServed H.Gate.closed H.Gate.faults H.Gate.told H.Gate.Line.Link (CameBack (H.told harbour.old) (H.told harbour.new))
+        c D.One.Disk (D.told disks.old) (D.held disks.old) (D.returned disks.new) m result)
+        (RefusesServing c (F.told files.old) (Failed (F.faults files.old) (F.faults files.new)) (D.told disks.old) (D.held disks.old)
+        (Rose (D.faults disks.old) (D.faults disks.new)))
         (H.faults harbour.old) (H.faults harbour.new) (K.told out.old) (K.told out.new) }
     // All doors that the harbour gave came back. With status 0 there are as many as workers, each closed and none with a fault.
     ensures doors { (c : ServeCommand) → serve_words (map string_bytes words.now) ≡ Some c
@@ -119,17 +124,22 @@ where
         → ((result ≡ 8) × HasNoDoors (CameBack (H.told harbour.old) (H.told harbour.new)) (K.told out.old) (K.told out.new))
         ⊎ ((result ≡ 8 → Appends (K.told out.old) (K.told out.new) (serving_text c.port ++ text_of outcome.PortFault))
         × ((m : BaseMap) × IsLoaded c.source (F.told files.old) m
-        × ServesAll H.Gate.closed H.Gate.faults H.Gate.told H.Gate.Line.Link (CameBack (H.told harbour.old) (H.told harbour.new))
-        c.workers c.versions (m ∷ []) result)) }
+        × IsServed H.Gate.closed H.Gate.faults H.Gate.told H.Gate.Line.Link (CameBack (H.told harbour.old) (H.told harbour.new))
+        c D.One.Disk (D.told disks.old) (D.held disks.old) (D.returned disks.new) m result)) }
     // Status 8 comes only where the count of the harbour rose. It stays but where status 8 or 6 tells of it.
     ensures port_fault { result ≡ 8 → Rose (H.faults harbour.old) (H.faults harbour.new) }
     ensures port_kept { result ≢ 6 → result ≢ 8 → H.faults harbour.new ≡ H.faults harbour.old }
     ensures harbour_kept { serve_words (map string_bytes words.now) ≡ None → H.told harbour.new ≡ H.told harbour.old }
+    // Where nothing is served no disk is asked for, nor where no journal is named. The count of the disks stays where a map or its journal is
+    // refused.
+    ensures no_disk { IfSome (serve_words (map string_bytes words.now)) (λ c. c.journal ≡ None)
+        → (D.returned disks.new ≡ D.returned disks.old) × (D.faults disks.new ≡ D.faults disks.old) }
+    ensures disks_kept { result ≡ 4 → D.faults disks.new ≡ D.faults disks.old }
     ensures sink_fault { result ≡ 6 → Rises (K.faults out.old) (K.faults out.new) }
     ensures sink_kept { result ≢ 6 → K.faults out.new ≡ K.faults out.old }
 {
     match parse_serve(words) {
-        Some(serving) => run_serve(rt, alloc, serving, files, out, harbour),
+        Some(serving) => run_serve(rt, alloc, serving, files, out, harbour, disks),
         None => execute(rt, alloc, words, files).put(alloc, out),
     }
 }

@@ -14,18 +14,18 @@ use session::{Desk, serve_connection_at};
 use std::alloc::Global;
 use std::sync::{Mutex, Wait};
 use std::thread::Threads;
-use tgap_model::NoKeeper;
+use tgap_model::Keep;
 use version_store::{Press, Seat, StoreName};
 use workers::{Attend, PostOf, ServeEnd, serve_posts};
 
 /// What all workers share: where memory comes from, and the press behind its lock.
 #[derive(Drop)]
-struct Shared<'a, N: StoreName> {
+struct Shared<'a, N: StoreName, K: Keep> {
     alloc: Global,
-    press: &'a Mutex<Press<Version, N, NoKeeper>>,
+    press: &'a Mutex<Press<Version, N, K>>,
 }
 
-impl<N: StoreName> Attend<Shared<'_, N>> for Seat<Version, N> {
+impl<N: StoreName, K: Keep> Attend<Shared<'_, N, K>> for Seat<Version, N> {
     ghost use Rattle.session.specs.Keeping.{IsDeskOf};
     ghost use Rattle.session.specs.Versions.{seen_of};
     ghost use Rattle.map_workers.specs.Seats.{Served, served_none};
@@ -36,7 +36,7 @@ impl<N: StoreName> Attend<Shared<'_, N>> for Seat<Version, N> {
 
     ghost ready = { λ now desk. IsDeskOf (seen_of now) desk };
 
-    fn desk(&self, shared: &Shared<'_, N>) -> Desk {
+    fn desk(&self, shared: &Shared<'_, N, K>) -> Desk {
         Desk::new(shared.alloc)
     }
 
@@ -45,7 +45,7 @@ impl<N: StoreName> Attend<Shared<'_, N>> for Seat<Version, N> {
     fn attend<L: Link, R: Threads + Wait + Sync>(
         &mut self,
         rt: &R,
-        shared: &Shared<'_, N>,
+        shared: &Shared<'_, N, K>,
         link: &mut L,
         desk: &mut Desk,
     ) -> ConnectionEnd {
@@ -62,11 +62,11 @@ pub type Post<D, N> = PostOf<D, Seat<Version, N>>;
 /// handed back with its end, and however it ends, the next one is served.
 ///
 /// `DoorFailed` is told exactly where the count of faults of a door rose in this call; otherwise each door is closed.
-pub fn serve<D: Door + Send, N: StoreName + Send + Sync, R: Threads + Wait + Sync>(
+pub fn serve<D: Door + Send, N: StoreName + Send + Sync, K: Keep + Send, R: Threads + Wait + Sync>(
     rt: &R,
     alloc: Global,
     posts: &mut [Post<D, N>],
-    press: &Mutex<Press<Version, N, NoKeeper>>,
+    press: &Mutex<Press<Version, N, K>>,
 ) -> ServeEnd
 where
     D::Line: Send,

@@ -1,2 +1,4 @@
 pub mod Servings
+pub mod Laters
+pub mod Journals
 pub mod Refusals

@@ -1,9 +1,9 @@
 -- What comes of serving a map, from what each step of it does.
-use Rattle.std.proofs.Common.{◌≡◌, ◌≢◌, ℕ, zero, suc, ◌+◌, ◌<◌, ◌≤◌, ◌⊎◌, Bool, true, inl, inr, List, [], ◌∷◌, ◌++◌, length, take, drop, map, reverse, All, Option, Some, None, refl, sym, ap, ◌∙◌, subst, arith, append_assoc}
-use Rattle.std.specs.Prelude.{◌↔◌, Result, Ok, Err, IfOk, OnOk, option_map, ⊤}
+use Rattle.std.proofs.Common.{replicate, ◌≡◌, ◌≢◌, ℕ, zero, suc, ◌+◌, ◌<◌, ◌≤◌, ◌⊎◌, Bool, true, inl, inr, List, [], ◌∷◌, ◌++◌, length, take, drop, map, reverse, All, Option, Some, None, refl, sym, ap, ◌∙◌, subst, arith, append_assoc}
+use Rattle.std.specs.Prelude.{◌↔◌, Result, Ok, Err, IfOk, OnOk, option_map, slice_get, ⊤}
 use Rattle.std.proofs.Math.Seq.{take-append_seam}
-use Rattle.std.proofs.lemmas.List.{append-nil, length-map, reverse-append}
-use Rattle.std.proofs.lemmas.List.Elements.{All-cons, All-nil, All-head, All-tail, All-append, All-map, All-weaker}
+use Rattle.std.proofs.lemmas.List.{append-nil, length-map, length-append, reverse-append}
+use Rattle.std.proofs.lemmas.List.Elements.{All-cons, All-nil, All-head, All-tail, All-append, All-map, All-weaker, All-drop}
 use Rattle.tgap_model.specs.Base.{BaseMap}
 use Rattle.tgap_model.specs.Partition.{IsPartition, base_segments}
 use Rattle.plain_io.specs.declared.link.Link as OfLink
@@ -14,7 +14,20 @@ use Rattle.plain_io.specs.Puts.{Appends, AppendsFront}
 use Rattle.workers.specs.Closing.{MayTakeBack, TakesAllBack, OneFailed, NoneFailed}
 use Rattle.workers.specs.Each.{EachBecame, OneBecame}
 use Rattle.map_version.specs.declared.version.Version.{Version}
-use Rattle.map_workers.specs.Seats.{newest_of, ServedRight}
+use Rattle.workers.specs.Served.{ServesDoor}
+use Rattle.plain_io.specs.Doors.{NoneCame}
+use Rattle.tgap_model.specs.declared.holds.Holds as Held
+use Rattle.tgap_model.specs.declared.keep.Keep as Keeper
+use Rattle.version_store.specs.declared.name.StoreName as Named
+use Rattle.version_store.specs.declared.seat.SeatOf.{SeatOf}
+use Rattle.version_store.specs.declared.press.PressOf.{PressOf}
+use Rattle.version_store.specs.Growth.{IsPrefix}
+use Rattle.version_store.specs.Publishers.{places_from, numbers_of, IsOneOf, ArePublishers}
+use Rattle.version_store.specs.Store.{press_versions, press_limit, press_publishers, seat_versions, seat_number, seat_numbers, AreSeatsFrom}
+use Rattle.version_store.proofs.Lists.{press_published, press_limited, press_lists}
+use Rattle.session.specs.Versions.{seen_of}
+use Rattle.map_workers.specs.Seats.{newest_of, press_maps, press_batches, BeginsWith, SeesAll, Served, ServedRight, EachNumbered}
+use Rattle.map_workers.proofs.Seats.{posts_right, publishers_grow}
 use Rattle.commands.specs.declared.outcome.Outcome.{Outcome}
 use Rattle.commands.specs.declared.outcome.Outcome.TheVariants.{OutOfMemory, PortFault}
 use Rattle.commands.specs.Outcomes.{status_of, text_of, TakesMemory}
@@ -116,6 +129,14 @@ module _ {P : Type 0} (faults : P → ℕ) where
   pub none_faulty : (xs : List P) → All (λ x. faults x ≡ 0) xs → NoneFailed (map faults xs)
   none_faulty [] all = tt
   none_faulty (x ∷ xs) all = (All-head (λ z. faults z ≡ 0) x xs all, none_faulty xs (All-tail (λ z. faults z ≡ 0) x xs all))
+
+-- a seat that has seen all of a press has seen all of one with the same versions
+pub sees_on : {N K J P : Type 0} {held : Held.Ghosts Version} {named : Named.Ghosts N} {keep : Keeper.Ghosts K} {other : Keeper.Ghosts J}
+    (press : PressOf Version N K P held named keep) (press' : PressOf Version N J P held named other) (seat : SeatOf Version N P held named)
+    → press_versions press' ≡ press_versions press → press_limit press' ≡ press_limit press → press_publishers press' ≡ press_publishers press
+    → SeesAll press seat → SeesAll press' seat
+sees_on press press' seat versions limit publishers sees =
+    (sees.0 ∙ sym versions, sees.1 ∙ sym limit, sees.2 ∙ ap (numbers_of (seat_number seat)) (sym publishers))
 
 -- doors at posts are closed and sound
 pub doors_sound : {P D : Type 0} (door : P → D) (closed : D → Bool) (faults : D → ℕ) (xs : List P) → All (λ x. closed (door x) ≡ true) xs
@@ -314,17 +335,17 @@ stop_apart told told' sunk sunk' status o stop (inr (takes, inr d)) (inl e) = om
 stop_apart told told' sunk sunk' status o stop (inr (takes, inr d)) (inr e) = omega (arith, e, d.0)
 
 module _ {D : Type 0} (first : List ℕ) (given : Option (Doors D)) (Served : Type 0) (count : ℕ)
-    (told told' : Option (List ℕ)) (sunk sunk' status : ℕ) (source : Source) (files : Which → List ℕ → Told) (rose : Which → Type 0) where
-  pub refused_serves : (o : Outcome) → IsStop o → AnswersCommand (Check source) files rose o → IsPut o told told' sunk sunk' status
-      → Serves first (CameBack given given) Served count count told told' sunk sunk' status (IsRefusal source files rose)
-  refused_serves o stop answers (inl d) =
-      put_alone first (CameBack given given) Served count count told told' sunk sunk' status (IsRefusal source files rose)
+    (told told' : Option (List ℕ)) (sunk sunk' status : ℕ) (Refusal : Outcome → Type 0) where
+  pub refused_serves : (o : Outcome) → IsStop o → Refusal o → Refusal OutOfMemory → IsPut o told told' sunk sunk' status
+      → Serves first (CameBack given given) Served count count told told' sunk sunk' status Refusal
+  refused_serves o stop answers memory (inl d) =
+      put_alone first (CameBack given given) Served count count told told' sunk sunk' status Refusal
       o d (none_back given given refl) (elim stop [ inl s ↦ λ e. omega (arith, s, e) | inr (inl s) ↦ λ e. omega (arith, s, e) | inr (inr s) ↦ λ e. omega (arith, s, e) ])
       (elim stop [ inl s ↦ λ e. omega (arith, s, e) | inr (inl s) ↦ λ e. omega (arith, s, e) | inr (inr s) ↦ λ e. omega (arith, s, e) ])
       (inl (elim stop [ inl s ↦ λ e. omega (arith, s, e) | inr (inl s) ↦ λ e. omega (arith, s, e) | inr (inr s) ↦ λ e. omega (arith, s, e) ], refl, answers))
-  refused_serves o stop answers (inr d) =
-      put_alone first (CameBack given given) Served count count told told' sunk sunk' status (IsRefusal source files rose)
-      OutOfMemory d.1 (none_back given given refl) (λ e. omega (arith, e)) (λ e. omega (arith, e)) (inl ((λ e. omega (arith, e)), refl, inr (inl refl)))
+  refused_serves o stop answers memory (inr d) =
+      put_alone first (CameBack given given) Served count count told told' sunk sunk' status Refusal
+      OutOfMemory d.1 (none_back given given refl) (λ e. omega (arith, e)) (λ e. omega (arith, e)) (inl ((λ e. omega (arith, e)), refl, memory))
 
 -- ---- the map that is served
 
@@ -346,65 +367,152 @@ maps_planar (v ∷ versions) =
 pub maps_few : (versions : List Version) (limit : ℕ) → length versions ≤ limit → length (map (λ (v : Version). v.built) versions) ≤ limit
 maps_few versions limit few = subst (λ n. n ≤ limit) (sym (length-map versions (λ (v : Version). v.built))) few
 
+-- there are as many batches as versions
+pub batches_many : (versions : List Version)
+    → length (map (λ (v : Version). v.batch) versions) ≡ length (map (λ (v : Version). v.built) versions)
+batches_many versions = length-map versions (λ (v : Version). v.batch) ∙ sym (length-map versions (λ (v : Version). v.built))
+
+all_numbered : (seats : ℕ) (publishers : List ℕ) → ((n p : ℕ) → slice_get publishers n ≡ Some p → IsOneOf seats p) → All (IsOneOf seats) publishers
+all_numbered seats [] each = All-nil (IsOneOf seats)
+all_numbered seats (p ∷ publishers) each =
+    All-cons (IsOneOf seats) p publishers (each 0 p refl) (all_numbered seats publishers (λ n q e. each (suc n) q e))
+
+-- each one behind the first has one of the seats as its publisher
+others_published : (seats many : ℕ) (publishers : List ℕ) → ArePublishers seats publishers → All (IsOneOf seats) (drop (suc many) publishers)
+others_published seats many [] are = All-nil (IsOneOf seats)
+others_published seats many (p ∷ publishers) are =
+    All-drop (IsOneOf seats) many publishers (all_numbered seats publishers (λ n q e. are.1 (suc n) q (omega arith) e))
+
+-- what holds of each by its number holds of what these are parts of
+each_part : {P D : Type 0} (part : P → D) (R : ℕ → D → Type 0) (n : ℕ) (xs : List P) → EachNumbered (λ k x. R k (part x)) n xs → EachNumbered R n (map part xs)
+each_part part R n [] each = tt
+each_part part R n (x ∷ xs) each = (each.0, each_part part R (suc n) xs each.1)
+
+-- the versions that were there from the start, and those that were published
+published_many : (start later history : List BaseMap) (first n : ℕ) → history ≡ start ++ later → length start ≡ first → first + n ≡ length history
+    → n ≡ length later
+published_many start later history first n is some many =
+    let long : length history ≡ length start + length later = ap length is ∙ length-append start later in
+    omega (arith, long, some, many)
+
 module _ {D L : Type 0} (closed : D → Bool) (faults : D → ℕ) (told : D → Option (Connections L)) (link : OfLink.Ghosts L) where
   -- What became of posts whose doors were sound: of each it is told that it is closed or has failed, and that its connections are right over
-  -- a list that begins with the maps from the start.
-  pub serves_all : {P : Type 0} (door : P → D) (xs ys all : List P) (given given' : Option (Doors D)) (limit : ℕ) (start history : List BaseMap) (status : ℕ)
+  -- a list that begins with the maps from the start, of which each later version has one of the doors as its publisher.
+  serves_all : {P : Type 0} (door : P → D) (xs ys all : List P) (given given' : Option (Doors D)) (limit : ℕ) (start history : List BaseMap)
+      (batches : List (List ℕ)) (publishers : List ℕ) (Kept : List (List ℕ) → Type 0) (first status : ℕ)
       → xs ≡ all → 1 ≤ length all → All (λ x. faults (door x) ≡ 0) all
       → EachBecame (λ x y. (closed (door y) ≡ true) ⊎ Rose (faults (door x)) (faults (door y))) xs ys → TakesAllBack given given' (map door ys)
-      → length history ≤ limit → All (λ m. IsPartition (base_segments m)) history
-      → All (λ y. ((later : List BaseMap) × (history ≡ start ++ later)) × ServedRight link limit history (newest_of start) (told (door y))) ys
+      → length history ≤ limit → All (λ m. IsPartition (base_segments m)) history → length start ≡ first
+      → length batches ≡ length history → first + length publishers ≡ length history → All (IsOneOf (length all)) publishers
+      → (later : List BaseMap) × (history ≡ start ++ later) → Kept batches
+      → EachNumbered (λ n y. ServedRight link limit history batches (newest_of start) (places_from first n publishers) (told (door y))) 1 ys
       → (status ≡ 0) ↔ All (λ d. (closed d ≡ true) × (faults d ≡ 0)) (map door ys)
-      → ServesAll closed faults told link (TakesEach (length all) given given') (length all) limit start status
-  serves_all {P} door xs ys all given given' limit start history status same some sound stopped back room planar right end =
+      → ServesAll closed faults told link (TakesEach (length all) given given') (length all) limit start Kept status
+  serves_all {P} door xs ys all given given' limit start history batches publishers Kept first status same some sound stopped back room planar one many count are later kept right end =
       let Stopped : P → P → Type 0 = λ (x y : P). (closed (door y) ≡ true) ⊎ Rose (faults (door x)) (faults (door y)) in
-      let Later : Type 0 = (later : List BaseMap) × (history ≡ start ++ later) in
-      let Right : List BaseMap → D → Type 0 = λ (h : List BaseMap) (d : D). ServedRight link limit h (newest_of start) (told d) in
+      let Right : ℕ → List BaseMap → ℕ → D → Type 0 =
+      λ (begin : ℕ) (h : List BaseMap) (n : ℕ) (d : D). ServedRight link limit h batches (newest_of start) (places_from begin n publishers) (told d) in
       let number : length ys ≡ length all = each_length Stopped xs ys stopped ∙ ap length same in
-      let many : length (map door ys) ≡ length all = length-map ys door ∙ number in
-      let later : Later =
-      all_one Later ys (omega (arith, some, number)) (All-weaker (λ y. Later × Right history (door y)) (λ y. Later) (λ y p. p.0) ys right) in
-      let rights : All (λ y. Right history (door y)) ys = All-weaker (λ y. Later × Right history (door y)) (λ y. Right history (door y)) (λ y p. p.1) ys right in
+      let doors_many : length (map door ys) ≡ length all = length-map ys door ∙ number in
       record {
         doors = map door ys;
-        back = (many, back);
-        number = many;
+        back = (doors_many, back);
+        number = doors_many;
         stopped = All-map (λ d. (closed d ≡ true) ⊎ (0 < faults d)) door ys
             (each_all Stopped (λ x. faults (door x) ≡ 0) (λ y. (closed (door y) ≡ true) ⊎ (0 < faults (door y)))
             (λ x y r none. elim r [ inl shut ↦ inl shut | inr rose ↦ inr (rose_above (faults (door x)) (faults (door y)) rose) ]) xs ys stopped
             (subst (All (λ x. faults (door x) ≡ 0)) (sym same) sound));
         end = end;
         published = later.0;
+        batches = batches;
+        publishers = publishers;
+        with_batches = many ∙ ap length later.1;
+        kept = kept;
+        with_publishers = published_many start later.0 history first (length publishers) later.1 one count;
+        publishers_are = are;
         room = subst (λ h. length h ≤ limit) later.1 room;
         planar = subst (All (λ m. IsPartition (base_segments m))) later.1 planar;
-        right = subst (λ h. All (Right h) (map door ys)) later.1 (All-map (Right history) door ys rights);
+        right = subst (λ k. EachNumbered (Right k (start ++ later.0)) 1 (map door ys)) (sym one)
+            (subst (λ h. EachNumbered (Right first h) 1 (map door ys)) later.1 (each_part door (Right first history) 1 ys right));
       }
 
+  -- The same of posts at which a press and its seats were served: the first seat alone had published before, each seat had seen all, and the
+  -- press from the lock has gathered them.
+  pub all_served : {Q N K P : Type 0} {held : Held.Ghosts Version} {named : Named.Ghosts N} {keep : Keeper.Ghosts K} (door : Q → D)
+      (seat : Q → SeatOf Version N P held named) (xs ys all : List Q) (given given' : Option (Doors D)) (press press' : PressOf Version N K P held named keep)
+      (Kept : List (List ℕ) → Type 0) (status : ℕ)
+      → xs ≡ all → 1 ≤ length all → All (λ x. faults (door x) ≡ 0) all
+      → EachBecame (λ x y. (closed (door y) ≡ true) ⊎ Rose (faults (door x)) (faults (door y))) xs ys
+      → EachBecame (λ x y. ServesDoor link (told (door x)) (told (door y)) (Served (seen_of (seat x)) (seen_of (seat y)))) xs ys
+      → All (λ x. NoneCame (told (door x))) all → All (λ x. SeesAll press (seat x)) all → AreSeatsFrom 1 (map seat all) → length all ≡ named.seats
+      → (many : ℕ) × (press_publishers press ≡ 0 ∷ replicate many 1) → TakesAllBack given given' (map door ys)
+      → All (λ y. IsPrefix (seat_versions (seat y)) (press_versions press')) ys
+      → All (λ y. seat_numbers (seat y) ≡ numbers_of (seat_number (seat y)) (press_publishers press')) ys
+      → (BeginsWith press press' → Kept (press_batches press'))
+      → (status ≡ 0) ↔ All (λ d. (closed d ≡ true) × (faults d ≡ 0)) (map door ys)
+      → ServesAll closed faults told link (TakesEach (length all) given given') (length all) (press_limit press) (press_maps press) Kept status
+  all_served {Q = Q} {named = named} door seat xs ys all given given' press press' Kept status same some sound stopped served none sees numbers seats first back fronts own keep end =
+      let value = sym same in
+      let known = press_published press' in
+      let some_here : 1 ≤ length xs = subst (λ l. 1 ≤ length l) value some in
+      let sees_here = subst (All (λ x. SeesAll press (seat x))) value sees in
+      let numbers_here = subst (λ l. AreSeatsFrom 1 (map seat l)) value numbers in
+      let grow = publishers_grow door seat link told first.0 xs ys press press' served sees_here numbers_here some_here first.1 known.0.0 own in
+      let later = drop (suc first.0) (press_publishers press') in
+      let right =
+      posts_right door seat link told 1 later xs ys press press' served (subst (All (λ x. NoneCame (told (door x)))) value none) sees_here numbers_here grow
+      fronts own in
+      let long : length ys ≡ length xs = each_length (λ x y. (closed (door y) ≡ true) ⊎ Rose (faults (door x)) (faults (door y))) xs ys stopped in
+      let begins = all_one (BeginsWith press press') ys (omega (arith, some_here, long)) right.0 in
+      let before : length (press_maps press) ≡ length (press_publishers press) =
+      length-map (press_versions press) (λ (v : Version). v.built) ∙ sym (press_published press).1 in
+      let count : length (press_publishers press) + length later ≡ length (press_maps press') =
+      sym (length-append (press_publishers press) later) ∙ ap length (sym grow) ∙ known.1
+      ∙ sym (length-map (press_versions press') (λ (v : Version). v.built)) in
+      serves_all door xs ys all given given' (press_limit press) (press_maps press) (press_maps press') (press_batches press') later Kept
+      (length (press_publishers press)) status same some sound stopped back
+      (maps_few (press_versions press') (press_limit press) (subst (λ n. length (press_versions press') ≤ n) (press_limited press' ∙ sym (press_limited press))
+      (press_lists press').room)) (maps_planar (press_versions press')) before (batches_many (press_versions press')) count
+      (subst (λ k. All (IsOneOf k) later) (sym seats) (others_published named.seats first.0 (press_publishers press') known.0)) begins.0 (keep begins) right.1 end
+
   -- the same of other doors, and of what is equal
-  pub serves_all_on : (Back Back' : List D → Type 0) (workers workers' limit limit' : ℕ) (start start' : List BaseMap) (status : ℕ)
+  pub serves_all_on : (Back Back' : List D → Type 0) (workers workers' limit limit' : ℕ) (start start' : List BaseMap)
+      (Kept Kept' : List (List ℕ) → Type 0) (status : ℕ)
       → ((doors : List D) → Back doors → Back' doors) → workers ≡ workers' → limit ≡ limit' → start ≡ start'
-      → ServesAll closed faults told link Back workers limit start status → ServesAll closed faults told link Back' workers' limit' start' status
-  serves_all_on Back Back' workers workers' limit limit' start start' status on number most same s = record {
-    doors = s.doors;
-    back = on s.doors s.back;
-    number = s.number ∙ number;
-    stopped = s.stopped;
-    end = s.end;
-    published = s.published;
-    room = subst (λ l. length (start' ++ s.published) ≤ l) most (subst (λ h. length (h ++ s.published) ≤ limit) same s.room);
-    planar = subst (λ h. All (λ m. IsPartition (base_segments m)) (h ++ s.published)) same s.planar;
-    right = subst (λ l. All (λ d. ServedRight link l (start' ++ s.published) (newest_of start') (told d)) s.doors) most
-        (subst (λ h. All (λ d. ServedRight link limit (h ++ s.published) (newest_of h) (told d)) s.doors) same s.right);
-  }
+      → ((batches : List (List ℕ)) → Kept batches → Kept' batches)
+      → ServesAll closed faults told link Back workers limit start Kept status → ServesAll closed faults told link Back' workers' limit' start' Kept' status
+  serves_all_on Back Back' workers workers' limit limit' start start' Kept Kept' status on number most same keep s =
+      let Right : ℕ → List BaseMap → ℕ → D → Type 0 =
+      λ (l : ℕ) (h : List BaseMap) (n : ℕ) (d : D). ServedRight link l (h ++ s.published) s.batches (newest_of h) (places_from (length h) n s.publishers) (told d) in
+      record {
+        doors = s.doors;
+        back = on s.doors s.back;
+        number = s.number ∙ number;
+        stopped = s.stopped;
+        end = s.end;
+        published = s.published;
+        batches = s.batches;
+        publishers = s.publishers;
+        with_batches = s.with_batches ∙ ap (λ h. length (h ++ s.published)) same;
+        kept = keep s.batches s.kept;
+        with_publishers = s.with_publishers;
+        publishers_are = subst (λ k. All (IsOneOf k) s.publishers) number s.publishers_are;
+        room = subst (λ l. length (start' ++ s.published) ≤ l) most (subst (λ h. length (h ++ s.published) ≤ limit) same s.room);
+        planar = subst (λ h. All (λ m. IsPartition (base_segments m)) (h ++ s.published)) same s.planar;
+        right = subst (λ l. EachNumbered (Right l start') 1 s.doors) most (subst (λ h. EachNumbered (Right limit h) 1 s.doors) same s.right);
+      }
 
   -- all doors came back; with status 0 as many as workers, each closed and none with a fault
-  pub doors_back : (Back : List D → Type 0) (workers limit : ℕ) (Loaded : BaseMap → Type 0) (status : ℕ) → ((doors : List D) × Back doors)
-      → (status ≡ 0 → (m : BaseMap) × Loaded m × ServesAll closed faults told link Back workers limit (m ∷ []) status)
+  pub doors_back : (Back : List D → Type 0) (workers limit : ℕ) (start : List BaseMap) (Kept : List (List ℕ) → Type 0) (status : ℕ)
+      → ServesAll closed faults told link Back workers limit start Kept status
       → (doors : List D) × Back doors × (status ≡ 0 → (length doors ≡ workers) × All (λ d. (closed d ≡ true) × (faults d ≡ 0)) doors)
-  doors_back Back workers limit Loaded (suc n) any served = (any.0, any.1, λ e. absurd (omega (arith, e)))
-  doors_back Back workers limit Loaded zero any served =
-      let all = (served refl).2 in
-      (all.doors, all.back, λ e. (all.number, all.end.0 e))
+  doors_back Back workers limit start Kept status all = (all.doors, all.back, λ zero. (all.number, all.end.0 zero))
+
+-- where the status is 0 by what is known then, and else by what is known always
+pub by_status : {D : Type 0} (Back : List D → Type 0) (AllBack : List D → Type 0) (status : ℕ) → ((doors : List D) × Back doors)
+    → (status ≡ 0 → (doors : List D) × Back doors × (status ≡ 0 → AllBack doors)) → (doors : List D) × Back doors × (status ≡ 0 → AllBack doors)
+by_status Back AllBack (suc n) any served = (any.0, any.1, λ e. absurd (omega (arith, e)))
+by_status Back AllBack zero any served = served refl
 
 -- what is put where a door failed has another status than 0
 pub not_zero : (told told' : Option (List ℕ)) (sunk sunk' status : ℕ) → IsPut PortFault told told' sunk sunk' status → status ≡ 0 → ⊥

@@ -1,2 +1,4 @@
 pub mod Serving
 pub mod Asked
+pub mod Journals
+pub mod Later

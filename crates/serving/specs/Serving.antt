@@ -11,7 +11,8 @@ use Rattle.plain_io.specs.Harbours.{Doors}
 use Rattle.plain_io.specs.Loads.{Told}
 use Rattle.plain_io.specs.Puts.{Appends, AppendsFront}
 use Rattle.workers.specs.Closing.{TakesAllBack}
-use Rattle.map_workers.specs.Seats.{newest_of, ServedRight}
+use Rattle.version_store.specs.Publishers.{places_from, IsOneOf}
+use Rattle.map_workers.specs.Seats.{newest_of, ServedRight, EachNumbered}
 use Rattle.commands.specs.declared.outcome.Outcome.{Outcome}
 use Rattle.commands.specs.declared.outcome.Outcome.TheVariants.{PortFault}
 use Rattle.commands.specs.Outcomes.{status_of, text_of}
@@ -20,9 +21,11 @@ use Rattle.commands.specs.Command.{Source, source_named, Check}
 use Rattle.commands.specs.MapFile.{Contents, files_of_map, IsMapFile}
 use Rattle.commands.specs.Answers.{AnswersCommand, MayHold}
 
--- what is asked for: the map of a source is served at a port by so many workers, and so many versions of it may be kept
+-- what is asked for: the map of a source is served at a port by so many workers, and so many versions of it may be kept; where a journal is
+-- named, each batch of edits is stored there before its version is published
 pub record ServeCommand : Type 0 where
   pub source : Source
+  pub journal : Option (List ℕ)
   pub port : ℕ
   pub workers : ℕ
   pub versions : ℕ
@@ -31,18 +34,29 @@ pub record ServeCommand : Type 0 where
 abbrev pub number_to : ℕ → List ℕ → Option ℕ
 number_to most word = elim (number_of (pos 1) (pos most) word) [ None ↦ None | Some z ↦ Some (unsigned_abs z) ]
 
--- the words after its name: the file of a map, a port, how many workers and how many versions, and what else its source names
-abbrev pub serve_command : List (List ℕ) → Option ServeCommand
-serve_command (map ∷ port ∷ workers ∷ versions ∷ words) =
+-- the file of a map and that of a journal, if there is one, a port, how many workers and how many versions, and what else its source names
+abbrev pub serve_named : List ℕ → Option (List ℕ) → List (List ℕ) → Option ServeCommand
+serve_named map journal (port ∷ workers ∷ versions ∷ words) =
     option_and_then (λ source. option_and_then (λ p. option_and_then (λ w.
-    option_map (λ v. record { source = source; port = p; workers = w; versions = v }) (number_to 64 versions))
+    option_map (λ v. record { source = source; journal = journal; port = p; workers = w; versions = v }) (number_to 64 versions))
     (number_to 16 workers)) (number_to 65535 port)) (source_named map words)
+serve_named map journal words = None
+
+-- the words after `serve`
+abbrev pub serve_command : List (List ℕ) → Option ServeCommand
+serve_command (map ∷ words) = serve_named map None words
 serve_command words = None
+
+-- the words after `keep`
+abbrev pub keep_command : List (List ℕ) → Option ServeCommand
+keep_command (map ∷ journal ∷ words) = serve_named map (Some journal) words
+keep_command words = None
 
 -- the command that the words are, or none
 unfoldable pub serve_words : List (List ℕ) → Option ServeCommand
 serve_words [] = None
-serve_words (name ∷ words) = if bytes_eq name (codes "serve") then serve_command words else None
+serve_words (name ∷ words) =
+    if bytes_eq name (codes "serve") then serve_command words else if bytes_eq name (codes "keep") then keep_command words else None
 
 -- the line that tells the port
 abbrev pub serving_text : ℕ → List ℕ
@@ -68,9 +82,6 @@ IsRefusal source told rose outcome = AnswersCommand (Check source) told rose out
 -- one of these outcomes is put whole
 abbrev pub PutsOne : (Outcome → Type 0) → Option (List ℕ) → Option (List ℕ) → ℕ → Type 0
 PutsOne Refusal old new status = (outcome : Outcome) × Refusal outcome × PutsWhole outcome old new status
-
-abbrev pub PutsRefusal : Source → (Which → List ℕ → Told) → (Which → Type 0) → Option (List ℕ) → Option (List ℕ) → ℕ → Type 0
-PutsRefusal source told rose = PutsOne (IsRefusal source told rose)
 
 -- ---- a put that failed
 
@@ -107,19 +118,28 @@ TakesEach n old new doors = (length doors ≡ n) × TakesAllBack old new doors
 -- given and came back, `told` tells of a door which links came and were handed back, and `limit` is the number of versions that there may
 -- be. As many doors as workers came back, and each is closed or has failed. The status is 0 exactly where each is closed and none has
 -- failed. There is one list of versions for all of them: those from the start, and then those that were published. There are no more of
--- them than there may be, and the map of each is a planar partition. Over this list each connection of each door is right, and each link
--- that came was handed back.
+-- them than there may be, and the map of each is a planar partition; each has a batch of edits. Each that was published has a publisher, which is
+-- one of the doors by its number, counted from 1 on. Over this list each connection of each door is right, each link that came was handed
+-- back, and the versions that its connections were told to have published are those of which the door is the publisher. `Kept` says of the
+-- batches what is kept of them.
 pub record ServesAll {D L : Type 0} (closed : D → Bool) (faults : D → ℕ) (told : D → Option (Connections L)) (link : OfLink.Ghosts L)
-    (Back : List D → Type 0) (workers limit : ℕ) (start : List BaseMap) (status : ℕ) : Type 0 where
+    (Back : List D → Type 0) (workers limit : ℕ) (start : List BaseMap) (Kept : List (List ℕ) → Type 0) (status : ℕ) : Type 0 where
   pub doors : List D
   pub back : Back doors
   pub number : length doors ≡ workers
   pub stopped : All (λ door. (closed door ≡ true) ⊎ (0 < faults door)) doors
   pub end : (status ≡ 0) ↔ All (λ door. (closed door ≡ true) × (faults door ≡ 0)) doors
   pub published : List BaseMap
+  pub batches : List (List ℕ)
+  pub publishers : List ℕ
+  pub with_batches : length batches ≡ length (start ++ published)
+  pub kept : Kept batches
+  pub with_publishers : length publishers ≡ length published
+  pub publishers_are : All (IsOneOf workers) publishers
   pub room : length (start ++ published) ≤ limit
   pub planar : All (λ m. IsPartition (base_segments m)) (start ++ published)
-  pub right : All (λ door. ServedRight link limit (start ++ published) (newest_of start) (told door)) doors
+  pub right : EachNumbered
+      (λ n door. ServedRight link limit (start ++ published) batches (newest_of start) (places_from (length start) n publishers) (told door)) 1 doors
 
 -- No doors could be given: none came back, and the port's fault alone is told.
 abbrev pub HasNoDoors : {D : Type 0} → (List D → Type 0) → Option (List ℕ) → Option (List ℕ) → Type 0

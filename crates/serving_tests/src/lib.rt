@@ -5,6 +5,8 @@
 #[cfg(test)]
 mod doors;
 #[cfg(test)]
+mod journals;
+#[cfg(test)]
 mod links;
 #[cfg(test)]
 mod rows;

@@ -36,11 +36,13 @@ good before now pin made batch p c e f = record {
 
 pub published_turn : (before now : Seen) (pin : Pin Version) (made : BaseMap) (batch : List ℕ) (close : Bool) (reply : List ℕ)
     → IsPin before.history pin → Continues before now → edited (arc_value pin.held).built batch ≡ Ok made → map_fault made ≡ None
-    → slice_get now.history (pin.number + 1) ≡ Some made → length before.history ≤ pin.number + 1 → pin.number + 1 < now.limit
+    → slice_get now.history (pin.number + 1) ≡ Some made → slice_get now.batches (pin.number + 1) ≡ Some batch
+    → length before.history ≤ pin.number + 1 → pin.number + 1 < now.limit
     → reply ≡ sent (pin.number + 1) close (plain 200 (line (numbered (codes "published") (pin.number + 1))))
     → IsTurned before now pin.number (pin.number + 1) (RouteAsked EditRoute batch) close (record { number = pin.number + 1; row = Published; reply = reply })
-published_turn before now pin made batch close reply p c e f there newest room is = record {
+published_turn before now pin made batch close reply p c e f there has newest room is = record {
   holds = λ known below. (made, good before now pin made batch p c e f, there, refl, omega arith, room);
+  batch = (batch, refl, has);
   answer = said 200 (numbered (codes "published") (pin.number + 1));
   answered = refl;
   reply = is;
@@ -56,6 +58,7 @@ stale_turn before now pin made batch close reply n p c e f above newest is =
     let longer = no_shorter before now c in
     record {
       holds = λ known below. (made, good before now pin made batch p c e f, above, record { there = omega arith; news = omega arith });
+      batch = tt;
       answer = said 409 (numbered (codes "stale") n);
       answered = refl;
       reply = is;
@@ -69,6 +72,7 @@ pub full_turn : (before now : Seen) (pin : Pin Version) (made : BaseMap) (batch 
     → IsTurned before now pin.number pin.number (RouteAsked EditRoute batch) close (record { number = n; row = Full; reply = reply })
 full_turn before now pin made batch close reply n p c e f limit next is = record {
   holds = λ known below. (made, good before now pin made batch p c e f, limit, next);
+  batch = tt;
   answer = said 507 (numbered (codes "versions full") n);
   answered = refl;
   reply = is;
@@ -81,6 +85,7 @@ pub unkept_turn : (before now : Seen) (pin : Pin Version) (made : BaseMap) (batc
     → IsTurned before now pin.number pin.number (RouteAsked EditRoute batch) close (record { number = pin.number; row = Unkept; reply = reply })
 unkept_turn before now pin made batch close reply p c e f is = record {
   holds = λ known below. (made, good before now pin made batch p c e f, refl);
+  batch = tt;
   answer = said 500 (codes "journal fault" ∷ []);
   answered = refl;
   reply = is;
@@ -93,6 +98,7 @@ pub keeper_full_turn : (before now : Seen) (pin : Pin Version) (made : BaseMap) 
     → IsTurned before now pin.number pin.number (RouteAsked EditRoute batch) close (record { number = pin.number; row = KeeperFull; reply = reply })
 keeper_full_turn before now pin made batch close reply p c e f is = record {
   holds = λ known below. (made, good before now pin made batch p c e f, refl);
+  batch = tt;
   answer = said 507 (numbered (codes "journal full") 67108864);
   answered = refl;
   reply = is;
@@ -148,6 +154,7 @@ refused_turn seen pin batch text close reply p is r =
     let e = refused_by seen pin batch text p is in
     record {
       holds = λ known below. (refl, some_is _ _ e);
+      batch = tt;
       answer = plain 422 text;
       answered = e;
       reply = r;

@@ -1,5 +1,5 @@
 -- How a connection ends.
-use Rattle.std.proofs.Common.{◌≡◌, ℕ, suc, ◌<◌, ◌==◌, ◌||◌, Bool, true, false, List, [], ◌∷◌, ◌++◌, length, flat_map, Option, Some, None, All, refl, sym, ap, ◌∙◌, arith, inl, inr, eq-eqb, if◌then◌else◌}
+use Rattle.std.proofs.Common.{◌≡◌, ℕ, suc, ◌<◌, ◌≤◌, ◌==◌, ◌||◌, Bool, true, false, List, [], ◌∷◌, ◌++◌, length, flat_map, Option, Some, None, All, refl, sym, ap, ◌∙◌, arith, inl, inr, eq-eqb, if◌then◌else◌}
 use Rattle.std.specs.List.{list_any}
 use Rattle.std.proofs.lemmas.List.Elements.{All-head, All-tail}
 use Rattle.std.proofs.lemmas.Bool.Decides.{nat_tests}
@@ -72,7 +72,7 @@ open_end true items rest written said ended e = e
 open_end false items rest written said ended e = e
 
 module _ (first count : ℕ) (before now : Seen) (taken a b told u : Option (List ℕ)) (pin : Pin Version) (held rest : List ℕ) (noted : Noted)
-    (p : Progress first before now taken a told u pin held noted count) (r : Received a b held rest) where
+    (p : Progress first before now taken a told u pin held noted count) (r : Received a b held rest) (room : length now.history ≤ now.limit) where
   -- what was read is the items, and what is held then
   open_split : p.read ++ r.0 ≡ flat_map item_bytes (items_of p.turns) ++ rest
   open_split = ap (λ xs. xs ++ r.0) p.split ∙ append_assoc (flat_map item_bytes (items_of p.turns)) held r.0
@@ -92,6 +92,7 @@ module _ (first count : ℕ) (before now : Seen) (taken a b told u : Option (Lis
     split = open_split;
     items = are_items rest (items_of p.turns) p.going;
     few = (let counted = p.counted in omega (arith, counted, below));
+    room = room;
     first = p.there;
     outcomes = p.outcomes;
     last = sym p.pin_is;
@@ -99,7 +100,8 @@ module _ (first count : ℕ) (before now : Seen) (taken a b told u : Option (Lis
     rows = p.rows;
     ends = ends;
     continues = p.continues;
-    published = p.published;
+    counts = p.counts;
+    batches = p.batches;
     tellings = p.tellings;
   }
 
@@ -120,9 +122,9 @@ module _ (first count : ℕ) (before now : Seen) (taken a b told u : Option (Lis
 
 -- as many requests were answered as there may be
 pub spent : (first count : ℕ) (before now : Seen) (taken a told u : Option (List ℕ)) (pin : Pin Version) (held : List ℕ) (noted : Noted) (ended : Bool)
-    → Progress first before now taken a told u pin held noted count → count ≡ MAX_REQUESTS
+    → Progress first before now taken a told u pin held noted count → length now.history ≤ now.limit → count ≡ MAX_REQUESTS
     → Conversation before now taken a told u ended (record { how = Spent; first = first; last = pin.number; numbers = noted.numbers; rows = noted.rows })
-spent first count before now taken a told u pin held noted ended p full =
+spent first count before now taken a told u pin held noted ended p room full =
     let items = items_of p.turns in
     let all : length items ≡ MAX_REQUESTS = mapped p.turns ∙ p.counted ∙ full in
     record {
@@ -135,6 +137,7 @@ spent first count before now taken a told u pin held noted ended p full =
       split = p.split;
       items = are_items held items p.going;
       few = (let counted = p.counted in omega (arith, counted, full));
+      room = room;
       first = p.there;
       outcomes = p.outcomes;
       last = sym p.pin_is;
@@ -149,6 +152,7 @@ spent first count before now taken a told u pin held noted ended p full =
             else if ended then Some (if is_empty held then Closed else CutShort) else None) (eq-eqb (length items) MAX_REQUESTS all));
       };
       continues = p.continues;
-      published = p.published;
+      counts = p.counts;
+      batches = p.batches;
       tellings = p.tellings;
     }

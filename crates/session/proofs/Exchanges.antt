@@ -1,5 +1,5 @@
 -- What becomes of an item, as it is noted and put.
-use Rattle.std.proofs.Common.{◌≡◌, ℕ, ◌+◌, ◌-◌, ◌^◌, ◌≤◌, ◌==◌, min, Bool, true, false, List, [], ◌∷◌, ◌++◌, Option, Result, Ok, Err, IfOk, OnErr, refl, sym, ap, ◌∙◌, subst, arith, codes, add-zero, if◌then◌else◌}
+use Rattle.std.proofs.Common.{◌≡◌, ℕ, ◌+◌, ◌-◌, ◌^◌, ◌≤◌, ◌==◌, min, Bool, true, false, List, [], ◌∷◌, ◌++◌, Option, Result, Ok, Err, IfOk, OnErr, refl, sym, ap, ◌∙◌, subst, arith, codes, if◌then◌else◌}
 use Rattle.std.proofs.lemmas.List.{append-nil}
 use Rattle.std.proofs.lemmas.Bool.Decides.{nat_tests}
 use Rattle.tgap_model.specs.declared.failure.Memory.{Memory}
@@ -14,8 +14,9 @@ use Rattle.session.specs.Items.{Item, Asked, IsItem, item_bytes, is_closing, is_
 use Rattle.session.specs.Answers.{said}
 use Rattle.session.specs.Outcomes.{place_of}
 use Rattle.session.specs.Versions.{Seen, Continues, IsPin}
-use Rattle.session.specs.Turns.{IsTurned, CountsPublished, CountsTold, settled, publishes}
+use Rattle.session.specs.Turns.{IsTurned, CountsRow, CountsTurn, CountsTold, settled}
 use Rattle.session.specs.Progress.{Exchange, Noted, ToldEnough}
+use Rattle.session.proofs.Counting.{counts_none, counts_quiet, same_counts}
 
 -- without memory the reply says so
 settled_turn : (before now : Seen) (pin pin' : ℕ) (asked : Asked) (close : Bool) (r : Result Turned Memory)
@@ -23,16 +24,17 @@ settled_turn : (before now : Seen) (pin pin' : ℕ) (asked : Asked) (close : Boo
 settled_turn before now pin pin' asked close (Ok t) p e = p
 settled_turn before now pin pin' asked close (Err m) p e = record {
   holds = λ known below. e;
+  batch = tt;
   answer = said 503 (codes "memory" ∷ []);
   answered = refl;
   reply = refl;
   moved = e;
 }
 
-settled_count : (before now : Seen) (pin : ℕ) (close : Bool) (r : Result Turned Memory) → CountsPublished before now r
-    → now.published ≡ before.published + publishes (settled pin close r).row
-settled_count before now pin close (Ok t) p = p
-settled_count before now pin close (Err m) p = p ∙ omega arith
+settled_count : (before now : Seen) (pin : ℕ) (close : Bool) (r : Result Turned Memory) → CountsTurn before now r
+    → CountsRow (settled pin close r).row (settled pin close r).number before now
+settled_count before now pin close (Ok t) counts = counts
+settled_count before now pin close (Err m) same = counts_none NoMemory pin before now refl refl refl refl same
 
 -- one number that was told
 told_number : (a b m n : ℕ) (is : Bool) → is ≡ (m == n) → a ≤ b → (m ≡ n → Rose a b) → min (a + (0 + (if is then 1 else 0))) (2 ^ 64 - 1) ≤ b
@@ -68,9 +70,9 @@ pub exchange_of : (before now : Seen) (pin pin' : Pin Version) (held held' : Lis
     → Puts told told' (settled pin'.number final r).reply put
     → noted'.numbers ≡ noted.numbers ++ (settled pin'.number final r).number ∷ []
     → noted'.rows ≡ noted.rows ++ place_of (settled pin'.number final r).row ∷ []
-    → IsPin now.history pin' → Continues before now → CountsPublished before now r → CountsTold before now r
+    → IsPin now.history pin' → Continues before now → CountsTurn before now r → CountsTold before now r
     → Exchange before now pin pin' held held' noted noted' told told' (is_fault item) (is_closing item) final put
-exchange_of before now pin pin' held held' noted noted' told told' item final r put bytes is turned kept puts numbers rows holds goes published behind = record {
+exchange_of before now pin pin' held held' noted noted' told told' item final r put bytes is turned kept puts numbers rows holds goes counts behind = record {
   item = item;
   turned = settled pin'.number final r;
   bytes = bytes;
@@ -83,7 +85,7 @@ exchange_of before now pin pin' held held' noted noted' told told' item final r 
   rows = rows;
   holds = holds;
   continues = goes;
-  published = settled_count before now pin'.number final r published;
+  counts = settled_count before now pin'.number final r counts;
   tellings = settled_told before now pin'.number final item r goes behind;
 }
 
@@ -98,11 +100,16 @@ kept_nothing pin (Ok t) = tt
 kept_nothing pin (Err m) = refl
 
 pub goes_nowhere : (seen : Seen) → Continues seen seen
-goes_nowhere seen = record { history = ([], sym (append-nil seen.history)); limit = refl; tellings = λ n. omega arith }
+goes_nowhere seen = record {
+  seat = refl;
+  history = ([], sym (append-nil seen.history));
+  batches = ([], sym (append-nil seen.batches));
+  limit = refl;
+  tellings = λ n. omega arith;
+}
 
-pub reads_nothing : (seen : Seen) (r : Result Turned Memory) → IfOk r (λ t. t.row ≡ Read) → CountsPublished seen seen r
-reads_nothing seen (Ok t) e = sym (ap (λ row. seen.published + publishes row) e ∙ add-zero seen.published)
-reads_nothing seen (Err m) e = refl
+pub reads_nothing : (seen : Seen) (r : Result Turned Memory) → IfOk r (λ t. t.row ≡ Read) → CountsTurn seen seen r
+reads_nothing seen r e = counts_quiet seen seen Read r e refl (λ n. refl) refl refl (same_counts seen)
 
 pub tells_nothing : (seen : Seen) (r : Result Turned Memory) → IfOk r (λ t. t.row ≡ Read) → CountsTold seen seen r
 tells_nothing seen (Ok t) e = λ behind. (let f : Read ≡ Behind = sym e ∙ behind in cc)

@@ -65,6 +65,7 @@ read_turn seen pin asked body close answer reply p is r =
     ap (option_and_then (λ m. read_answer pin.number m (RouteAsked asked body))) p.there ∙ is in
     record {
       holds = λ known below. (refl, some_is _ _ e);
+      batch = tt;
       answer = answer;
       answered = e;
       reply = r;

@@ -1,5 +1,5 @@
 -- A connection that ends with an item.
-use Rattle.std.proofs.Common.{◌≡◌, ◌<◌, ℕ, suc, ◌+◌, ◌==◌, ◌||◌, Bool, true, false, List, [], ◌∷◌, ◌++◌, length, flat_map, take, Option, Some, None, Result, Ok, Err, All, refl, sym, ap, ◌∙◌, subst, arith, inl, inr, length-append, zero-add, add_assoc, eq-eqb, if◌then◌else◌}
+use Rattle.std.proofs.Common.{◌≡◌, ◌<◌, ◌≤◌, ℕ, suc, ◌+◌, ◌==◌, ◌||◌, Bool, true, false, List, [], ◌∷◌, ◌++◌, length, flat_map, take, Option, Some, None, Result, Ok, Err, All, refl, sym, ap, ◌∙◌, subst, arith, inl, inr, length-append, zero-add, eq-eqb, if◌then◌else◌}
 use Rattle.std.specs.List.{list_any}
 use Rattle.std.proofs.Math.Seq.{take-append-add}
 use Rattle.std.proofs.lemmas.List.Elements.{All-head, All-tail}
@@ -16,11 +16,11 @@ use Rattle.session.specs.Reading.{Follows, Received}
 use Rattle.session.specs.Items.{Item, IsItem, AreItems, item_bytes, is_closing, is_fault, asked_of}
 use Rattle.session.specs.Outcomes.{Turn, starting, standing, next, pin_after, Holds, answer_of, Outcomes, replies, reply_in, sent, is_final, place_of}
 use Rattle.session.specs.Versions.{Seen}
-use Rattle.session.specs.Turns.{publishes}
-use Rattle.session.specs.Progress.{Progress, Exchange, Noted, IsGoing, items_of, published_count}
+use Rattle.session.specs.Progress.{Progress, Exchange, Noted, IsGoing, items_of}
 use Rattle.session.specs.Conversation.{Conversation, EndsBy, EndsWell, is_empty}
 use Rattle.session.proofs.Kept.{no_shorter}
-use Rattle.session.proofs.Talks.{outcomes_longer, replies_longer, standing_more, outcomes_more, replies_more, sum_more, map_more}
+use Rattle.session.proofs.Talks.{outcomes_longer, replies_longer, standing_more, outcomes_more, replies_more, map_more}
+use Rattle.session.proofs.Counting.{counts_more, batches_more}
 use Rattle.session.proofs.Progressing.{follows_more, continues_more, split_more, stands, told_more, reply_is}
 use Rattle.session.proofs.Endings.{going_open, going_is, none_fault, mapped}
 use Rattle.std.proofs.lemmas.Grind.{common_steps}
@@ -38,10 +38,10 @@ pub last_conversation : (first : ℕ) (before mid now : Seen) (taken a b told u 
     (held got rest : List ℕ) (noted noted' : Noted) (count : ℕ) (faulty closing final : Bool) {T E : Type 0} (put : Result T E)
     → (p : Progress first before mid taken a told u pin held noted count) → Received a b held got
     → (e : Exchange mid now pin pin' got rest noted noted' u v faulty closing final put) → final ≡ is_final (suc count) e.item
-    → count < MAX_REQUESTS → (out : List ℕ) → Follows u v out → (how : EndKind) (ended : Bool)
+    → count < MAX_REQUESTS → length now.history ≤ now.limit → (out : List ℕ) → Follows u v out → (how : EndKind) (ended : Bool)
     → EndsBy how (items_of p.turns ++ e.item ∷ []) rest (p.written ++ out) (p.written ++ e.turned.reply) ended
     → Conversation before now taken b told v ended (record { how = how; first = first; last = pin'.number; numbers = noted'.numbers; rows = noted'.rows })
-last_conversation first before mid now taken a b told u v pin pin' held got rest noted noted' count faulty closing final put p r e fin below out puts how ended ends =
+last_conversation first before mid now taken a b told u v pin pin' held got rest noted noted' count faulty closing final put p r e fin below room out puts how ended ends =
     let s = starting first in
     let t : Turn = record { item = e.item; number = e.turned.number; row = e.turned.row } in
     let stood = standing s p.turns in
@@ -79,6 +79,7 @@ last_conversation first before mid now taken a b told u v pin pin' held got rest
       split = split_more (items_of p.turns) e.item p.read r.0 held got rest p.split r.2 e.bytes ∙ ap (λ is. flat_map item_bytes is ++ rest) items;
       items = subst A items (items_more rest (items_of p.turns) e.item p.going e.item_is);
       few = simp length-append (omega (arith, p.counted, below));
+      room = room;
       first = (let y = no_shorter mid now e.continues in let z = p.there in omega arith);
       outcomes = outcomes_more now.limit now.history s p.turns t old holds;
       last = sym (ap (λ z. z.pin) (standing_more s p.turns t) ∙ moved);
@@ -86,8 +87,8 @@ last_conversation first before mid now taken a b told u v pin pin' held got rest
       rows = e.rows ∙ ap (λ xs. xs ++ place_of t.row ∷ []) p.rows ∙ sym (map_more (λ t. place_of t.row) p.turns t);
       ends = subst W whole (subst D items ends);
       continues = continues_more before mid now p.continues e.continues;
-      published = e.published ∙ ap (λ n. n + publishes t.row) p.published ∙ add_assoc before.published (published_count p.turns) (publishes t.row)
-          ∙ ap (λ n. before.published + n) (sym (sum_more (λ t. publishes t.row) p.turns t));
+      counts = counts_more before mid now p.turns t p.counts e.counts;
+      batches = batches_more mid now p.turns t e.continues p.batches e.turned_is.batch;
       tellings = told_more before mid now p.turns t p.tellings e.tellings;
     }
 

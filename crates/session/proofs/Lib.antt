@@ -5,6 +5,7 @@ pub mod Later
 pub mod Edits
 pub mod Steps
 pub mod Talks
+pub mod Counting
 pub mod Progressing
 pub mod Endings
 pub mod Exchanges

@@ -1,5 +1,5 @@
 -- A connection comes further by one item.
-use Rattle.std.proofs.Common.{◌≡◌, ℕ, suc, ◌+◌, ◌<◌, Bool, false, List, [], ◌∷◌, ◌++◌, length, flat_map, Option, Some, None, IfSome, Result, Ok, All, sym, ap, ◌∙◌, subst, arith, append_assoc, add_assoc, zero-add, length-append}
+use Rattle.std.proofs.Common.{◌≡◌, ℕ, suc, ◌+◌, ◌<◌, Bool, false, List, [], ◌∷◌, ◌++◌, length, flat_map, Option, Some, None, IfSome, Result, Ok, All, sym, ap, ◌∙◌, subst, arith, append_assoc, zero-add, length-append}
 use Rattle.std.proofs.lemmas.List.{append-nil}
 use Rattle.std.proofs.lemmas.List.Elements.{All-push}
 use Rattle.std.proofs.lemmas.Grind.{flat_map-append}
@@ -12,10 +12,10 @@ use Rattle.session.specs.Reading.{Follows, Received}
 use Rattle.session.specs.Items.{Item, Request, Fault, IsItem, Asked, asked_of, item_bytes, is_closing}
 use Rattle.session.specs.Outcomes.{Turn, Standing, starting, standing, next, pin_after, Holds, answer_of, Outcomes, replies, reply_in, sent, is_final, place_of}
 use Rattle.session.specs.Versions.{Seen, Continues}
-use Rattle.session.specs.Turns.{publishes}
-use Rattle.session.specs.Progress.{Progress, Exchange, Noted, IsGoing, items_of, published_count, tells_behind, ToldEnough}
+use Rattle.session.specs.Progress.{Progress, Exchange, Noted, IsGoing, items_of, tells_behind, ToldEnough}
 use Rattle.session.proofs.Kept.{no_shorter}
-use Rattle.session.proofs.Talks.{known_within, outcomes_longer, replies_longer, standing_more, outcomes_more, replies_more, count_more, sum_more, map_more}
+use Rattle.session.proofs.Talks.{known_within, outcomes_longer, replies_longer, standing_more, outcomes_more, replies_more, count_more, map_more}
+use Rattle.session.proofs.Counting.{counts_more, batches_more}
 
 -- what came in or went out once, and then again
 pub follows_more : (a b c : Option (List ℕ)) (x y : List ℕ) → Follows a b x → Follows b c y → Follows a c (x ++ y)
@@ -32,7 +32,9 @@ going_item rest (Fault status) is going = cc
 -- the list goes on, and then goes on
 pub continues_more : (a b c : Seen) → Continues a b → Continues b c → Continues a c
 continues_more a b c p q = record {
+  seat = q.seat ∙ p.seat;
   history = (p.history.0 ++ q.history.0, q.history.1 ∙ ap (λ h. h ++ q.history.0) p.history.1 ∙ append_assoc a.history p.history.0 q.history.0);
+  batches = (p.batches.0 ++ q.batches.0, q.batches.1 ∙ ap (λ h. h ++ q.batches.0) p.batches.1 ∙ append_assoc a.batches p.batches.0 q.batches.0);
   limit = q.limit ∙ p.limit;
   tellings = λ n. (let x = p.tellings n in let y = q.tellings n in omega arith);
 }
@@ -120,7 +122,7 @@ progress_more first before mid now taken a b told u v pin pin' held got rest not
       rows = e.rows ∙ ap (λ xs. xs ++ place_of t.row ∷ []) p.rows ∙ sym (map_more (λ t. place_of t.row) p.turns t);
       holds = e.holds;
       continues = continues_more before mid now p.continues e.continues;
-      published = e.published ∙ ap (λ n. n + publishes t.row) p.published ∙ add_assoc before.published (published_count p.turns) (publishes t.row)
-          ∙ ap (λ n. before.published + n) (sym (sum_more (λ t. publishes t.row) p.turns t));
+      counts = counts_more before mid now p.turns t p.counts e.counts;
+      batches = batches_more mid now p.turns t e.continues p.batches e.turned_is.batch;
       tellings = told_more before mid now p.turns t p.tellings e.tellings;
     }

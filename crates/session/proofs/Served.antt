@@ -1,5 +1,5 @@
 -- The beginning of a connection, and its steps as the loop makes them.
-use Rattle.std.proofs.Common.{◌≡◌, ℕ, suc, ◌+◌, ◌<◌, ◌==◌, ◌||◌, Bool, true, false, List, [], Option, Some, None, refl, sym, ap, ◌∙◌, subst, arith, add-zero, add-one, if◌then◌else◌}
+use Rattle.std.proofs.Common.{◌≡◌, ℕ, suc, ◌+◌, ◌<◌, ◌≤◌, ◌==◌, ◌||◌, Bool, true, false, List, [], length, Option, Some, None, refl, sym, ap, ◌∙◌, subst, arith, add-one, if◌then◌else◌}
 use Rattle.std.proofs.lemmas.List.{append-nil}
 use Rattle.std.proofs.lemmas.List.Elements.{All-nil}
 use Rattle.std.proofs.lemmas.Option.{slice_get_within}
@@ -9,11 +9,13 @@ use Rattle.session.specs.declared.serve.TheConstants.{MAX_REQUESTS}
 use Rattle.version_store.specs.declared.pin.Pin.{Pin}
 use Rattle.map_version.specs.declared.version.Version.{Version}
 use Rattle.session.specs.Reading.{Follows, Received}
-use Rattle.session.specs.Items.{IsPart}
+use Rattle.session.specs.Items.{IsPart, asked_of}
 use Rattle.session.specs.Outcomes.{is_final}
 use Rattle.session.specs.Versions.{Seen, IsPin}
+use Rattle.session.specs.Turns.{HasBatch}
 use Rattle.session.specs.Progress.{Progress, Exchange, Noted, IsGoing}
 use Rattle.session.specs.Conversation.{Conversation, is_empty}
+use Rattle.session.proofs.Counting.{counts_nothing}
 use Rattle.session.proofs.Progressing.{progress_more, put_of}
 use Rattle.session.proofs.Exchanges.{goes_nowhere}
 use Rattle.session.proofs.Endings.{at_end, at_failure}
@@ -44,7 +46,8 @@ begun now taken told pin held noted p h n r = record {
   rows = r;
   holds = p;
   continues = goes_nowhere now;
-  published = sym (add-zero now.published);
+  counts = counts_nothing now;
+  batches = All-nil (λ t. HasBatch now.batches t.row t.number (asked_of t.item));
   tellings = λ n. omega arith;
 }
 
@@ -72,7 +75,7 @@ goes_on first before mid now taken a b told u w v pin pin' held got rest noted n
 
 module _ (first count : ℕ) (before now : Seen) (taken a b told u w : Option (List ℕ)) (pin : Pin Version) (held rest : List ℕ) (noted : Noted)
     (p : Progress first before now taken a told u pin held noted count) (r : Received a b held rest) (same : w ≡ u) (ended : Bool) (how : EndKind)
-    (below : count < MAX_REQUESTS) (part : IsPart rest) where
+    (below : count < MAX_REQUESTS) (room : length now.history ≤ now.limit) (part : IsPart rest) where
   abbrev Ends : Option (List ℕ) → Bool → EndKind → Type 0
   Ends v e h = Conversation before now taken b told v e (record { how = h; first = first; last = pin.number; numbers = noted.numbers; rows = noted.rows })
 
@@ -82,11 +85,11 @@ module _ (first count : ℕ) (before now : Seen) (taken a b told u w : Option (L
       let V : Option (List ℕ) → Type 0 = λ v. Ends v true (if is_empty rest then Closed else CutShort) in
       let D : Bool → Type 0 = λ d. Ends w d (if is_empty rest then Closed else CutShort) in
       let H : EndKind → Type 0 = λ k. Ends w ended k in
-      subst H (sym h) (subst D (sym e) (subst V (sym same) (at_end first count before now taken a b told u pin held rest noted p r below part)))
+      subst H (sym h) (subst D (sym e) (subst V (sym same) (at_end first count before now taken a b told u pin held rest noted p r room below part)))
 
   -- the input failed
   pub fails_open : ended ≡ false → Ends w ended ReadFault
   fails_open e =
       let V : Option (List ℕ) → Type 0 = λ v. Ends v false ReadFault in
       let D : Bool → Type 0 = λ d. Ends w d ReadFault in
-      subst D (sym e) (subst V (sym same) (at_failure first count before now taken a b told u pin held rest noted p r below part))
+      subst D (sym e) (subst V (sym same) (at_failure first count before now taken a b told u pin held rest noted p r room below part))

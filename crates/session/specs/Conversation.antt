@@ -8,8 +8,8 @@ use Rattle.session.specs.declared.serve.TheConstants.{MAX_REQUESTS}
 use Rattle.session.specs.Reading.{Follows}
 use Rattle.session.specs.Items.{Item, AreItems, IsPart, item_bytes, is_closing, is_fault}
 use Rattle.session.specs.Outcomes.{Turn, starting, standing, Outcomes, replies}
-use Rattle.session.specs.Versions.{Seen, Continues}
-use Rattle.session.specs.Progress.{items_of, numbers_of, places_of, published_count, ToldEnough}
+use Rattle.session.specs.Versions.{Seen, Continues, SameCounts}
+use Rattle.session.specs.Progress.{items_of, numbers_of, places_of, CountsTurns, HaveBatches, ToldEnough}
 
 -- no byte of a further request came
 abbrev pub is_empty : List ℕ → Bool
@@ -40,7 +40,8 @@ EndsBy WriteFault items rest written replies ended = (n : ℕ) × (written ≡ t
 EndsBy how items rest written replies ended = EndsWell how items rest written replies ended
 
 -- What was read is these items and a rest, each item has an outcome over the list as it is at the end, and the replies to them were
--- written. There are no more items than one connection may have.
+-- written. There are no more items than one connection may have, and no more versions than there may be. The seat counts the versions that
+-- were published, which have the batches that were asked for, and those that its press's keeper refused.
 pub record Conversation
     (before now : Seen) (taken taken' told told' : Option (List ℕ)) (ended : Bool) (end : ConnectionEnd) : Type 0 where
   pub turns : List Turn
@@ -52,6 +53,7 @@ pub record Conversation
   pub split : read ≡ flat_map item_bytes (items_of turns) ++ rest
   pub items : AreItems rest (items_of turns)
   pub few : length turns ≤ MAX_REQUESTS
+  pub room : length now.history ≤ now.limit
   pub first : end.first < length now.history
   pub outcomes : Outcomes now.limit now.history (starting end.first) turns
   pub last : end.last ≡ (standing (starting end.first) turns).pin
@@ -59,7 +61,8 @@ pub record Conversation
   pub rows : end.rows ≡ places_of turns
   pub ends : EndsBy end.how (items_of turns) rest written (replies now.history (starting end.first) 0 turns) ended
   pub continues : Continues before now
-  pub published : now.published ≡ before.published + published_count turns
+  pub counts : CountsTurns before now turns
+  pub batches : HaveBatches now.batches turns
   pub tellings : ToldEnough before now turns
 
 -- There was no memory to begin with: nothing was read or written, nothing was handled, and no version was published.
@@ -72,7 +75,7 @@ pub record IsUnserved (before now : Seen) (taken taken' told told' : Option (Lis
   pub numbers : end.numbers ≡ []
   pub rows : end.rows ≡ []
   pub continues : Continues before now
-  pub published : now.published ≡ before.published
+  pub counts : SameCounts before now
 
 -- What is told of a connection by its end: it was served, from a version on that is no older than those seen before; or it was not.
 abbrev pub IsConnection : Seen → Seen → Option (List ℕ) → Option (List ℕ) → Option (List ℕ) → Option (List ℕ) → Bool → ConnectionEnd → Type 0

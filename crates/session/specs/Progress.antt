@@ -11,7 +11,7 @@ use Rattle.session.specs.Reading.{Follows}
 use Rattle.session.specs.Items.{Item, Request, Fault, IsRequest, IsItem, item_bytes, is_closing, is_fault, asked_of}
 use Rattle.session.specs.Outcomes.{Turn, starting, standing, place_of, Outcomes, replies}
 use Rattle.session.specs.Versions.{Seen, Continues, IsPin}
-use Rattle.session.specs.Turns.{IsTurned, publishes}
+use Rattle.session.specs.Turns.{HasBatch, IsTurned, publishes, number_published, is_unkept, is_keeper_full, CountsRow}
 
 -- the items that were handled
 abbrev pub items_of : List Turn → List Item
@@ -40,6 +40,28 @@ tells_behind n t = is_behind t.row && (t.number == n)
 -- how many versions were published
 abbrev pub published_count : List Turn → ℕ
 published_count turns = sum_by (λ t. publishes t.row) turns
+
+-- their numbers, in order
+abbrev pub published_numbers : List Turn → List ℕ
+published_numbers turns = flat_map (λ t. number_published t.row t.number) turns
+
+-- how many edits were not published, since the keeper failed to keep their batches, and how many, since it had no room for them
+abbrev pub unkept_count : List Turn → ℕ
+unkept_count turns = count_by (λ t. is_unkept t.row) turns
+
+abbrev pub keeper_full_count : List Turn → ℕ
+keeper_full_count turns = count_by (λ t. is_keeper_full t.row) turns
+
+-- The counts after some items. Those of what the keeper refused stay where they stand at their type's end.
+pub record CountsTurns (before now : Seen) (turns : List Turn) : Type 0 where
+  pub published : now.published ≡ before.published + published_count turns
+  pub numbers : now.numbers ≡ before.numbers ++ published_numbers turns
+  pub unkept : min now.unkept (2 ^ 64 - 1) ≡ min (before.unkept + unkept_count turns) (2 ^ 64 - 1)
+  pub keeper_full : min now.keeper_full (2 ^ 64 - 1) ≡ min (before.keeper_full + keeper_full_count turns) (2 ^ 64 - 1)
+
+-- the batch of each version that was published is the body of its request
+abbrev pub HaveBatches : List (List ℕ) → List Turn → Type 0
+HaveBatches batches turns = All (λ t. HasBatch batches t.row t.number (asked_of t.item)) turns
 
 -- each count of tellings rose at least by the replies that name the number; one that stands at its type's end says no more
 abbrev pub ToldEnough : Seen → Seen → List Turn → Type 0
@@ -71,7 +93,8 @@ pub record Progress
   pub rows : noted.rows ≡ places_of turns
   pub holds : IsPin now.history pin
   pub continues : Continues before now
-  pub published : now.published ≡ before.published + published_count turns
+  pub counts : CountsTurns before now turns
+  pub batches : HaveBatches now.batches turns
   pub tellings : ToldEnough before now turns
 
 -- an item was handled: what became of it is noted, and the reply was put
@@ -90,5 +113,5 @@ pub record Exchange
   pub rows : noted'.rows ≡ noted.rows ++ place_of turned.row ∷ []
   pub holds : IsPin now.history pin'
   pub continues : Continues before now
-  pub published : now.published ≡ before.published + publishes turned.row
+  pub counts : CountsRow turned.row turned.number before now
   pub tellings : ToldEnough before now (record { item = item; number = turned.number; row = turned.row } ∷ [])

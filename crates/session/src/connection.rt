@@ -17,7 +17,7 @@ use plain_io::{ConnectionEnd, EndKind, Link};
 use std::alloc::Global;
 use std::sync::{Mutex, Wait};
 use std::thread::Threads;
-use tgap_model::{List, NoKeeper};
+use tgap_model::{Keep, List};
 use version_store::{Press, Seat, StoreName};
 
 /// The end of a connection that had no memory to begin with.
@@ -81,17 +81,18 @@ fn converse<R: Threads + Wait + Sync, L: Link, P, V: Versions<P>>(
 /// applied and checked, to see whether it would be stale or there is no room for it, and again to publish the version
 /// that was built in between. There it stays locked while the press's keeper keeps the batch: another connection's edit
 /// or such a `/pin/{seen}` waits as long, and a plain pin does not.
-pub fn serve_connection<L: Link, N: StoreName, R: Threads + Wait + Sync>(
+pub fn serve_connection<L: Link, N: StoreName, K: Keep, R: Threads + Wait + Sync>(
     rt: &R,
     alloc: Global,
     link: &mut L,
     seat: &mut Seat<Version, N>,
-    press: &Mutex<Press<Version, N, NoKeeper>>,
+    press: &Mutex<Press<Version, N, K>>,
 ) -> ConnectionEnd
     requires { L.ended link.old ≡ false }
     // Each request has an outcome over the versions that the seat has seen at the end, the replies to them were
     // written, and how the connection ended follows from what was read; or there was no memory to begin with. The seat
-    // has seen all that it had seen before.
+    // has seen all that it had seen before, and no more versions than there may be. It counts the versions that were
+    // published here, each with the batch of its request, and those that the keeper refused.
     ensures connection { IsConnection (seen_of seat.old) (seen_of seat.new) (L.taken link.old) (L.taken link.new)
         (L.told link.old) (L.told link.new) (L.ended link.new) result }
     // A fault is told only where the link has failed in this call.
@@ -106,19 +107,20 @@ pub fn serve_connection<L: Link, N: StoreName, R: Threads + Wait + Sync>(
 /// of routes are taken at the desk's first connection and stay there; the two lists of 10,000 entries are taken for
 /// each. Where that memory is wanting, the end is `Memory`, and the next connection tries again. What was asked for at
 /// this desk before, in the same version, is answered by the bytes of the reply that was made then.
-pub fn serve_connection_at<L: Link, N: StoreName, R: Threads + Wait + Sync>(
+pub fn serve_connection_at<L: Link, N: StoreName, K: Keep, R: Threads + Wait + Sync>(
     rt: &R,
     alloc: Global,
     link: &mut L,
     seat: &mut Seat<Version, N>,
-    press: &Mutex<Press<Version, N, NoKeeper>>,
+    press: &Mutex<Press<Version, N, K>>,
     desk: &mut Desk,
 ) -> ConnectionEnd
     requires open { L.ended link.old ≡ false }
     requires desk { IsDeskOf (seen_of seat.old) desk.old }
     // Each request has an outcome over the versions that the seat has seen at the end, the replies to them were
     // written, and how the connection ended follows from what was read; or there was no memory to begin with. The seat
-    // has seen all that it had seen before.
+    // has seen all that it had seen before, and no more versions than there may be. It counts the versions that were
+    // published here, each with the batch of its request, and those that the keeper refused.
     ensures connection { IsConnection (seen_of seat.old) (seen_of seat.new) (L.taken link.old) (L.taken link.new)
         (L.told link.old) (L.told link.new) (L.ended link.new) result }
     // A fault is told only where the link has failed in this call.

@@ -1,21 +1,24 @@
 //! A batch of edits.
 
-ghost use Rattle.std.specs.Prelude.{◌≡◌, ◌<◌, ◌+◌, ℕ, List, IfOk, OnErr, Ok, None};
+ghost use Rattle.std.specs.Prelude.{◌≡◌, ◌<◌, ◌+◌, [], ◌∷◌, IfOk, OnErr, Ok, None, codes};
 ghost use Rattle.std.specs.Arc.{arc_value};
 ghost use Rattle.line_forms.specs.Texts.{line};
 ghost use Rattle.edit_laws.specs.Edits.{edited};
 ghost use Rattle.tgap_model.specs.Partition.{map_fault};
 ghost use Rattle.http_face.specs.declared.request.Route.TheVariants.{Edit as EditRoute};
-ghost use Rattle.session.specs.Answers.{IsAnswer, plain, edit_fault_words};
+ghost use Rattle.session.specs.Answers.{IsAnswer, plain, said, numbered, edit_fault_words};
 ghost use Rattle.session.specs.Outcomes.{sent};
 ghost use Rattle.session.specs.Items.{Route as RouteAsked};
 ghost use Rattle.session.specs.Versions.{Continues, IsPin};
-ghost use Rattle.session.specs.Turns.{IsTurned, CountsPublished, CountsTold, IsCommitRefused};
+ghost use Rattle.session.specs.Turns.{IsTurned, CountsTurn, CountsTold, IsCommitRefused, IsNeverLost, AreReplies};
+ghost use Rattle.version_store.specs.Keepers.{ComesOfList};
+ghost use Rattle.version_store.specs.declared.press.fail.PublishFail.TheVariants.{Stale as StaleFail, VersionsFull as FullFail};
 ghost use Rattle.session.specs.declared.row.Row.TheVariants.{Refused as RowRefused};
 ghost use Rattle.line_forms.specs.Texts.{fault_text};
 
 use crate::answer::{line, numbered_line, plain, sent};
 use crate::row::Row;
+use crate::sending::Sending;
 use crate::turn::Turned;
 use crate::versions::Versions;
 use map_version::{EditFault, RebuildFail, Version, revised, successor};
@@ -59,33 +62,43 @@ fn refused(
     })
 }
 
-/// The reply to an edit that is not published; the version that is pinned stays.
+/// The reply to an edit of a version that is no longer the newest; the version that is pinned stays.
+fn refuse_stale(
+    alloc: Global,
+    pin: &Pin<Version>,
+    newest: u64,
+    close: bool,
+) -> Result<Turned, Memory>
+    ensures { IfOk result (IsCommitRefused pin.now.number close (StaleFail newest)) }
+{
+    let body = numbered_line(alloc, b"stale", newest)?;
+    refused(alloc, pin, newest, Row::Stale, 409, body, close)
+}
+
+/// The reply to an edit for which there is no room among the versions; the version that is pinned stays.
+fn refuse_full(alloc: Global, pin: &Pin<Version>, limit: u64, close: bool) -> Result<Turned, Memory>
+    ensures { IfOk result (IsCommitRefused pin.now.number close (FullFail limit)) }
+{
+    let body = numbered_line(alloc, b"versions full", limit)?;
+    refused(alloc, pin, limit, Row::Full, 507, body, close)
+}
+
+/// The reply to an edit that the list of versions refuses.
 fn refuse_commit(
     alloc: Global,
     pin: &Pin<Version>,
     fail: PublishFail,
     close: bool,
 ) -> Result<Turned, Memory>
+    requires { ComesOfList fail }
     ensures { IfOk result (IsCommitRefused pin.now.number close fail) }
 {
     match fail {
-        PublishFail::Stale { newest } => {
-            let body = numbered_line(alloc, b"stale", newest)?;
-            refused(alloc, pin, newest, Row::Stale, 409, body, close)
+        PublishFail::Stale { newest } => refuse_stale(alloc, pin, newest, close),
+        PublishFail::VersionsFull { limit } => refuse_full(alloc, pin, limit, close),
+        PublishFail::Unkept | PublishFail::KeeperFull { .. } | PublishFail::Memory => {
+            unreachable!()
         }
-        PublishFail::VersionsFull { limit } => {
-            let body = numbered_line(alloc, b"versions full", limit)?;
-            refused(alloc, pin, limit, Row::Full, 507, body, close)
-        }
-        PublishFail::Unkept => {
-            let body = line(alloc, b"journal fault")?;
-            refused(alloc, pin, pin.number, Row::Unkept, 500, body, close)
-        }
-        PublishFail::KeeperFull { .. } => {
-            let body = numbered_line(alloc, b"journal full", MAX_TEXT_BYTES)?;
-            refused(alloc, pin, pin.number, Row::KeeperFull, 507, body, close)
-        }
-        PublishFail::Memory => Err(Memory),
     }
 }
 
@@ -123,8 +136,87 @@ fn refuse_map(
     refused(alloc, pin, pin.number, Row::Refused, 422, body, close)
 }
 
-/// Publishes a version that was made of the one that is pinned, and pins it. The reply is made before that, so that nothing is wanted
-/// afterwards.
+/// The replies to an edit that is good, by what may become of it once the press is asked to publish it.
+#[derive(Drop)]
+pub(crate) struct Replies {
+    pub published: Sending,
+    pub unkept: Sending,
+    pub keeper_full: Sending,
+}
+
+/// The reply to an edit that was published as the version of this number, which is pinned then.
+fn published_reply(alloc: Global, number: u64, close: bool) -> Result<Sending, Memory>
+    ensures { IfOk result (λ reply. reply ≡ sent number close (said 200 (numbered (codes "published") number))) }
+{
+    let body = numbered_line(alloc, b"published", number)?;
+    sent(alloc, plain(200, body), number, close)
+}
+
+/// The reply to an edit whose batch the keeper failed to keep.
+fn unkept_reply(alloc: Global, pin: u64, close: bool) -> Result<Sending, Memory>
+    ensures { IfOk result (λ reply. reply ≡ sent pin close (said 500 (codes "journal fault" ∷ []))) }
+{
+    let body = line(alloc, b"journal fault")?;
+    sent(alloc, plain(500, body), pin, close)
+}
+
+/// The reply to an edit for whose batch the keeper has no room.
+fn keeper_full_reply(alloc: Global, pin: u64, close: bool) -> Result<Sending, Memory>
+    ensures { IfOk result (λ reply. reply ≡ sent pin close (said 507 (numbered (codes "journal full") 67108864))) }
+{
+    let body = numbered_line(alloc, b"journal full", MAX_TEXT_BYTES)?;
+    sent(alloc, plain(507, body), pin, close)
+}
+
+/// The replies to a good edit of the version of this number.
+fn replies_to(alloc: Global, named: u64, close: bool) -> Result<Replies, Memory>
+    requires { named < 64 }
+    ensures { IfOk result (AreReplies named close) }
+{
+    Ok(Replies {
+        published: published_reply(alloc, named + 1, close)?,
+        unkept: unkept_reply(alloc, named, close)?,
+        keeper_full: keeper_full_reply(alloc, named, close)?,
+    })
+}
+
+/// What becomes of an edit that the press did not publish. What the keeper refused is told by a reply that was made before, so that no want
+/// of memory hides it.
+fn refuse_publish(
+    alloc: Global,
+    pin: &Pin<Version>,
+    fail: PublishFail,
+    replies: Replies,
+    close: bool,
+) -> Result<Turned, Memory>
+    requires { AreReplies pin.now.number close replies }
+    ensures refused { IfOk result (IsCommitRefused pin.now.number close fail) }
+    ensures never_lost { IsNeverLost fail result }
+{
+    let Replies {
+        published: _,
+        unkept,
+        keeper_full,
+    } = replies;
+    match fail {
+        PublishFail::Stale { newest } => refuse_stale(alloc, pin, newest, close),
+        PublishFail::VersionsFull { limit } => refuse_full(alloc, pin, limit, close),
+        PublishFail::Unkept => Ok(Turned {
+            number: pin.number,
+            row: Row::Unkept,
+            reply: unkept,
+        }),
+        PublishFail::KeeperFull { .. } => Ok(Turned {
+            number: pin.number,
+            row: Row::KeeperFull,
+            reply: keeper_full,
+        }),
+        PublishFail::Memory => Err(Memory),
+    }
+}
+
+/// Publishes a version that was made of the one that is pinned, and pins it. The replies that tell that it was published, or that the keeper
+/// refused it, are made before that, so that nothing is wanted for them afterwards.
 fn commit<R: Wait, P, V: Versions<P>>(
     rt: &R,
     alloc: Global,
@@ -137,30 +229,29 @@ fn commit<R: Wait, P, V: Versions<P>>(
     requires pin { IsPin (V.seen versions.old).history pin.old }
     requires number { next.number ≡ pin.old.number + 1 }
     requires sound { map_fault next.built ≡ None }
-    ensures turned { IfOk result (λ t. (batch : List ℕ) → edited (arc_value pin.old.held).built batch ≡ Ok next.built
-        → IsTurned (V.seen versions.old) (V.seen versions.new) pin.old.number pin.new.number (RouteAsked EditRoute batch) close t) }
+    ensures turned { IfOk result (λ t. edited (arc_value pin.old.held).built next.batch ≡ Ok next.built
+        → IsTurned (V.seen versions.old) (V.seen versions.new) pin.old.number pin.new.number (RouteAsked EditRoute next.batch) close t) }
     ensures pin { IsPin (V.seen versions.new).history pin.new }
     ensures kept { OnErr result (pin.new ≡ pin.old) }
     ensures continues { Continues (V.seen versions.old) (V.seen versions.new) }
-    ensures published { CountsPublished (V.seen versions.old) (V.seen versions.new) result }
+    ensures counts { CountsTurn (V.seen versions.old) (V.seen versions.new) result }
     ensures told { CountsTold (V.seen versions.old) (V.seen versions.new) result }
 {
     let named = pin.number;
     let next = Arc::new(alloc, next)?;
     let held = Arc::try_clone(&next)?;
     let number = named + 1;
-    let answer = plain(200, numbered_line(alloc, b"published", number)?);
-    let reply = sent(alloc, answer, number, close)?;
+    let replies = replies_to(alloc, named, close)?;
     match versions.publish(rt, alloc, press, named, next) {
         Ok(_) => {
             *pin = Pin { number, held };
             Ok(Turned {
                 number,
                 row: Row::Published,
-                reply,
+                reply: replies.published,
             })
         }
-        Err(fail) => refuse_commit(alloc, pin, fail, close),
+        Err(fail) => refuse_publish(alloc, pin, fail, replies, close),
     }
 }
 
@@ -188,7 +279,7 @@ fn publish_built<R: Threads + Wait + Sync, P, V: Versions<P>>(
     ensures pin { IsPin (V.seen versions.new).history pin.new }
     ensures kept { OnErr result (pin.new ≡ pin.old) }
     ensures continues { Continues (V.seen versions.old) (V.seen versions.new) }
-    ensures published { CountsPublished (V.seen versions.old) (V.seen versions.new) result }
+    ensures counts { CountsTurn (V.seen versions.old) (V.seen versions.new) result }
     ensures told { CountsTold (V.seen versions.old) (V.seen versions.new) result }
 {
     let Revision { map, close } = revision;
@@ -214,7 +305,7 @@ fn advance<R: Threads + Wait + Sync, P, V: Versions<P>>(
     ensures pin { IsPin (V.seen versions.new).history pin.new }
     ensures kept { OnErr result (pin.new ≡ pin.old) }
     ensures continues { Continues (V.seen versions.old) (V.seen versions.new) }
-    ensures published { CountsPublished (V.seen versions.old) (V.seen versions.new) result }
+    ensures counts { CountsTurn (V.seen versions.old) (V.seen versions.new) result }
     ensures told { CountsTold (V.seen versions.old) (V.seen versions.new) result }
 {
     match versions.ready(rt, press, pin.number) {
@@ -240,7 +331,7 @@ pub(crate) fn edit<R: Threads + Wait + Sync, P, V: Versions<P>>(
     ensures pin { IsPin (V.seen versions.new).history pin.new }
     ensures kept { OnErr result (pin.new ≡ pin.old) }
     ensures continues { Continues (V.seen versions.old) (V.seen versions.new) }
-    ensures published { CountsPublished (V.seen versions.old) (V.seen versions.new) result }
+    ensures counts { CountsTurn (V.seen versions.old) (V.seen versions.new) result }
     ensures told { CountsTold (V.seen versions.old) (V.seen versions.new) result }
 {
     match revised(rt, alloc, &pin.held, batch) {

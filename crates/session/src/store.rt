@@ -1,16 +1,16 @@
 //! A seat of a store of versions, with the store's press behind its lock.
 
-ghost use Rattle.session.specs.Versions.{seen_of};
+ghost use Rattle.session.specs.Versions.{seen_of, seat_room};
 
 use crate::versions::Versions;
 use map_version::Version;
 use std::alloc::Global;
 use std::sync::{Arc, Mutex, Wait};
-use tgap_model::{Memory, NoKeeper};
+use tgap_model::{Keep, Memory};
 use version_store::{Pin, Press, PublishFail, Seat, StoreName};
 
-impl<N: StoreName> Versions<Mutex<Press<Version, N, NoKeeper>>> for Seat<Version, N> {
-    ghost use Rattle.session.specs.Versions.{seen_of};
+impl<N: StoreName, K: Keep> Versions<Mutex<Press<Version, N, K>>> for Seat<Version, N> {
+    ghost use Rattle.session.specs.Versions.{seen_of, seat_room};
 
     ghost seen = { seen_of };
 
@@ -22,7 +22,7 @@ impl<N: StoreName> Versions<Mutex<Press<Version, N, NoKeeper>>> for Seat<Version
         &mut self,
         rt: &R,
         alloc: Global,
-        press: &Mutex<Press<Version, N, NoKeeper>>,
+        press: &Mutex<Press<Version, N, K>>,
     ) -> Result<u64, Memory> {
         let mut press = press.lock(rt);
         press.newest(alloc, self)
@@ -31,7 +31,7 @@ impl<N: StoreName> Versions<Mutex<Press<Version, N, NoKeeper>>> for Seat<Version
     fn ready<R: Wait>(
         &mut self,
         rt: &R,
-        press: &Mutex<Press<Version, N, NoKeeper>>,
+        press: &Mutex<Press<Version, N, K>>,
         named: u64,
     ) -> Result<(), PublishFail> {
         let mut press = press.lock(rt);
@@ -42,11 +42,13 @@ impl<N: StoreName> Versions<Mutex<Press<Version, N, NoKeeper>>> for Seat<Version
         &mut self,
         rt: &R,
         alloc: Global,
-        press: &Mutex<Press<Version, N, NoKeeper>>,
+        press: &Mutex<Press<Version, N, K>>,
         named: u64,
         next: Arc<Version>,
     ) -> Result<u64, PublishFail> {
         let mut press = press.lock(rt);
         press.publish(rt, alloc, self, named, next)
     }
+
+    ghost room = { seat_room };
 }

@@ -5,9 +5,9 @@ ghost use Rattle.http_face.specs.declared.request.Route.TheVariants.{Pin as PinR
 ghost use Rattle.session.specs.Items.{Route as RouteAsked, FaultyHead};
 ghost use Rattle.tgap_model.specs.Base.{BaseMap};
 ghost use Rattle.session.specs.Keeping.{AreKept};
-ghost use Rattle.session.specs.Versions.{Seen, Continues, IsPin};
+ghost use Rattle.session.specs.Versions.{Seen, Continues, SameCounts, IsPin};
 ghost use Rattle.session.specs.declared.row.Row.TheVariants.{Read as RowRead};
-ghost use Rattle.session.specs.Turns.{IsTurned, CountsPublished, CountsTold, IsSought, Reads};
+ghost use Rattle.session.specs.Turns.{IsTurned, CountsTurn, CountsTold, IsSought, Reads};
 
 use crate::answer::{fault_answer, numbered_line, plain, sent};
 use crate::coming::Due;
@@ -47,7 +47,7 @@ pub(crate) fn pin_newest<P, V: Versions<P>>(
     ensures pin { IsPin (V.seen versions.new).history pin.new }
     ensures kept { OnErr result (pin.new ≡ pin.old) }
     ensures continues { Continues (V.seen versions.old) (V.seen versions.new) }
-    ensures published { CountsPublished (V.seen versions.old) (V.seen versions.new) result }
+    ensures counts { CountsTurn (V.seen versions.old) (V.seen versions.new) result }
     ensures told { CountsTold (V.seen versions.old) (V.seen versions.new) result }
 {
     let fresh = versions.pin(alloc)?;
@@ -78,7 +78,7 @@ fn seek<R: Wait, P, V: Versions<P>>(
 ) -> Result<Sought, Memory>
     ensures sought { IfOk result (IsSought (V.seen versions.old) (V.seen versions.new) seen) }
     ensures continues { Continues (V.seen versions.old) (V.seen versions.new) }
-    ensures published { (V.seen versions.new).published ≡ (V.seen versions.old).published }
+    ensures counts { SameCounts (V.seen versions.old) (V.seen versions.new) }
 {
     let pin = versions.pin(alloc)?;
     if seen <= pin.number {
@@ -107,7 +107,7 @@ pub(crate) fn pin_seen<R: Wait, P, V: Versions<P>>(
     ensures pin { IsPin (V.seen versions.new).history pin.new }
     ensures kept { OnErr result (pin.new ≡ pin.old) }
     ensures continues { Continues (V.seen versions.old) (V.seen versions.new) }
-    ensures published { CountsPublished (V.seen versions.old) (V.seen versions.new) result }
+    ensures counts { CountsTurn (V.seen versions.old) (V.seen versions.new) result }
     ensures told { CountsTold (V.seen versions.old) (V.seen versions.new) result }
 {
     match seek(rt, alloc, versions, press, seen)? {
@@ -194,7 +194,7 @@ pub(crate) fn answer<R: Threads + Wait + Sync, P, V: Versions<P>>(
     ensures pin { IsPin (V.seen versions.new).history pin.new }
     ensures kept { OnErr result (pin.new ≡ pin.old) }
     ensures continues { Continues (V.seen versions.old) (V.seen versions.new) }
-    ensures published { CountsPublished (V.seen versions.old) (V.seen versions.new) result }
+    ensures counts { CountsTurn (V.seen versions.old) (V.seen versions.new) result }
     ensures told { CountsTold (V.seen versions.old) (V.seen versions.new) result }
     ensures texts { AreKept (V.seen versions.new).history fittings.new.kept }
     ensures room { fittings.new.room ≡ fittings.old.room }

@@ -5,7 +5,6 @@ ghost use Rattle.tgap_model.specs.declared.keep.KeepFail.TheVariants.{Full as Is
 ghost use Rattle.tgap_model.specs.Keeping.{Kept, CountsKeep, Keeps};
 
 use std::alloc::Global;
-use std::marker::Send;
 
 /// Why a batch was not kept.
 #[derive(Clone, Copy, PartialEq, Eq)]
@@ -19,7 +18,7 @@ pub enum KeepFail {
 }
 
 /// A keeper of batches, one entry for each, by the number of the version that the batch makes.
-pub trait Keep: Send {
+pub trait Keep {
     ghost use Rattle.tgap_model.specs.Keeping.{Kept};
 
     /// How often keeping has failed.

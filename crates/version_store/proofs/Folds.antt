@@ -1,11 +1,12 @@
 -- What the entries that are kept come to, after a call of the keeper and after a publish.
-use Rattle.std.proofs.Common.{◌≡◌, ◌<◌, ◌+◌, ◌-◌, inl, inr, ℕ, List, [], ◌∷◌, ◌++◌, length, take, Option, Some, None, Result, Ok, Err, MatchOption, OnOk, refl, sym, ap, ◌∙◌, subst, arith}
-use Rattle.std.proofs.lemmas.List.{length-append, length-map, map-append}
+use Rattle.std.proofs.Common.{◌≡◌, ◌<◌, ◌≤◌, ◌+◌, ◌-◌, inl, inr, ℕ, Bool, true, false, ◌||◌, nat_lt, List, [], ◌∷◌, ◌++◌, length, take, fold, if◌then◌else◌, Option, Some, None, Result, Ok, Err, MatchOption, OnOk, refl, sym, ap, ◌∙◌, subst, arith}
+use Rattle.std.proofs.lemmas.Bool.{ne_eqb, le-ltb}
+use Rattle.std.proofs.lemmas.List.{length-append, length-map, map-append, length-take}
 use Rattle.std.proofs.lemmas.List.Sums.{fold-append}
 use Rattle.std.proofs.Math.Seq.{take-append_seam, take-length}
 use Rattle.tgap_model.specs.declared.keep.KeepFail.{KeepFail}
 use Rattle.tgap_model.specs.declared.keep.KeepFail.TheVariants.{Failed, Full, Memory}
-use Rattle.tgap_model.specs.Keeping.{KeptEntry, Kept, IsStart, sure_of, Keeps, KeepsFrom, fold_entry, folded}
+use Rattle.tgap_model.specs.Keeping.{KeptEntry, Kept, IsStart, sure_of, Keeps, KeepsFrom, fold_entry, folded, is_bad_entry, bad_entry_from, bad_entry}
 use Rattle.version_store.specs.Folds.{batches_of, FitsFold, FitsKept, FitsTold}
 
 -- ---- one entry more
@@ -18,6 +19,31 @@ folded_next entries batches e f number =
     let cut : take (e.number - 1) (folded entries) ≡ batches = ap (λ (k : ℕ). take k (folded entries)) before ∙ f.0 in
     fold-append fold_entry [] entries (e ∷ []) ∙ ap (λ (l : List (List ℕ)). l ++ e.batch ∷ []) cut
 
+-- one entry more that follows those before it
+bad_more : (i : ℕ) (is : Bool) (rest more : Option ℕ) → (if is then Some i else rest) ≡ None → (rest ≡ None → more ≡ None)
+    → (if is then Some i else more) ≡ None
+bad_more i true rest more none make = none
+bad_more i false rest more none make = make none
+
+bad_push : (i : ℕ) (batches : List (List ℕ)) (entries : List KeptEntry) (e : KeptEntry) → bad_entry_from i batches entries ≡ None
+    → is_bad_entry (fold fold_entry batches entries) e ≡ false → bad_entry_from i batches (entries ++ e ∷ []) ≡ None
+bad_push i batches [] e none good = ap (λ (is : Bool). if is then Some i else None) good
+bad_push i batches (x ∷ entries) e none good =
+    bad_more i (is_bad_entry batches x) (bad_entry_from (i + 1) (fold_entry batches x) entries)
+    (bad_entry_from (i + 1) (fold_entry batches x) (entries ++ e ∷ [])) none (λ n. bad_push (i + 1) (fold_entry batches x) entries e n good)
+
+follows : (batches : List (List ℕ)) (e : KeptEntry) → 0 < e.number → e.number ≤ length batches + 1 → is_bad_entry batches e ≡ false
+follows batches e some few =
+    ap (λ (is : Bool). is || nat_lt (length batches + 1) e.number) (ne_eqb e.number 0 (λ none. omega (arith, some, none)))
+    ∙ le-ltb (length batches + 1) e.number few
+
+none_bad : (entries : List KeptEntry) (batches : List (List ℕ)) (e : KeptEntry) → FitsFold batches entries → e.number ≡ length batches + 1
+    → bad_entry (entries ++ e ∷ []) ≡ None
+none_bad entries batches e f number =
+    let front : length batches ≤ length (folded entries) =
+    let l = sym (length-take (length batches) (folded entries)) ∙ ap length f.0 in grind (arith, l) in
+    bad_push 0 [] entries e f.2 (follows (folded entries) e (omega (arith, number)) (omega (arith, number, front)))
+
 -- so it comes to these batches and one more
 pub fits_next : (entries : List KeptEntry) (batches : List (List ℕ)) (e : KeptEntry) → FitsFold batches entries → e.number ≡ length batches + 1
     → FitsFold batches (entries ++ e ∷ [])
@@ -26,6 +52,7 @@ fits_next entries batches e f number =
     let long : length (folded (entries ++ e ∷ [])) ≡ length batches + 1 = ap length is ∙ length-append batches (e.batch ∷ []) in (
       ap (λ (l : List (List ℕ)). take (length batches) l) is ∙ take-append_seam batches (e.batch ∷ []),
       omega (arith, long),
+      none_bad entries batches e f number,
     )
 
 -- and to these all, once that one is a version's
@@ -36,6 +63,7 @@ fits_whole entries batches e f number =
     let long : length (folded (entries ++ e ∷ [])) ≡ length (batches ++ e.batch ∷ []) = ap length is in (
       ap (λ (l : List (List ℕ)). take (length (batches ++ e.batch ∷ [])) l) is ∙ take-length (batches ++ e.batch ∷ []),
       omega (arith, long),
+      none_bad entries batches e f number,
     )
 
 -- ---- a call of the keeper

@@ -42,10 +42,11 @@ module _ {V : Type 0} where
       ∙ ap (λ (k : ℕ). (record d { filled = d.filled + 1; out = k; next = arc_value owner ∷ [] }, [])) (sym none)
       ∙ ap (λ (k : ℕ). (filling d (k + 1) (arc_value owner), [])) (sym same)
 
-  pub raised_once : (m n : Holder V) (x : V) (count : ℕ) → n ≡ (record m.0 { filled = 16 * count; list = m.0.list ++ m.0.next }, m.1) → m.0.next ≡ x ∷ [] → m.1 ≡ []
+  pub raised_once : (m n : Holder V) (x : V) (count : ℕ) → n ≡ (record m.0 { filled = 16 * count; list = m.0.list ++ m.0.next; numbers = m.0.numbers ++ length m.0.list ∷ []; publishers = m.0.publishers ++ m.0.publisher ∷ [] }, m.1)
+      → m.0.next ≡ x ∷ [] → m.1 ≡ []
       → n ≡ (with_version m.0 count x, [])
   raised_once m n x count e next none =
-      e ∙ ap (λ (l : List V). (record m.0 { filled = 16 * count; list = m.0.list ++ l }, m.1)) next
+      e ∙ ap (λ (l : List V). (record m.0 { filled = 16 * count; list = m.0.list ++ l; numbers = m.0.numbers ++ length m.0.list ∷ []; publishers = m.0.publishers ++ m.0.publisher ∷ [] }, m.1)) next
       ∙ ap (λ (l : List (ℕ × Slot V)). (with_version m.0 count x, l)) none
 
   -- ---- slot after slot

@@ -1,6 +1,8 @@
 pub mod Steps
 pub mod Laws
 pub mod Prefixes
+pub mod Publishers
+pub mod Names
 pub mod RuleKept
 pub mod Holders
 pub mod Lists

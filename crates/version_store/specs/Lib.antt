@@ -1,6 +1,7 @@
 pub mod Versions
 pub mod Runs
 pub mod Growth
+pub mod Publishers
 pub mod Rule
 pub mod Steps
 pub mod Folds

@@ -8,6 +8,7 @@ use Rattle.atomic_table.specs.Table.{Me, Step, rest}
 use Rattle.atomic_table.specs.declared.shared.Seat.{Seat as Place}
 use Rattle.version_store.specs.declared.known.Known.{Known}
 use Rattle.version_store.specs.Growth.{IsPrefix, AreNumbered}
+use Rattle.version_store.specs.Publishers.{numbers_of}
 use Rattle.version_store.specs.Rule.{Slot}
 
 -- a place: what it knows, and the slots that it has taken
@@ -30,9 +31,9 @@ module _ {V : Type 0} where
   abbrev pub sees : (V → ℕ) → Step (Slot V) → Holder V → ℕ → Holder V → Type 0
   sees number st m found n = Sees number m found n
 
-  -- the press compares its list with what it was told
+  -- the press compares its list with what it was told, and its publishers with the versions of the name in which it publishes
   abbrev pub compares : Step (Slot V) → Holder V → ℕ → Holder V → Type 0
-  compares st m found n = (n ≡ m) × IsPrefix m.0.told m.0.list
+  compares st m found n = (n ≡ m) × IsPrefix m.0.told m.0.list × (0 < m.0.publisher → m.0.numbers ≡ numbers_of m.0.publisher m.0.publishers)
 
   -- the press takes the first slot that is not filled
   abbrev pub lifts : Step (Slot V) → Holder V → ℕ → Holder V → Type 0
@@ -43,9 +44,18 @@ module _ {V : Type 0} where
   lays st m found n = (owner : Arc V Global) × (m.1 ≡ (m.0.filled, Some owner) ∷ rest m.1)
       × (n ≡ (record m.0 { filled = m.0.filled + 1; out = 0; next = arc_value owner ∷ [] }, rest m.1))
 
-  -- the press publishes the version with which the slots are filled
+  -- the press publishes the version with which the slots are filled, in nobody's name or in that of one of its seats
   abbrev pub raises : Step (Slot V) → Holder V → ℕ → Holder V → Type 0
-  raises st m count n = n ≡ (record m.0 { filled = 16 * count; list = m.0.list ++ m.0.next }, m.1)
+  raises st m count n =
+      (n ≡ (
+        record m.0 {
+          filled = 16 * count;
+          list = m.0.list ++ m.0.next;
+          numbers = m.0.numbers ++ length m.0.list ∷ [];
+          publishers = m.0.publishers ++ m.0.publisher ∷ [];
+        },
+        m.1,
+      )) × (m.0.publisher ≤ m.0.seats)
 
   -- no slot is with the press
   abbrev pub IsFree : Holder V → Type 0

@@ -28,5 +28,5 @@ pub struct FreshOf<V: Holds, P: TableRule<Option<Arc<V>>, Known<V>, u64>> {
     ghost sized: { (place.table_id.words ≡ 1) × (place.table_id.slots ≡ 16 * limit) × (0 < limit) × (limit ≤ 64) },
     ghost seated: { (place.me.0.role ≡ 1) × (place.me.0.limit ≡ limit) × (place.me.0.seats ≡ 0) × (0 < places) × (places ≤ 16) },
     ghost resting: { (place.me.0.filled ≡ 16) × (place.me.0.out ≡ 0) × (place.me.1 ≡ []) },
-    ghost one: { (place.me.0.list ≡ arc_value first ∷ []) × (V.numbered (arc_value first) ≡ 0) },
+    ghost one: { (place.me.0.list ≡ arc_value first ∷ []) × (V.numbered (arc_value first) ≡ 0) × (place.me.0.publishers ≡ 0 ∷ []) },
 }

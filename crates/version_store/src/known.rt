@@ -23,6 +23,12 @@ pub struct Known<V> {
     pub list: LinkedList<V>,
     /// The versions that it was told of.
     pub told: LinkedList<V>,
+    /// The number of the seat, from 1 on, in whose name the place publishes, or 0 where there is none.
+    pub publisher: u64,
+    /// The numbers of the versions that were published in that seat's name.
+    pub numbers: LinkedList<u64>,
+    /// For each version the number of the seat in whose name the press has published it, or 0.
+    pub publishers: LinkedList<u64>,
 }
 
 /// The rule of a list of versions that only grows.

@@ -13,10 +13,15 @@ pub trait StoreName {
 
     /// How many versions that store may have.
     ghost limit: { ℕ };
+
+    /// How many seats it has.
+    ghost seats: { ℕ };
 }
 
 impl StoreName for Brand {
     ghost store = { record { words = 0; slots = 0; views_name = 0; atom = 0; block = 0; offset = 0; slot_names = [] } };
 
     ghost limit = { 0 };
+
+    ghost seats = { 0 };
 }

@@ -1,7 +1,7 @@
 //! A type for each step on the table, whose ghosts are what the step tells. No value of these types is made.
 
 ghost use Rattle.std.specs.Prelude.{[]};
-ghost use Rattle.version_store.specs.Rule.{with_seat, new_seat, note, hearing};
+ghost use Rattle.version_store.specs.Rule.{with_seat, new_seat, note, hearing, without_name, name_of, with_name};
 ghost use Rattle.version_store.specs.Steps.{sees, compares, lifts, lays, raises};
 
 use crate::known::Known;
@@ -59,6 +59,22 @@ pub(crate) struct Hear;
 
 impl<V> Join<Known<V>> for Hear {
     ghost both = { hearing };
+
+    ghost spent = { note [] };
+}
+
+pub(crate) struct LendName;
+
+impl<V> Split<Known<V>> for LendName {
+    ghost left = { without_name };
+
+    ghost right = { name_of };
+}
+
+pub(crate) struct TakeName;
+
+impl<V> Join<Known<V>> for TakeName {
+    ghost both = { with_name };
 
     ghost spent = { note [] };
 }

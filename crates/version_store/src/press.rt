@@ -3,6 +3,7 @@
 ghost use Rattle.std.specs.Prelude.{◌≡◌, ◌<◌, ◌≤◌, ◌*◌, [], length};
 ghost use Rattle.std.specs.Arc.{arc_value};
 ghost use Rattle.version_store.specs.Growth.{AreNumbered};
+ghost use Rattle.version_store.specs.Publishers.{ArePublishers};
 ghost use Rattle.version_store.specs.Folds.{batches_of, FitsTold};
 
 use crate::known::{Growing, Known, Place};
@@ -38,6 +39,8 @@ pub struct PressOf<V: Holds, N: StoreName, K: Keep, P: TableRule<Option<Arc<V>>,
     ghost of_store: { (place.table_id ≡ N.store) × ((arc_value table).shared.table_id ≡ N.store) × (limit ≡ N.limit) },
     ghost sized: { (N.store.words ≡ 1) × (N.store.slots ≡ 16 * limit) × ((arc_value table).shared.key ≡ limit) × (limit ≤ 64) },
     ghost seated: { (place.me.0.role ≡ 1) × (place.me.0.limit ≡ limit) × (place.me.0.seats ≡ seats) × (0 < seats) × (seats ≤ 16) },
+    ghost manned: { seats ≡ N.seats },
+    ghost published_by: { ArePublishers seats place.me.0.publishers × (length place.me.0.publishers ≡ count) },
     ghost resting: { (place.me.0.filled ≡ 16 * count) × (place.me.0.out ≡ 0) × (place.me.1 ≡ []) },
     ghost counted: { (length place.me.0.list ≡ count) × (count ≤ limit) × (0 < count) },
     ghost numbered: { AreNumbered V.numbered place.me.0.list },

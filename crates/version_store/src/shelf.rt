@@ -2,11 +2,11 @@
 
 ghost use Rattle.std.specs.Prelude.{◌≡◌, ◌<◌, ◌≤◌, ◌+◌, ◌*◌, [], ◌∷◌, length, vec_len, IfOk};
 ghost use Rattle.std.specs.Arc.{arc_value};
-ghost use Rattle.version_store.specs.Rule.{AreOwners, filling, with_version};
+ghost use Rattle.version_store.specs.Rule.{AreOwners, filling, with_version, without_name, with_name};
 ghost use Rattle.version_store.specs.Steps.{IsFree, IsOn};
 
 use crate::known::{Growing, Known, Place};
-use crate::plays::{Lay, Lift, Raise};
+use crate::plays::{Lay, LendName, Lift, Raise, TakeName};
 use atomic_table::Shared;
 use std::alloc::Global;
 use std::sync::Arc;
@@ -81,6 +81,21 @@ pub(crate) fn raise<V: Holds>(shelf: &Shelf<V>, place: &mut Place<V>, version: &
     requires number { V.numbered version.now ≡ length place.old.me.0.list }
     ensures on { IsOn shelf.now.table_id shelf.now.key place.new }
     ensures published { place.new.me ≡ (with_version place.old.me.0 count version.now, []) }
+    // If that is in the name of a seat, it is one of those that the press has made.
+    ensures seat { place.old.me.0.publisher ≤ place.old.me.0.seats }
 {
     shelf.store::<Raise>(place, 0, count);
+}
+
+/// Hands the name in which a place publishes over to another place.
+pub(crate) fn lend_name<V: Holds>(shelf: &Shelf<V>, from: &mut Place<V>, to: &mut Place<V>)
+    requires from { IsOn shelf.now.table_id shelf.now.key from.old }
+    requires to { IsOn shelf.now.table_id shelf.now.key to.old }
+    ensures from { IsOn shelf.now.table_id shelf.now.key from.new }
+    ensures to { IsOn shelf.now.table_id shelf.now.key to.new }
+    ensures lent { from.new.me ≡ (without_name from.old.me.0, from.old.me.1) }
+    ensures taken { to.new.me ≡ (with_name to.old.me.0 from.old.me.0, to.old.me.1) }
+{
+    let name = shelf.split_seat::<LendName>(from);
+    shelf.join_seat::<TakeName>(to, name);
 }

@@ -1,7 +1,7 @@
 //! A press whose keeper fails at first, has no room then, and keeps in the end.
 
 ghost use Rattle.std.specs.Prelude.{◌≡◌};
-ghost use Rattle.version_store.specs.Store.{fresh_store, fresh_limit};
+ghost use Rattle.version_store.specs.Store.{fresh_store, fresh_limit, fresh_places};
 
 use crate::store::{Numbered, version};
 use std::alloc::Global;
@@ -61,6 +61,7 @@ fn answers<N: StoreName, R: Wait>(
 ) -> Result<(Answers, u64), Fail>
     requires store { fresh_store store ≡ N.store }
     requires limit { fresh_limit store ≡ N.limit }
+    requires seats { fresh_places store ≡ N.seats }
 {
     let (press, mut seats) = store.open::<N, R>(rt, alloc)?;
     let mut seat = seats.pop().ok_or("a seat")?;

@@ -2,7 +2,7 @@
 //! of its own.
 
 ghost use Rattle.std.specs.Prelude.{◌≡◌};
-ghost use Rattle.version_store.specs.Store.{fresh_store, fresh_limit};
+ghost use Rattle.version_store.specs.Store.{fresh_store, fresh_limit, fresh_places};
 
 use crate::store::{Numbered, version};
 use std::alloc::Global;
@@ -38,6 +38,7 @@ fn in_turn<N: StoreName, R: Wait>(
 ) -> Result<Vec<Told>, Fail>
     requires store { fresh_store store ≡ N.store }
     requires limit { fresh_limit store ≡ N.limit }
+    requires seats { fresh_places store ≡ N.seats }
 {
     let (press, seats) = store.open::<N, R>(rt, alloc)?;
     let press = Mutex::new(press);
@@ -55,6 +56,7 @@ fn at_once<N: StoreName + Send + Sync, R: Threads + Wait + Sync>(
 ) -> Result<Vec<Told>, Fail>
     requires store { fresh_store store ≡ N.store }
     requires limit { fresh_limit store ≡ N.limit }
+    requires seats { fresh_places store ≡ N.seats }
 {
     let (press, seats) = store.open::<N, R>(rt, alloc)?;
     let press = Mutex::new(press);

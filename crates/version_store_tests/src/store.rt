@@ -2,7 +2,7 @@
 
 ghost use Rattle.std.specs.Prelude.{◌≡◌, ◌+◌, [], IfOk};
 ghost use Rattle.std.specs.Arc.{arc_value};
-ghost use Rattle.version_store.specs.Store.{fresh_store, fresh_limit};
+ghost use Rattle.version_store.specs.Store.{fresh_store, fresh_limit, fresh_places};
 
 use crate::maps::triangle;
 use std::alloc::Global;
@@ -117,6 +117,7 @@ fn are_told_and_gathered<N: StoreName, R: Wait>(
 ) -> Result<bool, Fail>
     requires store { fresh_store store ≡ N.store }
     requires limit { fresh_limit store ≡ N.limit }
+    requires seats { fresh_places store ≡ N.seats }
 {
     let (mut press, mut seats) = store.open::<N, R>(rt, alloc)?;
     let is_right = are_told(rt, alloc, &mut press, seats.as_mut_slice())?;
@@ -170,6 +171,7 @@ fn side_by_side<N: StoreName + Send + Sync, R: Threads + Wait + Sync>(
 ) -> Result<(Result<u64, PublishFail>, u64, u64), Fail>
     requires store { fresh_store store ≡ N.store }
     requires limit { fresh_limit store ≡ N.limit }
+    requires seats { fresh_places store ≡ N.seats }
 {
     let (press, mut seats) = store.open::<N, R>(rt, alloc)?;
     let writer = seats.pop().ok_or("a seat")?;

@@ -1,6 +1,6 @@
 //! A real disk: the trusted edge. It tells nothing of its bytes.
 
-ghost use Rattle.std.specs.Prelude.{◌≡◌, false, [], ⊤, IfOk};
+ghost use Rattle.std.specs.Prelude.{◌≡◌, false, [], ⊤, IfOk, refl};
 ghost use Rattle.plain_io.specs.Loads.{Loads, Untold};
 
 use super::Disk;
@@ -89,6 +89,8 @@ impl Disk for HostDisk {
     fn faults(&self) -> u64 {
         self.faults
     }
+
+    ghost told_alike = { λ one other. refl };
 
     ghost seen_is_left = { λ disk told. tt };
 

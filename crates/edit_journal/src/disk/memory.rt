@@ -1,6 +1,6 @@
 //! A disk in memory, of which the listed calls fail, and which may crash at any moment.
 
-ghost use Rattle.std.specs.Prelude.{◌≡◌, ◌≤◌, ◌+◌, ◌++◌, ◌∷◌, [], ℕ, List, true, IfOk, OnOk, length, take, drop};
+ghost use Rattle.std.specs.Prelude.{◌≡◌, ◌≤◌, ◌+◌, ◌++◌, ◌∷◌, [], ℕ, List, true, IfOk, OnOk, length, take, drop, refl};
 ghost use Rattle.edit_journal.specs.DiskLogs.{calls_in, seen_after, left_after, left_from, are_within, held_left, left_now, left_only};
 
 use super::Disk;
@@ -133,6 +133,8 @@ impl Disk for MemoryDisk {
     fn faults(&self) -> u64 {
         self.faults
     }
+
+    ghost told_alike = { λ one other. refl };
 
     ghost seen_is_left = { λ disk told. held_left disk.first (calls_in disk.log) disk.held.items disk.seen disk.within };
 

@@ -1,6 +1,6 @@
 //! A disk that never fails, and keeps nothing.
 
-ghost use Rattle.std.specs.Prelude.{false, [], ⊤};
+ghost use Rattle.std.specs.Prelude.{false, [], ⊤, refl};
 
 use super::Disk;
 use plain_io::{Failed, LoadFail};
@@ -39,6 +39,8 @@ impl Disk for SureDisk {
     fn faults(&self) -> u64 {
         0
     }
+
+    ghost told_alike = { λ one other. refl };
 
     ghost seen_is_left = { λ disk told. tt };
 

@@ -3,7 +3,7 @@
 ghost use Rattle.std.specs.Prelude.{◌≡◌, ◌<◌, ◌≤◌, ◌*◌, [], ◌∷◌, length, All, IfOk};
 ghost use Rattle.std.specs.Arc.{arc_value};
 ghost use Rattle.version_store.specs.Growth.{IsList};
-ghost use Rattle.version_store.specs.Store.{fresh_store, fresh_first, fresh_limit, fresh_places, press_versions, press_limit, IsNewSeat};
+ghost use Rattle.version_store.specs.Store.{fresh_store, fresh_first, fresh_limit, fresh_places, press_versions, press_limit, press_publishers, press_seats, IsNewSeat, AreSeatsFrom};
 
 use super::{Fresh, FreshOf};
 use crate::known::Growing;
@@ -58,6 +58,7 @@ impl<V: Holds + Drop> FreshOf<V, Growing> {
     ) -> Result<(Press<V, N, NoKeeper>, Vec<Seat<V, N>>), Memory>
         requires store { fresh_store self ≡ N.store }
         requires limit { fresh_limit self ≡ N.limit }
+        requires seats { fresh_places self ≡ N.seats }
         // The press's list is the first version alone.
         ensures press { IfOk result (λ opened. press_versions opened.0 ≡ fresh_first self ∷ []) }
         ensures limit { IfOk result (λ opened. press_limit opened.0 ≡ fresh_limit self) }
@@ -65,6 +66,9 @@ impl<V: Holds + Drop> FreshOf<V, Growing> {
         // So is the list of each seat, which has published none and was told nothing. There are as many as places.
         ensures seats { IfOk result (λ opened. All (IsNewSeat (fresh_first self) (fresh_limit self)) opened.1.items) }
         ensures places { IfOk result (λ opened. length opened.1.items ≡ fresh_places self) }
+        // The seats have the numbers from 1 on, in their order; the press knows how many there are. Nobody has published the first version.
+        ensures numbers { IfOk result (λ opened. AreSeatsFrom 1 opened.1.items) }
+        ensures known { IfOk result (λ opened. (press_seats opened.0 ≡ fresh_places self) × (press_publishers opened.0 ≡ 0 ∷ [])) }
     {
         let FreshOf {
             table,

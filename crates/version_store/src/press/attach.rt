@@ -2,7 +2,7 @@
 
 ghost use Rattle.std.specs.Prelude.{◌≡◌};
 ghost use Rattle.version_store.specs.Folds.{batches_of, FitsTold};
-ghost use Rattle.version_store.specs.Store.{press_versions, press_limit, press_keeper};
+ghost use Rattle.version_store.specs.Store.{press_versions, press_limit, press_keeper, press_publishers, press_seats};
 
 use super::{Press, PressOf};
 use crate::known::Growing;
@@ -16,6 +16,7 @@ impl<V: Holds + Drop, N: StoreName> PressOf<V, N, NoKeeper, Growing> {
         // Where it is told what is kept, that comes to the batches of the list, and to at most one more.
         requires kept { FitsTold (batches_of V.batched (press_versions self)) (J.told keeper) }
         ensures same { (press_versions result ≡ press_versions self) × (press_limit result ≡ press_limit self) }
+        ensures publishers { (press_publishers result ≡ press_publishers self) × (press_seats result ≡ press_seats self) }
         ensures keeper { press_keeper result ≡ keeper }
     {
         let PressOf {

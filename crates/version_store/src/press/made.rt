@@ -1,9 +1,9 @@
 //! The press of an opened store.
 
-ghost use Rattle.std.specs.Prelude.{◌≡◌, ◌<◌, ◌≤◌, ◌*◌, [], length};
+ghost use Rattle.std.specs.Prelude.{◌≡◌, ◌<◌, ◌≤◌, ◌*◌, [], ◌∷◌, length};
 ghost use Rattle.std.specs.Arc.{arc_value};
 ghost use Rattle.version_store.specs.Growth.{AreNumbered};
-ghost use Rattle.version_store.specs.Store.{press_versions, press_limit};
+ghost use Rattle.version_store.specs.Store.{press_versions, press_limit, press_publishers, press_seats};
 
 use super::{Press, PressOf};
 use crate::known::{Growing, Known, Place};
@@ -27,7 +27,10 @@ impl<V: Holds + Drop, N: StoreName> PressOf<V, N, NoKeeper, Growing> {
         requires press { (place.me.0.role ≡ 1) × (place.me.0.limit ≡ limit) × (place.me.0.seats ≡ seats) × (0 < seats) × (seats ≤ 16) }
         requires resting { (place.me.0.filled ≡ 16) × (place.me.0.out ≡ 0) × (place.me.1 ≡ []) }
         requires one { (length place.me.0.list ≡ 1) × AreNumbered V.numbered place.me.0.list }
-        ensures { (press_versions result ≡ place.me.0.list) × (press_limit result ≡ limit) }
+        requires manned { seats ≡ N.seats }
+        requires nobody { place.me.0.publishers ≡ 0 ∷ [] }
+        ensures over { (press_versions result ≡ place.me.0.list) × (press_limit result ≡ limit) }
+        ensures publishers { (press_publishers result ≡ 0 ∷ []) × (press_seats result ≡ seats) }
     {
         PressOf {
             table,

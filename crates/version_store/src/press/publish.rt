@@ -8,14 +8,14 @@ ghost use Rattle.version_store.specs.declared.press.fail.PublishFail.TheVariants
 ghost use Rattle.version_store.specs.Growth.{IsPrefix, IsList};
 ghost use Rattle.version_store.specs.Folds.{batches_of, FitsTold};
 ghost use Rattle.version_store.specs.Keepers.{ComesOfList, LeavesKeeper, PublishKeeps, CountsFault, CountsUnkept, CountsKeeperFull};
-ghost use Rattle.version_store.specs.Store.{press_versions, press_limit, press_keeper, seat_versions, seat_limit, published_count, unkept_count, keeper_full_count, tellings, KeepsCounts};
+ghost use Rattle.version_store.specs.Store.{press_versions, press_limit, press_keeper, press_publishers, press_seats, KeepsPublishers, seat_versions, seat_limit, seat_number, seat_numbers, published_count, unkept_count, keeper_full_count, tellings, KeepsCounts};
 ghost use Rattle.version_store.specs.Rule.{AreOwners};
 
 use super::{PressOf, PublishFail};
 use crate::known::Growing;
 use crate::name::StoreName;
 use crate::seat::Seat;
-use crate::shelf::{fill_all, owners, raise};
+use crate::shelf::owners;
 use std::alloc::Global;
 use std::sync::{Arc, Wait};
 use tgap_model::{Holds, Keep, KeepFail};
@@ -23,8 +23,8 @@ use tgap_model::{Holds, Keep, KeepFail};
 impl<V: Holds + Drop, N: StoreName, K: Keep> PressOf<V, N, K, Growing> {
     ghost use Rattle.tgap_model.specs.declared.keep.KeepFail.TheVariants.{Full as IsFull};
 
-    /// Appends a version, of which there is an owner for each seat.
-    fn append(&mut self, version: &V, owners: Vec<Arc<V>>)
+    /// Appends a version in the name of a seat. There is an owner of it for each seat.
+    fn append(&mut self, seat: &mut Seat<V, N>, version: &V, owners: Vec<Arc<V>>)
         requires owners { AreOwners version.now owners.items }
         requires places { vec_len owners ≡ self.old.seats }
         requires some { 0 < self.old.seats }
@@ -32,18 +32,14 @@ impl<V: Holds + Drop, N: StoreName, K: Keep> PressOf<V, N, K, Growing> {
         requires number { V.numbered version.now ≡ length (press_versions self.old) }
         requires kept { FitsTold (batches_of V.batched (press_versions self.old ++ version.now ∷ [])) (K.told (press_keeper self.old)) }
         ensures appended { press_versions self.new ≡ press_versions self.old ++ version.now ∷ [] }
+        ensures publisher { press_publishers self.new ≡ press_publishers self.old ++ seat_number seat.old ∷ [] }
+        ensures seats { press_seats self.new ≡ press_seats self.old }
         ensures keeper { press_keeper self.new ≡ press_keeper self.old }
+        ensures numbers { seat_numbers seat.new ≡ seat_numbers seat.old ++ length (press_versions self.old) ∷ [] }
+        ensures seen { (seat_versions seat.new ≡ seat_versions seat.old) × (seat_limit seat.new ≡ seat_limit seat.old) × (seat_number seat.new ≡ seat_number seat.old) }
+        ensures counts { (published_count seat.new ≡ published_count seat.old) × (tellings seat.new ≡ tellings seat.old) × (unkept_count seat.new ≡ unkept_count seat.old) × (keeper_full_count seat.new ≡ keeper_full_count seat.old) }
     {
-        let table = &self.table;
-        let place = &mut self.place;
-        fill_all(
-            &table.shared,
-            place,
-            version,
-            16 * self.count as usize,
-            owners,
-        );
-        raise(&table.shared, place, version, self.count + 1);
+        seat.publish_by(&mut self.place, version, self.count, owners);
         self.count += 1;
     }
 
@@ -51,7 +47,7 @@ impl<V: Holds + Drop, N: StoreName, K: Keep> PressOf<V, N, K, Growing> {
     fn keep(&mut self, alloc: Global, number: u64, version: &V) -> Result<(), KeepFail>
         requires number { number ≡ length (press_versions self.old) }
         ensures same { press_versions self.new ≡ press_versions self.old }
-        ensures seats { self.new.seats ≡ self.old.seats }
+        ensures publishers { KeepsPublishers self.old self.new }
         ensures limit { K.limit (press_keeper self.new) ≡ K.limit (press_keeper self.old) }
         ensures faults { CountsKeep result (K.faults (press_keeper self.old)) (K.faults (press_keeper self.new)) }
         ensures full { (most : ℕ) → result ≡ Err (IsFull most) → K.limit (press_keeper self.old) ≡ Some most }
@@ -73,6 +69,7 @@ impl<V: Holds + Drop, N: StoreName, K: Keep> PressOf<V, N, K, Growing> {
         requires named { named < length (seat_versions seat.old) }
         // The list stays, and the seat has seen it.
         ensures same { press_versions self.new ≡ press_versions self.old }
+        ensures publishers { KeepsPublishers self.old self.new }
         ensures seen { seat_versions seat.new ≡ press_versions self.old }
         ensures front { IsPrefix (seat_versions seat.old) (press_versions self.old) }
         ensures grows { IsPrefix (seat_versions seat.old) (seat_versions seat.new) }
@@ -121,6 +118,11 @@ impl<V: Holds + Drop, N: StoreName, K: Keep> PressOf<V, N, K, Growing> {
         ensures answered { IfOk result (λ number. number ≡ named + 1) }
         ensures seen { OnOk result (seat_versions seat.new ≡ press_versions self.new) }
         ensures counted { OnOk result (published_count seat.new ≡ published_count seat.old + 1) }
+        // The seat is the version's publisher: the press notes its number, and the seat that of the version. A refusal leaves both.
+        ensures publisher { OnOk result (press_publishers self.new ≡ press_publishers self.old ++ seat_number seat.old ∷ []) }
+        ensures numbers { OnOk result (seat_numbers seat.new ≡ seat_numbers seat.old ++ (named + 1) ∷ []) }
+        ensures none { OnErr result ((press_publishers self.new ≡ press_publishers self.old) × (seat_numbers seat.new ≡ seat_numbers seat.old)) }
+        ensures seats { (press_seats self.new ≡ press_seats self.old) × (seat_number seat.new ≡ seat_number seat.old) }
         // What the seat had seen begins the list before.
         ensures front { IsPrefix (seat_versions seat.old) (press_versions self.old) }
         ensures grows { IsPrefix (seat_versions seat.old) (seat_versions seat.new) }
@@ -155,7 +157,7 @@ impl<V: Holds + Drop, N: StoreName, K: Keep> PressOf<V, N, K, Growing> {
         let owners = owners(alloc, &next, self.seats as usize)?;
         match self.keep(alloc, named + 1, &*next) {
             Ok(()) => {
-                self.append(&*next, owners);
+                self.append(seat, &*next, owners);
                 self.tell(seat);
                 seat.count_published();
                 Ok(named + 1)

@@ -4,7 +4,7 @@ ghost use Rattle.std.specs.Prelude.{◌≡◌, ◌<◌, ◌≤◌, ◌+◌, ◌*
 ghost use Rattle.std.specs.Arc.{arc_value};
 ghost use Rattle.version_store.specs.Rule.{with_seat};
 ghost use Rattle.tgap_model.specs.Faults.{Rises};
-ghost use Rattle.version_store.specs.Store.{seat_versions, told_versions, seat_limit, published_count, unkept_count, keeper_full_count, tellings, raised, IsNewSeat};
+ghost use Rattle.version_store.specs.Store.{seat_versions, told_versions, seat_limit, published_count, unkept_count, keeper_full_count, tellings, raised, seat_number, IsNewSeat, KeepsPublished};
 
 use super::{Seat, SeatOf};
 use crate::known::{Growing, Known, Place};
@@ -29,7 +29,9 @@ impl<V: Holds + Drop, N: StoreName> SeatOf<V, N, Growing> {
         requires sized { (N.store.words ≡ 1) × (N.store.slots ≡ 16 * limit) × ((arc_value table.now).shared.key ≡ limit) × (0 < limit) × (limit ≤ 64) }
         requires press { (place.old.me.0.role ≡ 1) × (place.old.me.0.limit ≡ limit) × (place.old.me.0.seats ≡ index) × (index < 16) }
         requires one { (place.old.me.0.list ≡ arc_value first.now ∷ []) × (V.numbered (arc_value first.now) ≡ 0) }
+        requires nobody { place.old.me.0.publishers ≡ 0 ∷ [] }
         ensures new { IfOk result (IsNewSeat (arc_value first.now) limit) }
+        ensures number { IfOk result (λ seat. seat_number seat ≡ index + 1) }
         ensures press { IfOk result (λ _. (place.new.table_id ≡ place.old.table_id) × (place.new.me ≡ (with_seat place.old.me.0, place.old.me.1))) }
     {
         let table = Arc::try_clone(table)?;
@@ -57,6 +59,7 @@ impl<V: Holds + Drop, N: StoreName> SeatOf<V, N, Growing> {
         ensures sized { (number < length (tellings self.old)) × (slice_index (tellings self.old) number < 2 ^ 64) }
         ensures same { (seat_versions self.new ≡ seat_versions self.old) × (told_versions self.new ≡ told_versions self.old) × (seat_limit self.new ≡ seat_limit self.old) × (published_count self.new ≡ published_count self.old) }
         ensures others { (unkept_count self.new ≡ unkept_count self.old) × (keeper_full_count self.new ≡ keeper_full_count self.old) }
+        ensures numbers { KeepsPublished self.old self.new }
     {
         let told = &mut self.tellings[number as usize];
         *told = told.saturating_add(1);
@@ -68,6 +71,7 @@ impl<V: Holds + Drop, N: StoreName> SeatOf<V, N, Growing> {
         ensures counted { published_count self.new ≡ published_count self.old + 1 }
         ensures same { (seat_versions self.new ≡ seat_versions self.old) × (told_versions self.new ≡ told_versions self.old) × (seat_limit self.new ≡ seat_limit self.old) × (tellings self.new ≡ tellings self.old) }
         ensures others { (unkept_count self.new ≡ unkept_count self.old) × (keeper_full_count self.new ≡ keeper_full_count self.old) }
+        ensures numbers { KeepsPublished self.old self.new }
     {
         self.published += 1;
     }
@@ -77,6 +81,7 @@ impl<V: Holds + Drop, N: StoreName> SeatOf<V, N, Growing> {
         ensures counted { Rises (unkept_count self.old) (unkept_count self.new) }
         ensures same { (seat_versions self.new ≡ seat_versions self.old) × (told_versions self.new ≡ told_versions self.old) × (seat_limit self.new ≡ seat_limit self.old) × (tellings self.new ≡ tellings self.old) }
         ensures others { (published_count self.new ≡ published_count self.old) × (keeper_full_count self.new ≡ keeper_full_count self.old) }
+        ensures numbers { KeepsPublished self.old self.new }
     {
         self.unkept = self.unkept.saturating_add(1);
     }
@@ -86,6 +91,7 @@ impl<V: Holds + Drop, N: StoreName> SeatOf<V, N, Growing> {
         ensures counted { Rises (keeper_full_count self.old) (keeper_full_count self.new) }
         ensures same { (seat_versions self.new ≡ seat_versions self.old) × (told_versions self.new ≡ told_versions self.old) × (seat_limit self.new ≡ seat_limit self.old) × (tellings self.new ≡ tellings self.old) }
         ensures others { (published_count self.new ≡ published_count self.old) × (unkept_count self.new ≡ unkept_count self.old) }
+        ensures numbers { KeepsPublished self.old self.new }
     {
         self.keeper_full = self.keeper_full.saturating_add(1);
     }

@@ -24,10 +24,10 @@ arcs_after-requires-clause-line c =
     let free : are_free m.arcs c.args.points.now ≡ true = ap₂ are_free (sym arcs) (sym points) ∙ sym c.in_ok-are_free.ensures ∙ c.if-not-branch.false in
     subst IsNewLine (sym points) (new_line m c.args.points.now c.requires.long c.requires.limits room free)
 
-pub arcs_after-requires-clause-each : goal.arcs_after-requires-clause-each
-arcs_after-requires-clause-each c =
+pub arcs_after-requires-clause-spans : goal.arcs_after-requires-clause-spans
+arcs_after-requires-clause-spans c =
     let m = c.args.base.now in
-    subst AreSpans (sym (c.deref.ensures.value ∙ c.in_ok-spans.ensures ∙ ap spans_of (c.as_slice-arcs.ensures ∙ c.arcs.ensures.value))) (are_spans m (base_facts m c.arcs.ensures.base))
+    subst AreSpans (sym (ap spans_of (c.as_slice-arcs.ensures ∙ c.arcs.ensures.value))) (are_spans m (base_facts m c.arcs.ensures.base))
 
 pub with_parts-requires : goal.with_parts-requires
 with_parts-requires c =

@@ -4,5 +4,5 @@ use Rattle.face_cuts.proofs.NearColumns.{ring_near}
 use Rattle.face_cuts.proofs.new_ring.columns_of.Goals as goal
 
 pub of-requires-clause-near : goal.of-requires-clause-near
-of-requires-clause-near c =
-    subst (All HasNearEnds) (sym c.in_ok-segments.ensures) (ring_near c.args.arcs.now c.args.points.now c.args.walk.now c.requires.lines.each c.requires.points c.requires.walk.sides)
+of-requires-clause-near g c =
+    subst (All HasNearEnds) (sym c.in_ok-segments.ensures) (ring_near (g.T.ArcTable.arcs c.args.table.now) c.args.points.now c.args.walk.now c.requires.lines.each c.requires.points c.requires.walk.sides)

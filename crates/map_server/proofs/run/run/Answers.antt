@@ -1,7 +1,8 @@
-use Rattle.std.proofs.Common.{refl, sym}
-use Rattle.commands.proofs.Statuses.{put_is, answered_says, zero_says, two_says, none_says, three_says, missing_says, counts_say, kinds_say, four_says, five_says, six_says, eight_apart, nine_says, sink_stays, exact_says}
-use Rattle.serving.proofs.Servings.{doors_back, fault_put, served_or_none}
-use Rattle.map_server.proofs.Served.{unserved, is_served, same_command, two_apart}
+use Rattle.std.proofs.Common.{◌≡◌, None, refl, sym}
+use Rattle.commands.proofs.Statuses.{put_is, answered_says, zero_says, two_says, none_says, first_says, missing_says, counts_say, kinds_say, four_says, five_says, six_says, eight_apart, nine_says, sink_stays, exact_says}
+use Rattle.serving.specs.Asked.{serving_of}
+use Rattle.serving.proofs.Servings.{by_status, doors_back, fault_put, served_or_none}
+use Rattle.map_server.proofs.Served.{unserved, is_served, same_command, two_apart, of_command}
 use Rattle.map_server.proofs.run.run.Goals as goal
 
 pub returns-in-None : goal.returns-in-None
@@ -14,7 +15,7 @@ returns-in-None g c =
       done = λ n. zero_says p;
       usage = λ e. (two_says p e, sym none);
       no_command = λ e n. none_says p e;
-      load_fault = λ n. three_says p;
+      load_fault = λ n. first_says p;
       missing = λ n. missing_says p;
       loads_kept = counts_say p;
       kinds_kept = λ n. kinds_say p;
@@ -32,6 +33,8 @@ returns-in-None g c =
       port_fault = λ e. absurd (eight_apart p e);
       port_kept = λ a b. refl;
       harbour_kept = λ n. refl;
+      no_disk = λ n. (refl, refl);
+      disks_kept = λ e. refl;
       sink_fault = six_says p;
       sink_kept = sink_stays p;
     }
@@ -45,7 +48,7 @@ returns-in-Some g c =
       answered = λ n. absurd (is_served _ _ some n);
       exact = λ n. absurd (is_served _ _ some n);
       done = λ n. absurd (is_served _ _ some n);
-      usage = λ two. absurd (two_apart _ _ _ _ _ _ two s.other);
+      usage = λ two. absurd (two_apart (serving_of c.in-Some.serving) _ _ _ _ _ _ _ _ two s.other);
       no_command = λ k n. absurd (is_served _ _ some n);
       load_fault = λ n. absurd (is_served _ _ some n);
       missing = λ n. absurd (is_served _ _ some n);
@@ -60,12 +63,15 @@ returns-in-Some g c =
       serve_line = λ a asked. rw (same_command _ _ a some asked) (λ zero. (s.line zero).0);
       serve_fault_line = λ a asked. rw (same_command _ _ a some asked) (fault_put _ _ _ _ _ _ _ _ _ _ _ s);
       serve_front = λ a asked. rw (same_command _ _ a some asked) s.front;
-      doors = λ a asked. rw (same_command _ _ a some asked) (doors_back g.H.Gate.Door.closed g.H.Gate.Door.faults g.H.Gate.Door.told g.H.Gate.Line.Link
-          _ _ _ _ c.run_serve.result s.doors (λ zero. (s.line zero).1));
+      doors = λ a asked. rw (same_command _ _ a some asked) (by_status _ _ c.run_serve.result s.doors
+          (λ zero. doors_back g.H.Gate.Door.closed g.H.Gate.Door.faults g.H.Gate.Door.told g.H.Gate.Line.Link _ _ _ _ _ c.run_serve.result
+          (s.line zero).1.2.1));
       connections = λ a asked. rw (same_command _ _ a some asked) (served_or_none _ _ _ _ _ _ _ _ _ _ _ s);
       port_fault = s.port_fault;
       port_kept = s.sound;
       harbour_kept = λ n. absurd (is_served _ _ some n);
+      no_disk = λ h. e.no_disk (of_command _ _ (λ c. c.journal ≡ None) some h);
+      disks_kept = e.disks_kept;
       sink_fault = s.sink_fault;
       sink_kept = s.sink_kept;
     }

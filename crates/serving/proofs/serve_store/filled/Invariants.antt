@@ -1,12 +1,12 @@
--- The doors of the posts so far, and those that are left, are all doors; the seats of the posts so far, and those that are left, are all
--- seats turned round. For each door that is left there is a seat, and room.
+-- The seats of the posts so far, and those that are left, are all seats; the doors of the posts so far, and those that are left, are all
+-- doors turned round. For each seat that is left there is a door, and room.
 use Rattle.std.proofs.Common.{◌≡◌, ◌≤◌, ◌+◌, ◌++◌, map, reverse, length, vec_capacity}
 use Rattle.serving.proofs.serve_store.filled.Given as goal
 
-abbrev pub invariant-loop-door : goal.invariant-loop-door
-invariant-loop-door g l = record {
-  doors : map (λ post. post.door) l.posts.items ++ l.door-iterator.rest.items ≡ l.fn.doors.items;
-  turned : map (λ post. post.seat) l.posts.items ++ reverse l.seats.items ≡ reverse l.fn.seats.items;
-  seats : length l.seats.items ≡ length l.door-iterator.rest.items;
-  room : length l.posts.items + length l.door-iterator.rest.items ≤ vec_capacity l.posts;
+abbrev pub invariant-loop-seat : goal.invariant-loop-seat
+invariant-loop-seat g l = record {
+  seats : map (λ post. post.seat) l.posts.items ++ l.seat-iterator.rest.items ≡ l.fn.seats.items;
+  turned : map (λ post. post.door) l.posts.items ++ reverse l.doors.items ≡ reverse l.fn.doors.items;
+  doors : length l.doors.items ≡ length l.seat-iterator.rest.items;
+  room : length l.posts.items + length l.seat-iterator.rest.items ≤ vec_capacity l.posts;
 }

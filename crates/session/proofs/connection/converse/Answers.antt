@@ -25,6 +25,6 @@ returns-clause-connection g c =
     (record { how = c.serve-how.result; first = c.in-Ok.pin.number; last = c.serve-how.new.talk.pin.number; numbers = numbers; rows = rows }) in
     served_from (S c.args.versions.now) (S c.pin.new.self) (S c.serve-how.new.versions) (taken c.args.link.now) (taken c.serve-how.new.link)
     (told c.args.link.now) (told c.serve-how.new.link) (g.L.Link.ended c.serve-how.new.link) _
-    c.pin.ensures.continues c.pin.ensures.published c.in-Ok.ensures.newest
+    c.pin.ensures.continues c.pin.ensures.counts c.in-Ok.ensures.newest
     (subst (λ rows. P c.into_lists-numbers.result.0 rows) (sym c.into_lists-numbers.ensures.rows)
     (subst (λ numbers. P numbers c.serve-how.new.talk.log.rows) (sym c.into_lists-numbers.ensures.numbers) c.serve-how.ensures.conversation))

@@ -4,7 +4,8 @@ use Rattle.session.specs.Items.{Route as RouteAsked}
 use Rattle.session.proofs.Kept.{pin_kept}
 use Rattle.session.proofs.Edits.{refused_commit, if_ok}
 use Rattle.session.proofs.Progressing.{continues_more}
-use Rattle.session.proofs.Later.{turned_later, published_later, told_later}
+use Rattle.session.proofs.Counting.{counts_of_list}
+use Rattle.session.proofs.Later.{turned_later, counts_later, told_later}
 use Rattle.session.proofs.edit.advance.Goals as goal
 
 pub publish_built-requires-clause-pin : goal.publish_built-requires-clause-pin
@@ -26,11 +27,11 @@ returns-in-Ok-clause-continues g c =
     continues_more (S c.args.versions.now) (S c.ready.new.self) (S c.publish_built.new.versions) c.in-Ok.ensures.continues
     c.publish_built.ensures.continues
 
-pub returns-in-Ok-clause-published : goal.returns-in-Ok-clause-published
-returns-in-Ok-clause-published g c =
+pub returns-in-Ok-clause-counts : goal.returns-in-Ok-clause-counts
+returns-in-Ok-clause-counts g c =
     let S = g.V.Versions.seen in
-    published_later (S c.args.versions.now) (S c.ready.new.self) (S c.publish_built.new.versions) c.publish_built.result
-    c.in-Ok.ensures.published c.publish_built.ensures.published
+    counts_later (S c.args.versions.now) (S c.ready.new.self) (S c.publish_built.new.versions) c.publish_built.result
+    c.in-Ok.ensures.counts c.publish_built.ensures.counts
 
 pub returns-in-Ok-clause-told : goal.returns-in-Ok-clause-told
 returns-in-Ok-clause-told g c =
@@ -50,3 +51,9 @@ pub returns-in-Err-clause-pin : goal.returns-in-Err-clause-pin
 returns-in-Err-clause-pin g c =
     let S = g.V.Versions.seen in
     pin_kept (S c.args.versions.now) (S c.ready.new.self) c.args.pin.now c.in-Err.ensures.continues c.requires.pin
+
+pub returns-in-Err-clause-counts : goal.returns-in-Err-clause-counts
+returns-in-Err-clause-counts g c =
+    let S = g.V.Versions.seen in
+    counts_of_list (S c.args.versions.now) (S c.ready.new.self) c.args.pin.now.number c.args.revision.close c.in-Err.fail c.refuse_commit.result
+    c.in-Err.ensures.cause c.refuse_commit.ensures c.in-Err.ensures.counts

@@ -28,7 +28,7 @@ returns-in-End-clause-conversation g c =
     (g.L.Link.taken c.args.link.now) (g.L.Link.taken c.loop-count.link) (g.L.Link.taken c.next_item.new.link)
     (g.L.Link.told c.args.link.now) (g.L.Link.told c.loop-count.link) (g.L.Link.told c.next_item.new.link)
     c.loop-count.talk.pin c.loop-count.fittings.room c.next_item.new.room c.loop-count.talk.log c.loop-count.invariant.progress c.in-End.ensures.bytes c.in-End.ensures.told
-    _ _ c.loop-count-test.true c.in-End.ensures.exact c.in-End.ensures.end c.ended.ensures
+    _ _ c.loop-count-test.true (g.met.V.Versions.room c.loop-count.versions) c.in-End.ensures.exact c.in-End.ensures.end c.ended.ensures
 
 pub returns-in-Failed-clause-conversation : goal.returns-in-Failed-clause-conversation
 returns-in-Failed-clause-conversation g c =
@@ -36,7 +36,7 @@ returns-in-Failed-clause-conversation g c =
     (g.L.Link.taken c.args.link.now) (g.L.Link.taken c.loop-count.link) (g.L.Link.taken c.next_item.new.link)
     (g.L.Link.told c.args.link.now) (g.L.Link.told c.loop-count.link) (g.L.Link.told c.next_item.new.link)
     c.loop-count.talk.pin c.loop-count.fittings.room c.next_item.new.room c.loop-count.talk.log c.loop-count.invariant.progress c.in-Failed.ensures.bytes c.in-Failed.ensures.told
-    _ ReadFault c.loop-count-test.true c.in-Failed.ensures.exact c.in-Failed.ensures.end
+    _ ReadFault c.loop-count-test.true (g.met.V.Versions.room c.loop-count.versions) c.in-Failed.ensures.exact c.in-Failed.ensures.end
 
 pub returns-in-Ok-clause-conversation : goal.returns-in-Ok-clause-conversation
 returns-in-Ok-clause-conversation g c =
@@ -53,7 +53,7 @@ returns-in-Ok-clause-conversation g c =
     last_conversation c.args.talk.now.pin.number (S c.args.versions.now) (S c.loop-count.versions) (S c.loop-count.versions)
     (taken c.args.link.now) (taken c.loop-count.link) (taken c.serve_fault.new.link) (told c.args.link.now) (told c.next_item.new.link) (told c.serve_fault.new.link)
     c.loop-count.talk.pin c.serve_fault.new.talk.pin c.loop-count.fittings.room c.next_item.new.room c.next_item.new.room noted c.serve_fault.new.talk.log c.loop-count.count true true true _
-    p more e (ap (λ b. b || (suc c.loop-count.count == MAX_REQUESTS)) e.closing_is) c.loop-count-test.true e.turned.reply e.put_is BadHead _
+    p more e (ap (λ b. b || (suc c.loop-count.count == MAX_REQUESTS)) e.closing_is) c.loop-count-test.true (g.met.V.Versions.room c.loop-count.versions) e.turned.reply e.put_is BadHead _
     (at_fault (items_of p.turns) e.item _ (p.written ++ e.turned.reply) _ (sym e.faulty_is) (sym e.closing_is))
 
 pub returns-in-Err-clause-conversation : goal.returns-in-Err-clause-conversation
@@ -72,7 +72,7 @@ returns-in-Err-clause-conversation g c =
     last_conversation c.args.talk.now.pin.number (S c.args.versions.now) (S c.loop-count.versions) (S c.loop-count.versions)
     (taken c.args.link.now) (taken c.loop-count.link) (taken c.serve_fault.new.link) (told c.args.link.now) (told c.next_item.new.link) (told c.serve_fault.new.link)
     c.loop-count.talk.pin c.serve_fault.new.talk.pin c.loop-count.fittings.room c.next_item.new.room c.next_item.new.room noted c.serve_fault.new.talk.log c.loop-count.count true true true _
-    p more e (ap (λ b. b || (suc c.loop-count.count == MAX_REQUESTS)) e.closing_is) c.loop-count-test.true (take front.0 e.turned.reply) front.1 WriteFault _
+    p more e (ap (λ b. b || (suc c.loop-count.count == MAX_REQUESTS)) e.closing_is) c.loop-count-test.true (g.met.V.Versions.room c.loop-count.versions) (take front.0 e.turned.reply) front.1 WriteFault _
     (front_more p.written e.turned.reply front.0)
 
 pub returns-in_default-clause-conversation : goal.returns-in_default-clause-conversation
@@ -93,7 +93,7 @@ returns-in_default-clause-conversation g c =
     c.loop-count.talk.pin c.serve_request.new.talk.pin c.loop-count.fittings.room c.next_item.new.room c.serve_request.new.fittings.room noted c.serve_request.new.talk.log c.loop-count.count
     false c.in-Request.request.close c.is_final-ends.result c.serve_request.result p more e
     (c.is_final-ends.ensures ∙ ap (λ n. c.in-Request.request.close || (n == MAX_REQUESTS)) (add-one c.loop-count.count) ∙ ap (λ b. b || (suc c.loop-count.count == MAX_REQUESTS)) e.closing_is)
-    c.loop-count-test.true (take front.0 e.turned.reply) front.1 WriteFault _ (front_more p.written e.turned.reply front.0)
+    c.loop-count-test.true (g.met.V.Versions.room c.serve_request.new.versions) (take front.0 e.turned.reply) front.1 WriteFault _ (front_more p.written e.turned.reply front.0)
 
 pub returns-then-count-eq-MAX_REQUESTS-clause-conversation : goal.returns-then-count-eq-MAX_REQUESTS-clause-conversation
 returns-then-count-eq-MAX_REQUESTS-clause-conversation g c =
@@ -112,7 +112,7 @@ returns-then-count-eq-MAX_REQUESTS-clause-conversation g c =
     c.loop-count.talk.pin c.serve_request.new.talk.pin c.loop-count.fittings.room c.next_item.new.room c.serve_request.new.fittings.room noted c.serve_request.new.talk.log c.loop-count.count
     false c.in-Request.request.close c.is_final-ends.result _ p more e
     (c.is_final-ends.ensures ∙ ap (λ n. c.in-Request.request.close || (n == MAX_REQUESTS)) (add-one c.loop-count.count) ∙ ap (λ b. b || (suc c.loop-count.count == MAX_REQUESTS)) e.closing_is)
-    c.loop-count-test.true e.turned.reply e.put_is Spent _
+    c.loop-count-test.true (g.met.V.Versions.room c.serve_request.new.versions) e.turned.reply e.put_is Spent _
     (at_spent (items_of p.turns) e.item _ (p.written ++ e.turned.reply) _ p.going e.faulty_is (len_more p.turns e.item c.loop-count.count p.counted ∙ c.if-count-eq-MAX_REQUESTS.true))
 
 pub returns-else-count-eq-MAX_REQUESTS-clause-conversation : goal.returns-else-count-eq-MAX_REQUESTS-clause-conversation
@@ -132,7 +132,7 @@ returns-else-count-eq-MAX_REQUESTS-clause-conversation g c =
     c.loop-count.talk.pin c.serve_request.new.talk.pin c.loop-count.fittings.room c.next_item.new.room c.serve_request.new.fittings.room noted c.serve_request.new.talk.log c.loop-count.count
     false c.in-Request.request.close c.is_final-ends.result _ p more e
     (c.is_final-ends.ensures ∙ ap (λ n. c.in-Request.request.close || (n == MAX_REQUESTS)) (add-one c.loop-count.count) ∙ ap (λ b. b || (suc c.loop-count.count == MAX_REQUESTS)) e.closing_is)
-    c.loop-count-test.true e.turned.reply e.put_is Closed _
+    c.loop-count-test.true (g.met.V.Versions.room c.serve_request.new.versions) e.turned.reply e.put_is Closed _
     (at_closed (items_of p.turns) e.item _ (p.written ++ e.turned.reply) _ p.going e.faulty_is
     (sym e.closing_is ∙ or_first c.in-Request.request.close ((c.loop-count.count + 1) == MAX_REQUESTS) (sym c.is_final-ends.ensures ∙ c.if-ends.true) (not_full (c.loop-count.count + 1) c.if-count-eq-MAX_REQUESTS.false))
     (ap (λ n. n == MAX_REQUESTS) (len_more p.turns e.item c.loop-count.count p.counted) ∙ (not_full (c.loop-count.count + 1) c.if-count-eq-MAX_REQUESTS.false)))
@@ -163,4 +163,4 @@ returns-clause-conversation g c =
     let S = g.V.Versions.seen in
     spent c.args.talk.now.pin.number c.loop-count.count (S c.args.versions.now) (S c.loop-count.versions) (g.L.Link.taken c.args.link.now) (g.L.Link.taken c.loop-count.link)
     (g.L.Link.told c.args.link.now) (g.L.Link.told c.loop-count.link) c.loop-count.talk.pin c.loop-count.fittings.room c.loop-count.talk.log (g.L.Link.ended c.loop-count.link)
-    c.loop-count.invariant.progress (omega arith)
+    c.loop-count.invariant.progress (g.met.V.Versions.room c.loop-count.versions) (omega arith)

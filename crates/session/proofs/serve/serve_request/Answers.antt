@@ -42,4 +42,4 @@ returns-clause-exchange g c =
     c.answer-turned.ensures.turned)
     (kept_number c.args.talk.now.pin c.answer-turned.new.pin c.answer-turned.result c.answer-turned.ensures.kept)
     c.respond.ensures.put c.respond.ensures.numbers c.respond.ensures.rows
-    c.answer-turned.ensures.pin c.answer-turned.ensures.continues c.answer-turned.ensures.published c.answer-turned.ensures.told)
+    c.answer-turned.ensures.pin c.answer-turned.ensures.continues c.answer-turned.ensures.counts c.answer-turned.ensures.told)

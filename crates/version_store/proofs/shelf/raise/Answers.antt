@@ -11,4 +11,4 @@ store-requires g c =
     (search rules, search rules, raises_kept _ _ _ _ _ c.args.version.now _ p.0 p.1 c.requires.next f.0 f.1 n.0 n.1 c.requires.number)
 
 pub returns-clause-published : goal.returns-clause-published
-returns-clause-published g c = raised_once c.args.place.now.me _ c.args.version.now c.args.count c.store.ensures.2 c.requires.next c.requires.press.2
+returns-clause-published g c = raised_once c.args.place.now.me _ c.args.version.now c.args.count c.store.ensures.2.0 c.requires.next c.requires.press.2

@@ -1,7 +1,8 @@
 -- What becomes of all posts is what has become of those so far and will become of those that are left.
 use Rattle.std.proofs.Common.{◌≡◌, ℕ, map, length, All}
 use Rattle.version_store.specs.Growth.{IsPrefix}
-use Rattle.version_store.specs.Store.{seat_versions, press_versions}
+use Rattle.version_store.specs.Publishers.{numbers_of}
+use Rattle.version_store.specs.Store.{seat_versions, seat_number, seat_numbers, press_versions, press_publishers, press_keeper, KeepsPublishers}
 use Rattle.workers.specs.Closing.{MayTakeBack, TakesAllBack, CountsAllBack}
 use Rattle.workers.proofs.closing.close_posts.Given as goal
 
@@ -15,4 +16,8 @@ invariant-loop-post g l = record {
   gathered : All (λ post. IsPrefix (seat_versions post.seat) (press_versions l.initial.press)) l.post-iterator.rest.items
       → All (λ post. IsPrefix (seat_versions post.seat) (press_versions l.initial.press)) l.fn.posts.items;
   kept : press_versions l.press ≡ press_versions l.initial.press;
+  numbers : All (λ post. seat_numbers post.seat ≡ numbers_of (seat_number post.seat) (press_publishers l.initial.press)) l.post-iterator.rest.items
+      → All (λ post. seat_numbers post.seat ≡ numbers_of (seat_number post.seat) (press_publishers l.initial.press)) l.fn.posts.items;
+  publishers : KeepsPublishers l.initial.press l.press;
+  keeper : press_keeper l.press ≡ press_keeper l.initial.press;
 }

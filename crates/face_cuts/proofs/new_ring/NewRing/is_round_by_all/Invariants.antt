@@ -5,4 +5,4 @@ use Rattle.face_cuts.proofs.new_ring.NewRing.is_round_by_all.Given as goal
 
 -- of the arc and of the sides so far
 abbrev pub invariant-loop-side : goal.invariant-loop-side
-invariant-loop-side l = l.odd ≡ are_round l.probe (segments_of l.self.points.now ++ ring_segments (lines_of l.self.arcs.now) (take l.side-index l.self.walk.now))
+invariant-loop-side g l = l.odd ≡ are_round l.probe (segments_of l.self.points.now ++ ring_segments (lines_of (g.T.ArcTable.arcs l.table)) (take l.side-index l.self.walk.now))

@@ -45,6 +45,7 @@ invariant_of-self g c =
         ap (λ (d : Known g.row.V.Denot). d.limit) now ∙ ap (λ (d : Known g.row.V.Denot). d.limit) sees.same ∙ s.seated.1,
         s.seated.2,
       );
+      called = ap (λ (d : Known g.row.V.Denot). d.publisher) now ∙ ap (λ (d : Known g.row.V.Denot). d.publisher) sees.same ∙ s.called;
       counted = (
         ap (λ (l : List g.row.V.Denot). length l) list ∙ sees.count,
         (let r = sees.room in let b = s.seated.1 in omega arith),

@@ -10,6 +10,7 @@ invariant_of-self g c = record {
   of_store = search rules;
   sized = search rules;
   seated = search rules;
+  called = search rules;
   newest_is = search rules;
   counted = search rules;
   numbered = search rules;

@@ -1,0 +1,2 @@
+pub mod JournalFolds
+pub mod Made

@@ -1,0 +1,6 @@
+use Rattle.step_laws.proofs.EachSlice.{slices_stay_partitions}
+use Rattle.picture_laws.proofs.FaceTold.{lowest_edge_tells_face_by}
+use Rattle.picture_laws.proofs.places.lowest_edge_tells_face.Goals as goal
+
+pub returns : goal.returns
+returns c = lowest_edge_tells_face_by slices_stay_partitions

@@ -1,0 +1,65 @@
+-- Laws of the rings of a face: which points they enclose, and how often they go round a point.
+use Rattle.std.specs.Prelude.{◌≡◌, ◌≢◌, ◌≤◌, ℕ, ℤ, pos, neg_ℤ, ◌+ℤ◌, List, flat_map, fold, length, count_by, All, if◌then◌else◌, IsTrue}
+use Rattle.lemmas.specs.Parity.{is_odd}
+use Rattle.tgap_model.specs.declared.geometry.Fraction.{Fraction}
+use Rattle.tgap_model.specs.declared.geometry.Point.{Point}
+use Rattle.tgap_model.specs.declared.geometry.Seg.{Seg}
+use Rattle.tgap_model.specs.Base.{BaseMap, is_base, same_point}
+use Rattle.tgap_model.specs.Segment.{IsBetweenColumns, line_through, goes_right}
+use Rattle.tgap_model.specs.Partition.{IsPartition, base_segments, edge_segments}
+use Rattle.tgap_model.specs.History.{history_of}
+use Rattle.tgap_model.specs.Slice.{slice}
+use Rattle.map_laws.specs.Inside.{is_inside}
+use Rattle.removal_laws.specs.InsideLaws.{is_over}
+use Rattle.ring_walk.specs.declared.side.Side.{Side}
+use Rattle.ring_walk.specs.Rings.{rings_of}
+use Rattle.ring_walk.specs.Areas.{ring_area, ring_segments}
+use Rattle.topo_write.specs.Polygons.{lines_of, of_face}
+use Rattle.topo_laws.specs.RingFaces.{slice_spans}
+use Rattle.picture_laws.specs.Areas.{area_in}
+
+-- the rings of a face of a slice
+abbrev pub face_rings : BaseMap → ℕ → ℕ → List (List Side)
+face_rings m k f = of_face (slice_spans m k) f (rings_of (slice_spans m k))
+
+-- the segments of all of them, each in the direction of its ring, which has the face at its left
+abbrev pub face_segments : BaseMap → ℕ → ℕ → List Seg
+face_segments m k f = flat_map (ring_segments (lines_of (slice m k).edges)) (face_rings m k f)
+
+-- what a segment over a point adds to the number of times that rings go round it: 1 where it goes to the left, -1 where it goes
+-- to the right
+abbrev pub winding_part : Fraction → Seg → ℤ
+winding_part p s = if is_over p s then (if goes_right s then neg_ℤ (pos 1) else pos 1) else pos 0
+
+-- how often rings of these segments go round a point, counter-clockwise
+abbrev pub winding : Fraction → List Seg → ℤ
+winding p segments = fold (λ sum s. sum +ℤ winding_part p s) (pos 0) segments
+
+-- ---- the laws
+
+-- A point is inside a face exactly where the ray up from it crosses an odd number of the segments of the face's rings.
+abbrev pub RingsCoverFaces : Type 0
+RingsCoverFaces =
+    (m : BaseMap) → IsTrue (is_base m) → IsPartition (base_segments m) → (k : ℕ) → k ≤ length (history_of m)
+    → (f : ℕ) (p : Fraction) → is_inside (edge_segments (slice m k).edges) f p ≡ is_odd (count_by (is_over p) (face_segments m k f))
+
+-- Between whole abscissas the rings of a face together go round each point inside it once, counter-clockwise, and round no other.
+abbrev pub RingsWindOnce : Type 0
+RingsWindOnce =
+    (m : BaseMap) → IsTrue (is_base m) → IsPartition (base_segments m) → (k : ℕ) → k ≤ length (history_of m)
+    → (f : ℕ) → f ≢ 0 → (p : Fraction) → IsBetweenColumns (line_through p)
+    → winding p (face_segments m k f) ≡ (if is_inside (edge_segments (slice m k).edges) f p then pos 1 else pos 0)
+
+-- The areas of the rings of a face together, of which those round holes are negative, are the area of the face.
+abbrev pub RingAreasAdd : Type 0
+RingAreasAdd =
+    (m : BaseMap) → IsTrue (is_base m) → IsPartition (base_segments m) → (k : ℕ) → k ≤ length (history_of m)
+    → (f : ℕ) → fold (λ sum r. sum +ℤ ring_area (lines_of (slice m k).edges) r) (pos 0) (face_rings m k f) ≡ area_in (slice m k).edges f
+
+-- A ring of a slice is closed: at each point as many of its segments begin as end.
+abbrev pub RingsAreClosed : Type 0
+RingsAreClosed =
+    (m : BaseMap) → IsTrue (is_base m) → IsPartition (base_segments m) → (k : ℕ) → k ≤ length (history_of m)
+    → All (λ ring. (v : Point)
+    → count_by (λ s. same_point s.a v) (ring_segments (lines_of (slice m k).edges) ring)
+    ≡ count_by (λ s. same_point s.b v) (ring_segments (lines_of (slice m k).edges) ring)) (rings_of (slice_spans m k))

@@ -1,0 +1,23 @@
+//! Laws of the rings of a face.
+
+ghost use Rattle.picture_laws.specs.FaceRings.{RingsCoverFaces, RingsWindOnce, RingAreasAdd, RingsAreClosed};
+
+/// A point is inside a face of a slice exactly where the ray up from it crosses an odd number of the segments of the face's rings.
+pub fn rings_cover_faces()
+    ensures { RingsCoverFaces }
+{}
+
+/// Between whole abscissas the rings of a face together go round each point inside it once, counter-clockwise, and round no other.
+pub fn rings_wind_once()
+    ensures { RingsWindOnce }
+{}
+
+/// The areas of the rings of a face together, of which those round holes are negative, are the area of the face.
+pub fn ring_areas_add()
+    ensures { RingAreasAdd }
+{}
+
+/// A ring of a slice is closed: at each point as many of its segments begin as end.
+pub fn rings_are_closed()
+    ensures { RingsAreClosed }
+{}
