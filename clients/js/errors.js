@@ -62,3 +62,19 @@ export class Unreachable extends Error {
     return new Unreachable(said || OF_A_FRONT_SERVER.get(status), status, said);
   }
 }
+
+/** What a client tells who listens: `version`, `history` or `unreachable` with the members of an error, or another event. */
+export class Told extends Event {
+  constructor(type, members) {
+    super(type);
+    Object.assign(this, members);
+  }
+
+  /** The event that goes with an error; null where none does. */
+  static of(error) {
+    if (error instanceof OtherVersion) return new Told("version", { version: error.version });
+    if (error instanceof OtherHistory) return new Told("history", { version: error.version, history: error.history, published: error.published });
+    if (error instanceof Unreachable) return new Told("unreachable", { reason: error.message, status: error.status, said: error.said });
+    return null;
+  }
+}

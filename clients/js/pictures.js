@@ -4,7 +4,7 @@
 // A ring is not led round a face, since a window has only parts of the borders of its faces. Each border is closed by a curtain down to the foot of the picture
 // instead: whether a point lies in a class is whether the number of curtains over it is odd.
 
-import { boxOf, highestAt, lowestAbove } from "./places.js";
+import { boxOf, highestAt, holdsPlace, lowestAbove } from "./places.js";
 
 /** The points of a line on one side of a vertical (axis 0) or horizontal (axis 1) limit, cut exactly at it: the rows of points that stay together. */
 function cutAt(points, axis, limit, sign) {
@@ -31,6 +31,8 @@ function cutAt(points, axis, limit, sign) {
 
 /** The parts of a line that lie in a box. */
 export function partsIn(points, box) {
+  // Most lines are whole in it.
+  if (points.every(([x, y]) => holdsPlace(box, x, y))) return [points];
   return cutAt(points, 1, box.y1, 1)
     .flatMap((part) => cutAt(part, 0, box.x0, -1))
     .flatMap((part) => cutAt(part, 0, box.x1, 1))
@@ -51,18 +53,46 @@ export function pictureOfSlice(slice, seen) {
  */
 export async function pictureOfWindow(window, seen, ask) {
   const { x0, y0, x1, y1 } = window.area;
-  // Half a unit within the window no vertex lies on the frame, and no border runs along it.
-  const box = { x0: x0 + 0.5, y0: y0 + 0.5, x1: x1 - 0.5, y1: y1 - 0.5 };
-  const edges = [...window.edges.values()];
-  const lines = edges.flatMap((edge) => partsIn(edge.points, box).map((points) => ({ points, left: edge.left, right: edge.right })));
+  if (x1 - x0 < 2 || y1 - y0 < 2) throw new RangeError("what is drawn of a window is two units wide and high at least");
+  return pictureAtOnce(window, seen) ?? pictureAtOnce(window, seen, await ask(x0 + 1, y1 - 1));
+}
+
+/** The same without asking: `found` is the face and class of the window's corner. Null where no border runs through the window and it is not given. */
+export function pictureAtOnce(window, seen, found = null) {
+  const drawn = drawnOf(window);
+  const corner = drawn.corner ?? found?.face ?? null;
+  if (corner === null) return null;
   const faces = new Map(window.faces);
-  let corner = faceOfCorner(lines, box);
-  if (corner === null) {
-    const found = await ask(x0 + 1, y1 - 1);
-    corner = found.face;
-    if (corner !== 0) faces.set(corner, found.ofClass);
-  }
-  return new Picture({ seen, step: window.step, area: window.area, faces, edges, lines, box, corner });
+  if (drawn.corner === null && corner !== 0) faces.set(corner, found.ofClass);
+  return new Picture({ seen, step: window.step, area: { ...window.area }, faces, edges: [...window.edges.values()], ...drawn, corner });
+}
+
+/** Half a unit within a window no vertex lies on the frame, and no border runs along it. */
+const frameOf = ({ x0, y0, x1, y1 }) => ({ x0: x0 + 0.5, y0: y0 + 0.5, x1: x1 - 0.5, y1: y1 - 0.5 });
+
+/** What is drawn of a window: the parts of its edges in a box, and the face in the upper left corner of this; null where no border runs through it. */
+function drawnOf(window) {
+  const box = frameOf(window.area);
+  const lines = [...window.edges.values()].flatMap((edge) => partsIn(edge.points, box).map((points) => ({ points, left: edge.left, right: edge.right })));
+  return { lines, box, corner: faceOfCorner(lines, box) };
+}
+
+/**
+ * The face at a place within a window, more than half a unit away from its frame; null where the place is not there. `corner` is the face that all of the window lies
+ * in, where no border runs through it; null where that is not known, and then the answer may be null too.
+ */
+export function faceWithin(window, x, y, corner) {
+  const box = frameOf(window.area);
+  if (!holdsPlace(box, x, y)) return null;
+  const { lines, corner: found } = drawnOf(window);
+  return faceIn(lines, passagesThroughTop(lines, box), found ?? corner, x, y);
+}
+
+/** The face at a place in a box, by the lines in it, their passages through its top, and the face in its upper left corner. */
+function faceIn(lines, passages, corner, x, y) {
+  const above = lowestAbove(lines, x, y);
+  if (above) return above.below;
+  return lastUpTo(passages, x)?.east ?? corner;
 }
 
 /** Where lines come through the top of a box: `x`, and the faces `west` and `east`. */
@@ -108,9 +138,7 @@ class Picture {
 
   /** The face at a point of the picture, 0 outside. The point need not be one of the grid. */
   faceAt(x, y) {
-    const above = lowestAbove(this.lines, x, y);
-    if (above) return above.below;
-    return lastUpTo(this.passages, x)?.east ?? this.corner;
+    return faceIn(this.lines, this.passages, this.corner, x, y);
   }
 
   /** The rings of each class. */

@@ -1,5 +1,16 @@
 // Which face a point lies in, by the borders above it. Points and borders are in grid units, with y upwards.
 
+import { Refused } from "./errors.js";
+
+/** The greatest coordinate of a map. */
+export const FARTHEST = 2 ** 31;
+
+// A face of any map is whole in a window that has been doubled so often.
+const DOUBLINGS = 33;
+
+/** The coordinate of a map that is next to a number. */
+export const within = (z) => Math.max(-FARTHEST, Math.min(FARTHEST, z));
+
 /**
  * The places where lines cross the vertical line just right of x: `y`, `slope`, and the faces `above` and `below`. A line is anything with `points`,
  * `left` and `right`. A segment counts from its left end on and not at its right end, so a vertex counts once and a vertical segment never.
@@ -82,4 +93,37 @@ export function areaOf(face, edges) {
     }
   }
   return twice / 2;
+}
+
+export const holdsPlace = ({ x0, y0, x1, y1 }, x, y) => x0 <= x && x <= x1 && y0 <= y && y <= y1;
+
+/** A box of twice the width and height round another one, within the limits of a map. */
+function wider({ x0, y0, x1, y1 }) {
+  const [w, h] = [Math.ceil((x1 - x0 + 1) / 2), Math.ceil((y1 - y0 + 1) / 2)];
+  return { x0: within(x0 - w), y0: within(y0 - h), x1: within(x1 + w), y1: within(y1 + h) };
+}
+
+/**
+ * All edges of a face, of which `edges` are known and at least one is: `client` is asked for windows that grow until the outer ring of the face is whole. They must
+ * be of the version that is shown.
+ */
+export async function edgesOfFace(client, face, step, edges, options) {
+  const { version, history } = client;
+  const beside = (all) => [...all].filter((edge) => edge.left === face || edge.right === face);
+  let known = beside(edges);
+  let box = boxOf(known);
+  for (let i = 0; i < DOUBLINGS; i++) {
+    const window = await client.window(step, box, options);
+    client.keepTo({ version, history });
+    known = beside(window.edges.values());
+    const around = joinBoxes(box, boxOf(known));
+    if (holdsBox(box, around)) {
+      // All rings that touch the box are whole; a face with holes alone in it lies round the box.
+      if (areaOf(face, known) > 0) return known;
+      box = wider(box);
+    } else {
+      box = around;
+    }
+  }
+  throw new Refused(503, "the face is too large");
 }

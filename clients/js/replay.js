@@ -6,6 +6,7 @@ import { samePoint } from "./wire.js";
 export class Unfit extends Error {
   constructor(step, rule) {
     super(`the record of step ${step} breaks rule ${rule}`);
+    this.name = "Unfit";
     this.step = step;
     this.rule = rule;
   }
@@ -15,19 +16,14 @@ const ascend = (numbers) => numbers.every((number, i) => i === 0 || numbers[i - 
 
 const hasSide = (edge, face) => edge.left === face || edge.right === face;
 
-/** A slice with a look-up of the edges at each face, so that a record costs what it changes. */
-export class Refined {
-  constructor(slice) {
-    this.step = slice.step;
-    this.faces = new Map(slice.faces);
+/** Faces and edges with a look-up of the edges at each face, so that a record costs what it changes. */
+class Changing {
+  constructor({ step, faces, edges }) {
+    this.step = step;
+    this.faces = new Map(faces);
     this.edges = new Map();
     this.beside = new Map();
-    for (const edge of slice.edges.values()) this.#put(edge);
-  }
-
-  /** A copy that shares the edges, which never change. */
-  copy() {
-    return new Refined(this);
+    for (const edge of edges.values()) this.#put(edge);
   }
 
   /** The edges at a face. */
@@ -53,23 +49,53 @@ export class Refined {
 
   /** The least rule that the record breaks, from 1; 0 where it fits. */
   brokenRule(record) {
-    const rules = [fitsStep, fitsFaces, fitsMends, fitsPuts, fitsPieces, fitsEnded, fitsKeys];
-    return 1 + rules.findIndex((fits) => !fits(this, record));
+    return this.test(record).rule;
   }
 
-  /** Takes the slice one step back; throws Unfit and changes nothing where the record does not fit. */
+  /** Takes it one step back; throws Unfit and changes nothing where the record does not fit. */
   undo(record) {
-    const rule = this.brokenRule(record);
+    const { rule, gone, come } = this.test(record);
     if (rule !== 0) throw new Unfit(record.step, rule);
+    for (const edge of gone) this.#take(edge);
+    for (const edge of come) this.#put(edge);
+    this.changeFaces(record, gone);
+    this.step -= 1;
+  }
+
+  /** What undoing the record makes of the edges at the face that was made: those that go, and those that each of them becomes. */
+  become(record) {
     const mends = new Map(record.mends.map((mend) => [mend.key, mend]));
-    const old = this.edgesAt(record.made);
-    const come = old.flatMap((edge) => refined(record, mends.get(edge.key), edge));
-    for (const edge of old) this.#take(edge);
-    for (const edge of [...come, ...record.ended]) this.#put(edge);
+    const gone = this.edgesAt(record.made);
+    return { gone, kept: gone.flatMap((edge) => this.keeps(refined(record, mends.get(edge.key), edge), mends.has(edge.key))) };
+  }
+}
+
+/** The least of the rules that a record breaks, from 1; 0 where it breaks none. */
+const leastBroken = (rules, changing, record) => 1 + rules.findIndex((fits) => !fits(changing, record));
+
+/** A slice that packets refine. */
+export class Refined extends Changing {
+  /** A copy that shares the edges, which never change. */
+  copy() {
+    return new Refined(this);
+  }
+
+  /** The least rule that the record breaks, and where there is none, which edges go and come. */
+  test(record) {
+    const rule = leastBroken([fitsStep, fitsFaces, fitsMends, fitsPuts, fitsPieces, fitsEnded, fitsKeys], this, record);
+    if (rule !== 0) return { rule };
+    const { gone, kept } = this.become(record);
+    return { rule, gone, come: [...kept, ...record.ended] };
+  }
+
+  keeps(pieces) {
+    return pieces;
+  }
+
+  changeFaces(record) {
     this.faces.delete(record.made);
     this.faces.set(record.loser, record.loserClass);
     this.faces.set(record.winner, record.winnerClass);
-    this.step -= 1;
   }
 
   /** Undoes the records of a packet that begins at this slice, as far as they fit. */
@@ -80,12 +106,16 @@ export class Refined {
 }
 
 /** The window of a slice, which packets of that window refine: what they do not say is for which window they are, so that of another one is refused here. */
-export class RefinedWindow {
+export class RefinedWindow extends Changing {
+  // Faces without an edge, which the first record takes away, and faces at edges that have no row, which no record forgives.
+  #idle;
+  #untold;
+
   constructor(window) {
+    super(window);
     this.area = { ...window.area };
-    this.step = window.step;
-    this.faces = new Map(window.faces);
-    this.edges = new Map(window.edges);
+    this.#idle = [...this.faces.keys()].filter((face) => !this.beside.has(face));
+    this.#untold = [...this.beside.keys()].filter((face) => face !== 0 && !this.faces.has(face));
   }
 
   /** A copy that shares the edges, which never change. */
@@ -93,40 +123,44 @@ export class RefinedWindow {
     return new RefinedWindow(this);
   }
 
-  /** What undoing the record makes of the edges, without those that come: the pieces of mended edges as far as they touch the window, and all other edges. */
-  #kept(record) {
-    const mends = new Map(record.mends.map((mend) => [mend.key, mend]));
-    return [...this.edges.values()].flatMap((edge) => {
-      const mend = mends.get(edge.key);
-      const become = refined(record, mend, edge);
-      return mend ? become.filter((piece) => touches(this.area, piece.points)) : become;
-    });
+  /** The least rule that the record breaks, and where there is none, which edges go and come. */
+  test(record) {
+    const rule = leastBroken([fitsStep, fitsFacesIn, fitsMends, fitsPuts, fitsPieces, fitsComes], this, record);
+    if (rule !== 0) return { rule };
+    const { gone, kept } = this.become(record);
+    const come = [...kept, ...record.comes];
+    if (!this.#fitsKeysIn(gone, come)) return { rule: 7 };
+    return this.#fitsRows(record, gone, come) ? { rule: 0, gone, come } : { rule: 8 };
   }
 
-  /** The rows, old and new, of the faces beside these edges. */
-  #rows(record, edges) {
-    const beside = new Set(edges.flatMap((edge) => [edge.left, edge.right]));
-    return new Map([...this.faces, ...record.faces].filter(([face]) => beside.has(face)));
+  /** Pieces of a mended edge are kept as far as they touch the window. */
+  keeps(pieces, isMended) {
+    return isMended ? pieces.filter((piece) => touches(this.area, piece.points)) : pieces;
   }
 
-  /** The least rule that the record breaks, from 1; 0 where it fits. */
-  brokenRule(record) {
-    const rule = 1 + [fitsStep, fitsFacesIn, fitsMends, fitsPuts, fitsPieces, fitsComes].findIndex((fits) => !fits(this, record));
-    if (rule !== 0) return rule;
-    const edges = [...this.#kept(record), ...record.comes];
-    if (new Set(edges.map((edge) => edge.key)).size !== edges.length) return 7;
-    const rows = this.#rows(record, edges);
-    return edges.every(({ left, right }) => [left, right].every((face) => face === 0 || rows.has(face))) ? 0 : 8;
+  /** Whether no key is there twice when these edges have gone and come. */
+  #fitsKeysIn(gone, come) {
+    const free = new Set(gone.map((edge) => edge.key));
+    const keys = new Set(come.map((edge) => edge.key));
+    return keys.size === come.length && [...keys].every((key) => free.has(key) || !this.edges.has(key));
   }
 
-  /** Takes the window one step back; throws Unfit and changes nothing where the record does not fit. */
-  undo(record) {
-    const rule = this.brokenRule(record);
-    if (rule !== 0) throw new Unfit(record.step, rule);
-    const edges = [...this.#kept(record), ...record.comes];
-    this.faces = this.#rows(record, edges);
-    this.edges = new Map(edges.map((edge) => [edge.key, edge]));
-    this.step -= 1;
+  /** Whether each face beside an edge has a row, old or new, when these edges have gone and come. */
+  #fitsRows(record, gone, come) {
+    const rows = new Set(record.faces.map(([face]) => face));
+    const hasRow = (face) => face === 0 || rows.has(face) || this.faces.has(face);
+    if (!come.every(({ left, right }) => hasRow(left) && hasRow(right))) return false;
+    const keys = new Set(gone.map((edge) => edge.key));
+    return this.#untold.every((face) => hasRow(face) || [...this.beside.get(face)].every((key) => keys.has(key)));
+  }
+
+  /** Of all rows, old and new, those of faces beside an edge are kept. */
+  changeFaces(record, gone) {
+    for (const [face, ofClass] of record.faces) this.faces.set(face, ofClass);
+    const faces = [...this.#idle, ...record.faces.map(([face]) => face), ...gone.flatMap(({ left, right }) => [left, right])];
+    for (const face of faces) if (!this.beside.has(face)) this.faces.delete(face);
+    this.#idle = [];
+    this.#untold = [];
   }
 
   /** Undoes the records of a packet of this window that begins at its step, as far as they fit. */
@@ -137,10 +171,24 @@ export class RefinedWindow {
   }
 }
 
+/** The part of a window that a rectangle within its area shows: that rectangle's own window of the same step. */
+export function clipped(window, area) {
+  const edges = new Map([...window.edges].filter(([, edge]) => touches(area, edge.points)));
+  const beside = new Set([...edges.values()].flatMap((edge) => [edge.left, edge.right]));
+  return new RefinedWindow({ area, step: window.step, faces: [...window.faces].filter(([face]) => beside.has(face)), edges });
+}
+
 /** Whether the bounding box of the points overlaps or touches the window. */
-function touches({ x0, y0, x1, y1 }, points) {
-  const some = (holds) => points.some(holds);
-  return some(([x]) => x <= x1) && some(([x]) => x >= x0) && some(([, y]) => y <= y1) && some(([, y]) => y >= y0);
+export function touches({ x0, y0, x1, y1 }, points) {
+  let [below, right, above, left] = [true, true, true, true];
+  for (const [x, y] of points) {
+    if (x >= x0) left = false;
+    if (x <= x1) right = false;
+    if (y >= y0) below = false;
+    if (y <= y1) above = false;
+    if (!left && !right && !below && !above) return true;
+  }
+  return false;
 }
 
 function refined(record, mend, edge) {

@@ -1,71 +1,8 @@
 // The texts of slices, windows and packets, read and written (docs/formats.md). A reader throws BadText with the first line that is not of its form.
 
-const MAX_COUNT = 0xffffffff;
-const MAX_COORDINATE = 2 ** 31;
+import { BadText, Lines } from "./lines.js";
 
-/** A text that is none of its kind: `line` is the first line, from 1, that is not what must come there. */
-export class BadText extends Error {
-  constructor(line) {
-    super(`line ${line} is not what must come there`);
-    this.line = line;
-  }
-}
-
-/** A number as it is written: the shortest way, in decimal, from `least` to `most`; null for any other word. */
-function numberOf(word, least, most) {
-  if (!/^(0|-?[1-9][0-9]*)$/.test(word ?? "")) return null;
-  const number = Number(word);
-  return number >= least && number <= most ? number : null;
-}
-
-/** The lines of a text, one after the other, each cut into words. */
-class Lines {
-  constructor(text) {
-    this.lines = text.split("\n");
-    this.number = 0;
-  }
-
-  fail() {
-    throw new BadText(this.number);
-  }
-
-  /** The words of the next line, which must begin with `first` and have `count` words after it, or any number. */
-  next(first, count) {
-    this.number += 1;
-    // What stands behind the last line feed is no line.
-    if (this.number >= this.lines.length) this.fail();
-    const words = this.lines[this.number - 1].split(" ");
-    if (words.shift() !== first || (count !== undefined && words.length !== count)) this.fail();
-    return words;
-  }
-
-  bounded(word, least, most) {
-    const number = numberOf(word, least, most);
-    if (number === null) this.fail();
-    return number;
-  }
-
-  count(word) {
-    return this.bounded(word, 0, MAX_COUNT);
-  }
-
-  coordinate(word) {
-    return this.bounded(word, -MAX_COORDINATE, MAX_COORDINATE);
-  }
-
-  point(words, at) {
-    return [this.coordinate(words[at]), this.coordinate(words[at + 1])];
-  }
-
-  /** The line `end`, and nothing after it. */
-  end() {
-    this.next("end", 0);
-    if (this.lines.length !== this.number + 1 || this.lines[this.number] !== "") {
-      this.number += 1;
-      this.fail();
-    }
-  }
-}
+export { BadText };
 
 function readFaces(lines) {
   const count = lines.count(lines.next("faces", 1)[0]);
@@ -172,7 +109,7 @@ export function readPacket(text) {
 
 function readWindowRecord(lines, expected) {
   const [step, loser, winner, made, faceCount, mendCount, comeCount] = lines.next("step", 7).map((word) => lines.count(word));
-  if (step !== expected) lines.fail();
+  if (expected !== undefined && step !== expected) lines.fail();
   const record = { step, loser, winner, made, faces: [], mends: [], comes: [] };
   for (let i = 0; i < faceCount; i++) record.faces.push(lines.next("face", 2).map((word) => lines.count(word)));
   for (let i = 0; i < mendCount; i++) record.mends.push(readMend(lines));
@@ -180,17 +117,58 @@ function readWindowRecord(lines, expected) {
   return record;
 }
 
-/** A packet of a window: as a packet, with its `area`, and in its records the rows of `faces` and the edges (`comes`) that come into the window. */
-export function readWindowPacket(text) {
-  const lines = new Lines(text);
+/** The first line of a packet of a window. */
+function readPacketOfWindow(lines) {
   const words = lines.next("window-packet", 6);
   const [from, to] = words.slice(0, 2).map((word) => lines.count(word));
   const [x0, y0, x1, y1] = words.slice(2).map((word) => lines.coordinate(word));
   if (from < to) lines.fail();
+  return { from, to, area: { x0, y0, x1, y1 } };
+}
+
+/** A packet of a window: as a packet, with its `area`, and in its records the rows of `faces` and the edges (`comes`) that come into the window. */
+export function readWindowPacket(text) {
+  const lines = new Lines(text);
+  const { from, to, area } = readPacketOfWindow(lines);
   const records = [];
   for (let step = from; step > to; step--) records.push(readWindowRecord(lines, step));
   lines.end();
-  return { from, to, area: { x0, y0, x1, y1 }, records };
+  return { from, to, area, records };
+}
+
+/** The records of a packet from which those that change nothing may be left out. */
+function readSparseRecords(lines, from, to) {
+  const records = [];
+  while (lines.begins("step")) {
+    const record = readWindowRecord(lines);
+    const last = records.length === 0 ? from + 1 : records.at(-1).step;
+    if (record.step >= last || record.step <= to) lines.fail();
+    records.push(record);
+  }
+  lines.next("end", 0);
+  return records;
+}
+
+/** Rows that tell in which face the inside of a cell lies from a step on, by descending step. */
+function readInside(lines, from, to) {
+  const count = lines.count(lines.next("inside", 1)[0]);
+  const rows = [];
+  for (let i = 0; i < count; i++) {
+    const [step, face, ofClass] = lines.next("at", 3).map((word) => lines.count(word));
+    if (step > (rows.length === 0 ? from : rows.at(-1).step - 1) || step < to) lines.fail();
+    rows.push({ step, face, ofClass: face === 0 ? null : ofClass });
+  }
+  return rows;
+}
+
+/** A cell of an archive: a packet of a window without the records that change nothing, and the faces of its `inside`. */
+export function readCell(text) {
+  const lines = new Lines(text);
+  const { from, to, area } = readPacketOfWindow(lines);
+  const records = readSparseRecords(lines, from, to);
+  const inside = readInside(lines, from, to);
+  lines.end();
+  return { from, to, area, records, inside };
 }
 
 /** The numbers in the answer to `/info`. */

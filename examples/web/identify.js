@@ -6,12 +6,13 @@ const L = window.L;
 // A second click within this time is a double click, which zooms.
 const MILLISECONDS_OF_A_DOUBLE_CLICK = 250;
 
-const DIGITS = new Intl.NumberFormat("en", { maximumSignificantDigits: 6 });
+// So many attributes of an area are told at most.
+const MOST_ATTRIBUTES = 8;
 
 export class Identify {
   /** `isWanted` tells whether a click asks what is there, and `failed` is told where an area cannot be had. */
-  constructor(sheet, detail, panel, { isWanted, failed }) {
-    Object.assign(this, { sheet, detail, panel, failed });
+  constructor(sheet, detail, known, { isWanted, failed }) {
+    Object.assign(this, { sheet, detail, known, failed });
     this.popup = L.popup({ minWidth: 160 });
     this.waiting = null;
     sheet.map.on("click", ({ latlng }) => {
@@ -31,14 +32,14 @@ export class Identify {
     const { picture } = this.sheet;
     if (!picture) return;
     const face = picture.faceAt(latlng.lng, latlng.lat);
-    const place = this.sheet.inSource([latlng.lng, latlng.lat]).join(", ");
+    const place = this.sheet.told([latlng.lng, latlng.lat]);
     this.told = picture;
     const rows = { Place: place, Step: picture.step, Version: picture.version };
     if (face === 0) return this.#open(latlng, { Face: "none: outside the map", ...rows });
-    const known = { Face: face, Class: this.panel.nameOf(picture.faces.get(face)) };
+    const known = { ...this.#named(face), Class: this.known.nameOfClass(picture.faces.get(face)) };
     this.#open(latlng, { ...known, Area: "\u2026", ...rows });
     try {
-      const area = this.#inSource(areaOf(face, await this.detail.edgesOf(face)));
+      const area = this.known.area(areaOf(face, await this.detail.edgesOf(face)));
       if (this.told === picture && this.popup.isOpen()) this.#open(latlng, { ...known, Area: area, ...rows });
     } catch (error) {
       this.popup.remove();
@@ -46,9 +47,11 @@ export class Identify {
     }
   }
 
-  #inSource(area) {
-    const [sx, sy] = this.sheet.settings.scale;
-    return DIGITS.format(area * Math.abs(sx * sy));
+  /** The name of a face, or its number where it has none, and its attributes, but for the one that its class is of. */
+  #named(face) {
+    const { name, attributes } = this.known.areaOf(face);
+    const told = Object.entries(attributes).filter(([key, value]) => value !== null && key !== this.known.property).slice(0, MOST_ATTRIBUTES);
+    return { [name === null ? "Face" : "Name"]: name ?? face, ...Object.fromEntries(told) };
   }
 
   #open(latlng, rows) {

@@ -1,9 +1,10 @@
 // The page: what is seen decides what is asked for, and what is asked for is drawn.
 
-import { Client, OtherHistory } from "./clients/js/client.js";
-import { Detail } from "./detail.js";
+import { OtherHistory } from "./clients/js/errors.js";
+import { holdsBox } from "./clients/js/places.js";
 import { Identify } from "./identify.js";
 import { Moving } from "./moving.js";
+import { opened } from "./opening.js";
 import { Panel } from "./panel.js";
 import { Sheet } from "./sheet.js";
 import { wordsOf, wordsOfEdit } from "./words.js";
@@ -13,30 +14,57 @@ const SECONDS_BETWEEN_NEWS = 10;
 
 const element = (id) => document.getElementById(id);
 
-const settings = await (await fetch("settings.json")).json();
-const client = new Client(new URL("map/", document.baseURI).href);
-const panel = new Panel(settings);
-const sheet = new Sheet(element("map"), settings, () => detail.look(sheet.box, sheet.density));
+// Where nothing can be opened, it is tried again.
+const SECONDS_TO_WAIT = 3;
+
+/** What the page shows, as soon as it can be opened. */
+async function openedInTheEnd() {
+  for (;;) {
+    try {
+      return await opened();
+    } catch (error) {
+      element("state").textContent = wordsOf(error);
+      await new Promise((resolve) => setTimeout(resolve, SECONDS_TO_WAIT * 1000));
+    }
+  }
+}
+
+const { client, known, Detail, isArchive } = await openedInTheEnd();
+const panel = new Panel(known);
+const sheet = new Sheet(element("map"), known, () => detail.look(sheet.box, sheet.density));
+const ofAnother = isArchive ? "Another archive of the map is there, of version" : "The server was started anew, with version";
 
 const detail = new Detail(client, {
-  begins: (bounds) => sheet.setHome(bounds),
+  begins: begin,
   shows: show,
-  works: () => panel.showProgress(detail.working && !detail.settled, detail.progress),
+  works: () => panel.showProgress(detail.working && !detail.complete, detail.progress),
   fails: (error) => panel.complain("server", wordsOf(error)),
   heals: () => panel.settle("server"),
   hears: (version) => panel.note("news", `Version ${version} of the map is there.`),
   published: (version) => panel.note("news", `Somebody else has published version ${version}. It is shown now.`),
-  restarted: (version) => panel.note("news", `The server was started anew, with version ${version}. It is shown now.`),
+  restarted: (version) => panel.note("news", `${ofAnother} ${version}. It is shown now.`),
 });
 
-const identify = new Identify(sheet, detail, panel, { isWanted: () => !moving.isOn, failed: tellFailure });
+const identify = new Identify(sheet, detail, known, { isWanted: () => !moving.isOn, failed: tellFailure });
 const moving = new Moving(sheet, element("moving"), publish);
+element("editing").hidden = isArchive;
+
+/** A version begins: what else is known of it is asked for beside it. */
+async function begin(bounds) {
+  sheet.setHome(bounds);
+  try {
+    known.add(await client.metadata());
+    sheet.tellAnew();
+  } catch {
+    // The map is shown by numbers then.
+  }
+}
 
 function show(picture) {
   sheet.show(picture);
   identify.show(picture);
   moving.show(picture);
-  panel.tell(picture, detail.info.steps);
+  panel.tell(picture, detail.info.steps, picture.area !== null && !holdsBox(picture.area, detail.bounds));
   // Last, since a wider view may want another picture.
   sheet.setHome(detail.bounds);
 }
@@ -79,5 +107,5 @@ setInterval(() => document.visibilityState === "visible" && detail.listen(), SEC
 window.addEventListener("focus", () => detail.listen());
 
 // For the tests, and for whoever looks behind the page.
-window.tgap = { client, detail, sheet };
+window.tgap = { client, detail, sheet, known };
 detail.work();

@@ -5,31 +5,30 @@ import { fillOf } from "./sheet.js";
 const element = (id) => document.getElementById(id);
 
 export class Panel {
-  constructor(settings) {
-    this.settings = settings;
+  constructor(known) {
+    this.known = known;
     this.notices = new Map();
-    document.title = settings.title;
-    element("title").textContent = settings.title;
+    document.title = known.title;
+    element("title").textContent = known.title;
   }
 
-  nameOf(ofClass) {
-    return this.settings.classes[ofClass] ?? `class ${ofClass}`;
-  }
-
-  /** Tells what is shown. */
-  tell(picture, steps) {
-    const where = picture.area ? "in this part" : "";
+  /** Tells what is shown, of all steps that there are, and whether it is a part of the map. */
+  tell(picture, steps, isPart) {
+    const where = isPart ? "in this part" : "";
     const faces = picture.faces.size;
     element("state").textContent = `Step ${picture.step} of ${steps}: ${faces} ${faces === 1 ? "face" : "faces"} ${where}`.trim() + ".";
     element("version").textContent = `Version ${picture.version}`;
     const classes = [...new Set(picture.faces.values())].sort((a, b) => a - b);
+    // Most pictures on the way to a finer step have the classes of the one before.
+    if (classes.join() === this.legend) return;
+    this.legend = classes.join();
     element("legend").replaceChildren(...classes.map((ofClass) => this.#legendRow(ofClass)));
   }
 
   #legendRow(ofClass) {
     const [row, box, name] = ["li", "i", "span"].map((tag) => document.createElement(tag));
     box.style.background = fillOf(ofClass);
-    name.textContent = this.nameOf(ofClass);
+    name.textContent = this.known.nameOfClass(ofClass);
     row.append(box, name);
     return row;
   }

@@ -22,6 +22,13 @@ export function fillOf(number) {
 
 const flip = ([x, y]) => [y, x];
 
+/** A text as Leaflet takes it, which is HTML. */
+function textOf(words) {
+  const element = document.createElement("span");
+  element.textContent = words;
+  return element.innerHTML;
+}
+
 const boundsOf = ({ x0, y0, x1, y1 }) => L.latLngBounds(flip([x0, y0]), flip([x1, y1]));
 
 /** A grid may have other units along y than along x: what is as long in the source is drawn as long. */
@@ -38,11 +45,11 @@ function roundLength(length) {
   return [5, 2, 1].find((digit) => digit * ten <= length) * ten;
 }
 
-/** Leaflet's scale, in the units of the source, whatever they are. */
+/** Leaflet's scale, in the units of the map, whatever they are. */
 const Scale = L.Control.Scale.extend({
   _updateMetric(most) {
     const length = roundLength(most);
-    this._updateScale(this._mScale, String(Number(length.toPrecision(1))), length / most);
+    this._updateScale(this._mScale, this.options.known.length(length), length / most);
   },
 });
 
@@ -53,19 +60,20 @@ function corner(position, element) {
 }
 
 export class Sheet {
-  /** `moved` is called after each move of the view, and `home` is the box of the whole map. */
-  constructor(element, settings, moved) {
-    this.settings = settings;
+  /** `known` is what is known of the map, `moved` is called after each move of the view, and `home` is the box of the whole map. */
+  constructor(element, known, moved) {
+    this.known = known;
     this.home = null;
     this.picture = null;
-    const crs = planeOf(settings.scale);
+    const crs = planeOf(known.scale);
     // A picture is never stretched to another scale on the way to it.
     this.map = L.map(element, { crs, zoomControl: false, zoomAnimation: false, zoomSnap: 0.25, maxZoom: CLOSEST, minZoom: FARTHEST, wheelPxPerZoomLevel: 100 });
-    this.canvas = L.canvas({ padding: 0.3 });
-    this.map.attributionControl.addAttribution(settings.attribution);
+    // What is drawn beyond the view costs time in each frame.
+    this.canvas = L.canvas({ padding: 0.1 });
+    this.map.attributionControl.addAttribution(textOf(known.attribution));
     L.control.zoom({ position: "topright" }).addTo(this.map);
     this.#addHome();
-    new Scale({ imperial: false, position: "bottomleft" }).addTo(this.map);
+    this.scale = new Scale({ imperial: false, position: "bottomleft", known }).addTo(this.map);
     this.#addCoordinates();
     this.map.on("move moveend", moved);
     this.map.on("moveend", () => this.#moved());
@@ -81,7 +89,7 @@ export class Sheet {
 
   /** How many square pixels a square grid unit has. */
   get density() {
-    const [sx, sy] = this.settings.scale;
+    const [sx, sy] = this.known.scale;
     return 4 ** this.map.getZoom() * Math.abs(sy / sx);
   }
 
@@ -111,14 +119,14 @@ export class Sheet {
     this.picture = picture;
   }
 
-  /** A place of the grid in the coordinates of the source, with as many decimals as the view can show. */
-  inSource([x, y]) {
-    const { scale, translate } = this.settings;
-    return [x, y].map((z, axis) => {
-      const step = Math.abs(scale[axis]) / 2 ** this.map.getZoom();
-      const decimals = Math.max(0, Math.min(9, Math.ceil(-Math.log10(step))));
-      return (z * scale[axis] + translate[axis]).toFixed(decimals);
-    });
+  /** A place of the grid as it is told, with as many decimals as the view can show. */
+  told(place) {
+    return this.known.place(place, 2 ** this.map.getZoom()).join(", ");
+  }
+
+  /** More is known of the map. */
+  tellAnew() {
+    this.scale._update();
   }
 
   #addHome() {
@@ -135,7 +143,7 @@ export class Sheet {
   #addCoordinates() {
     const place = L.DomUtil.create("div", "coordinates");
     this.map.on("mousemove", ({ latlng }) => {
-      place.textContent = this.inSource([latlng.lng, latlng.lat]).join(", ");
+      place.textContent = this.told([latlng.lng, latlng.lat]);
     });
     this.map.on("mouseout", () => place.replaceChildren());
     corner("bottomleft", place).addTo(this.map);

@@ -53,6 +53,7 @@ export function wordsOf(error, by = "reading") {
     Refused: () => ofStatus(error, by),
     BadText: () => `The server's answer cannot be read: ${error.message}.`,
     Unfit: () => `A refinement does not fit: ${error.message}.`,
+    BadArchive: () => `The map cannot be shown: ${error.message}. Load the page again. If that does not help, tell whoever published it.`,
   };
   return (words[error.name] ?? (() => `The page has failed: ${error.message}.`))();
 }
