@@ -22,7 +22,7 @@ files | while read -r file; do
     cp -P "$here/$file" "$prefix/$file"
 done
 echo "$prefix/share/doc/tgap/" >"$prefix/lib/tgap/release/packaged"
-for file in lib/tgap/tgap-unit lib/systemd/system/tgap@.service; do
+for file in lib/tgap/tgap-unit lib/tgap/tgap-keeper lib/systemd/system/tgap@.service; do
     sed "s|/usr/lib/tgap/|$prefix/lib/tgap/|g" "$here/$file" >"$prefix/$file"
 done
 echo "installed $prefix/bin/tgap, version $(cat "$here/lib/tgap/VERSION")"

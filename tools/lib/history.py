@@ -40,14 +40,8 @@ class History:
 
 
 def grid_areas(first):
-    """The area of each face, as the sum of what its edges contribute."""
-    areas = dict.fromkeys(first.faces, 0.0)
-    for _, left, right, points in first.edges:
-        part = sum(a[0] * b[1] - a[1] * b[0] for a, b in zip(points, points[1:])) / 2
-        for face, sign in ((left, 1), (right, -1)):
-            if face:
-                areas[face] += sign * part
-    return areas
+    """The area of each face in square units of the grid."""
+    return {face: area / 2 for face, area in first.double_areas().items()}
 
 
 def is_in_degrees(crs_name):

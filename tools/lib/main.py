@@ -6,7 +6,8 @@ import sys
 from command import Failure
 from words import PARSERS
 
-MODULES = {"import": "import_map", "where": "tell_fault", "export": "export_slice", "steps": "list_steps", "loss": "measure_loss"}
+MODULES = {"import": "import_map", "where": "tell_fault", "export": "export_slice", "steps": "list_steps", "loss": "measure_loss",
+           "publish": "publish", "journal": "journal"}
 
 
 def main():

@@ -29,6 +29,16 @@ class Slice:
     def points(self):
         return sum(len(points) for _, _, _, points in self.edges)
 
+    def double_areas(self):
+        """Twice the area of each face, as the sum of what its edges contribute."""
+        areas = dict.fromkeys(self.faces, 0)
+        for _, left, right, points in self.edges:
+            part = sum(a[0] * b[1] - a[1] * b[0] for a, b in zip(points, points[1:]))
+            for face, sign in ((left, 1), (right, -1)):
+                if face:
+                    areas[face] += sign * part
+        return areas
+
 
 @dataclass
 class Step:
@@ -142,11 +152,20 @@ class Program:
         """The steps of the map up to this one, the first one first."""
         return read_steps(self.asked("packet", last, 0))[::-1]
 
-    @contextlib.contextmanager
     def serving(self):
         """A server of the map, for as long as the context lasts. It may have one version only, so nobody can edit the map meanwhile."""
+        return self.answering("serve", None, 1)
+
+    def keeping(self, journal, versions):
+        """A server of the map with the edits of a journal, for as long as the context lasts. It holds the journal, and may write to it."""
+        return self.answering("keep", journal, versions)
+
+    @contextlib.contextmanager
+    def answering(self, command, journal, versions):
+        """A server by one of the two commands, at a port that it finds free."""
+        before = [journal] if journal else []
         for port in random.sample(PORTS, TRIES):
-            words = [*BOUND, *self.words("serve", port, 1, 1)]
+            words = [*BOUND, *self.words(command, *before, port, 1, versions)]
             with subprocess.Popen(words, stdin=subprocess.DEVNULL, stdout=subprocess.PIPE, stderr=subprocess.DEVNULL, text=True) as process:
                 try:
                     said = process.stdout.readline()
@@ -157,7 +176,15 @@ class Program:
                     process.terminate()
             if said != "port fault\n":
                 break
-        raise Failure(f"the program does not serve {self.map[0]}: {said.strip() or 'no word'}", 1)
+        raise NotServed(self.map[0], said.strip())
+
+
+class NotServed(Failure):
+    """The program refused to serve a map, and what it said."""
+
+    def __init__(self, name, said):
+        super().__init__(f"the program does not serve {name}: {said or 'no word'}", 1)
+        self.said = said
 
 
 class Server:

@@ -1,7 +1,7 @@
 """The words of the tools: what each takes, and its help. Nothing here wants more than Python's own library."""
 import argparse
 
-from command import CALLED, TOP
+from command import CALLED, INPUT, TOP
 
 # Steps of a slice as its text has them, formats that export writes, rows of a table.
 LAST, FORMATS, ROWS = 4_294_967_294, ("topojson", "geojson", "gpkg", "svg", "png"), 24
@@ -42,8 +42,9 @@ examples: {called} steps examples/columbus.json areas examples/columbus.rules.js
           {called} steps landuse.json areas landuse.rules.json --scale 1:50000"""
 
 LOSS = """Tells how much of a map lies, after some steps, in another face than the union of the faces of which that face is made.
-The cause is the vertex removal: each triangle that it cuts off is small beside the face that gave way, but nothing
-bounds their sum. A greater ratio cuts off less, and keeps more points."""
+The cause is the vertex removal: each triangle that it cuts off goes from the face at one side of a border to that at the
+other. The sum of those between faces that are still two is told beside it: no more can have moved. A greater ratio cuts
+off less, and keeps more points."""
 LOSS_END = """status: 0 done, 2 words, 3 a file cannot be read, 4 the map is refused, 5 there is no such step
 
 example: {called} loss examples/columbus.json areas examples/columbus.rules.json --steps 16,32,48 --ratio 4,64,1024"""
@@ -56,6 +57,37 @@ examples: {called} check world.json areas world.rules.json | {called} where worl
           {called} where world.json areas refused 15 meets 9522 9612 5 3 2
           {called} where world.json areas --all
           {called} check examples/crossing.tgap | {called} where examples/crossing.tgap"""
+
+PUBLISH = """Writes a map into a folder that any web server can give: an archive with all steps of the map, of which web pages read what they
+show by range requests, and map.json, which tells the newest archive and is switched last. Whoever reads an older archive
+keeps it: the one that was the newest stays, and those before it go. The map is a file, or one version of that of a server.
+With --check an archive is tested: its sums, its form, and that its records fit; and with its map, that each of its windows
+is the one that the program gives."""
+PUBLISH_END = """status: 0 done, 2 words, 3 a file or a server cannot be read, 4 refused, 6 FOLDER cannot be written
+
+examples: {called} publish africa.json areas africa.rules.json www/africa
+          {called} publish --from http://localhost:8080/ www/map
+          {called} publish --check www/africa/map-0123456789abcdef.archive africa.json areas africa.rules.json"""
+
+JOURNAL = """Tells what stands in a journal of edits, which {called} keep writes, and makes one edit of all of them. A server has at most 64
+versions, and each edit makes one; so a map that is edited for long wants its edits joined from time to time, while its
+server is stopped.
+
+  list JOURNAL
+      tells each entry, whether it counts, and where the entries end; a server may hold the journal meanwhile
+  check MAP JOURNAL [OBJECT RULES]
+      tells what a server makes of it at its start, how many more edits have room, and in words why it is refused; it
+      takes a copy, so a server may hold the journal meanwhile
+  join MAP JOURNAL [OBJECT RULES]
+      puts a journal with one edit in its place, which has all lines of all edits, once the program has made the same map
+      of both; the journal before stays as JOURNAL.before until the next join. Where anything stops it, the old journal
+      or the new one is there, whole"""
+JOURNAL_END = """status: 0 done, 2 words, 3 a file cannot be read, or another program holds the journal, 4 the map or the journal is refused, or
+there is nothing to join, 6 the new journal cannot be written
+
+examples: {called} journal list columbus.journal
+          {called} journal check columbus.json columbus.journal areas columbus.rules.json --versions 16
+          {called} journal join columbus.json columbus.journal areas columbus.rules.json"""
 
 
 def parser_of(tool, description, ending):
@@ -228,9 +260,52 @@ def loss_words(words):
     which.add_argument("--scale", type=listed(scale), metavar="1:N,..", help="the first steps for these scales, as steps has them")
     add_paper(parser)
     parser.add_argument("--ratio", type=listed(number(0, 65_535)), metavar="R,R..", help="measure with these ratios in place of that of RULES")
+    parser.add_argument("--by-face", action="store_true", help="tell of each face too what moved and at most how much, as twice the area on the grid")
     chosen = parser.parse_intermixed_args(words)
     if chosen.ratio and not chosen.rules:
         parser.error("--ratio wants a topology with its RULES")
+    return chosen
+
+
+def publish_words(words):
+    parser = parser_of("publish", PUBLISH, PUBLISH_END)
+    parser.add_argument("words", metavar="MAP [OBJECT RULES] FOLDER", nargs="*", help="a listing, or a topology with OBJECT and RULES, or - for the standard "
+                        "input; and the folder. With --from the folder alone, with --check the map alone or nothing")
+    add_program(parser)
+    kinds = parser.add_mutually_exclusive_group()
+    kinds.add_argument("--from", dest="source", metavar="URL", help="publish the newest version of the map that is served there")
+    kinds.add_argument("--check", metavar="FILE", help="test an archive")
+    parser.add_argument("--faces", type=number(1, LAST), metavar="N", default=300, help="lead each cell up to N faces (300)")
+    parser.add_argument("--meta", metavar="FILE", help="the metadata of the map, or none (that of the map's name, where it is there)")
+    chosen = parser.parse_intermixed_args(words)
+    rest = list(chosen.words)
+    chosen.folder = None if chosen.check or not rest else rest.pop()
+    chosen.map, chosen.object, chosen.rules = (rest + [None] * 3)[:3]
+    if chosen.folder is None and not chosen.check or len(rest) not in ((0,) if chosen.source else (0, 1, 3) if chosen.check else (1, 3)):
+        parser.error("the words are MAP FOLDER, MAP OBJECT RULES FOLDER, --from URL FOLDER or --check FILE with the words of its map")
+    if chosen.meta and not chosen.rules or chosen.check and chosen.meta:
+        parser.error("--meta wants a topology that is published, with its OBJECT and RULES")
+    return chosen
+
+
+def journal_words(words):
+    parser = parser_of("journal", JOURNAL, JOURNAL_END)
+    parser.add_argument("what", metavar="list | check | join", choices=["list", "check", "join"])
+    parser.add_argument("words", metavar="[MAP] JOURNAL [OBJECT RULES]", nargs="*", help="the journal; but for list, the map before it, and the OBJECT and "
+                        "RULES of a topology behind it")
+    add_program(parser)
+    parser.add_argument("--versions", type=number(1, 64), metavar="N", help="check: how many VERSIONS the server has (64)")
+    chosen = parser.parse_intermixed_args(words)
+    if len(chosen.words) not in ((1,) if chosen.what == "list" else (2, 4)):
+        parser.error(f"the words of {chosen.what} are " + ("JOURNAL" if chosen.what == "list" else "MAP JOURNAL, or MAP JOURNAL OBJECT RULES"))
+    rest = list(chosen.words)
+    chosen.map = rest.pop(0) if chosen.what != "list" else None
+    chosen.journal, chosen.object, chosen.rules = (rest + [None] * 3)[:3]
+    if chosen.what == "join" and chosen.journal == INPUT:
+        parser.error("a journal that is joined is a file, and not the standard input")
+    if chosen.versions and chosen.what != "check":
+        parser.error("--versions is a word of check")
+    chosen.versions = chosen.versions or 64
     return chosen
 
 
@@ -249,4 +324,5 @@ def where_words(words):
     return chosen
 
 
-PARSERS = {"import": import_words, "export": export_words, "steps": steps_words, "loss": loss_words, "where": where_words}
+PARSERS = {"import": import_words, "export": export_words, "steps": steps_words, "loss": loss_words, "publish": publish_words,
+           "journal": journal_words, "where": where_words}
