@@ -21,14 +21,19 @@ SECONDS = 120
 # ---- the executable, and the counting of tests
 
 
-def named_executable(usage):
-    """The executable that the command line names, or the released one. Without one the suite ends with status 1."""
-    if len(sys.argv) > 2:
-        sys.exit(usage)
-    path = pathlib.Path(sys.argv[1] if len(sys.argv) == 2 else RELEASED).resolve()
+def an_executable(path):
+    """The executable of this name. Without one the suite ends with status 1."""
+    path = pathlib.Path(path).resolve()
     if not path.is_file() or not os.access(path, os.X_OK):
         sys.exit(f"there is no executable {path}")
     return str(path)
+
+
+def named_executable(usage):
+    """The executable that the command line names, or the released one."""
+    if len(sys.argv) > 2:
+        sys.exit(usage)
+    return an_executable(sys.argv[1] if len(sys.argv) == 2 else RELEASED)
 
 
 class Skipped(Exception):
@@ -140,18 +145,32 @@ def connected(port):
     return one
 
 
-class Server:
-    """The program, serving a map until it is stopped by its own process id. `under` are words before its own."""
+class NotServed(OSError):
+    """The program does not serve: the line that it said, and the status with which it ended."""
 
-    def __init__(self, executable, path, workers, versions, rules=(), under=()):
-        self.port = free_port()
-        words = [*under, executable, "serve", str(path), str(self.port), str(workers), str(versions), *map(str, rules)]
-        self.process = subprocess.Popen(words, stdout=subprocess.PIPE, stdin=subprocess.DEVNULL)
-        ready, _, _ = select.select([self.process.stdout], [], [], SECONDS)
+    def __init__(self, said, status):
+        super().__init__(f"the program does not serve: it said {said!r} and ended with {status}")
+        self.said, self.status = said, status
+
+
+class Server:
+    """The program, serving a map until it is stopped by its own process id; with a journal, where one is named. `under` are words before its own,
+    `seconds` is how long it may take until it serves, and `how` what else is said of the process."""
+
+    def __init__(self, executable, path, workers, versions, rules=(), under=(), journal=None, port=None, seconds=SECONDS, **how):
+        self.port = port or free_port()
+        command = ["serve", path] if journal is None else ["keep", path, journal]
+        words = [*under, executable, *map(str, [*command, self.port, workers, versions, *rules])]
+        self.process = subprocess.Popen(words, stdout=subprocess.PIPE, stdin=subprocess.DEVNULL, **how)
+        ready, _, _ = select.select([self.process.stdout], [], [], seconds)
         self.said = self.process.stdout.readline() if ready else b""
         if self.said != f"serving {self.port}\n".encode():
+            if ready:
+                # It ends by itself.
+                with contextlib.suppress(subprocess.TimeoutExpired):
+                    self.process.wait(SECONDS)
             self.stop()
-            raise OSError(f"the program does not serve: it said {self.said!r}")
+            raise NotServed(self.said, self.process.returncode)
 
     def __enter__(self):
         return self

@@ -4,7 +4,7 @@ are worked out by hand from docs/rules.md and docs/formats.md."""
 from maps import MAPS, two_squares_with
 
 USAGE = ("usage: borders MAP STEP | check MAP [OBJECT RULES] | slice MAP STEP [OBJECT RULES] | packet MAP FROM TO [OBJECT RULES] | "
-         "replay SLICE PACKET | grid N | serve MAP PORT WORKERS VERSIONS [OBJECT RULES]\n")
+         "replay SLICE PACKET | grid N | serve MAP PORT WORKERS VERSIONS [OBJECT RULES] | keep MAP JOURNAL PORT WORKERS VERSIONS [OBJECT RULES]\n")
 
 
 def text_of(first, *rows):
@@ -225,6 +225,8 @@ NO_COMMAND = [(words, 2, USAGE) for words in [
     "grid", "grid 0", "grid 148", "grid 01", "grid -1", "grid 1 1", "grid two_squares", "Grid 1", ["grid", ""], ["grid", "1 "], ["grid", "1", ""],
     "serve", "serve two_squares 8080 2", "serve two_squares 8080 0 4", "serve two_squares 8080 17 4", "serve two_squares 8080 2 0", "serve two_squares 8080 2 65",
     "serve two_squares 0 2 4", "serve two_squares 65536 2 4", "serve two_squares 8080 2 4 land", "Serve two_squares 8080 2 4",
+    "keep", "keep two_squares journal 8080 2", "keep two_squares 8080 2 4", "keep two_squares journal 8080 2 4 land", "keep two_squares journal 8080 2 4 land rules more",
+    "keep two_squares journal 0 2 4", "keep two_squares journal 8080 17 4", "keep two_squares journal 8080 2 65", "Keep two_squares journal 8080 2 4",
     "Borders two_squares 1", "Check two_squares", "Slice two_squares_ratio_0 0", "borders two_squares 01", "borders two_squares -1", "borders two_squares +1",
     "borders two_squares 1.0", "borders two_squares 4294967296", "borders two_squares 99999999999999999999", "two_squares", "help", "--help",
     [""], ["check", "two_squares", ""], ["borders", "two_squares", ""], ["borders", "two_squares", " 1"], ["borders", "two_squares", "1\n"],
@@ -232,4 +234,13 @@ NO_COMMAND = [(words, 2, USAGE) for words in [
     [b"check", b"two_squares\xc3"], ["check", *["two_squares"] * 1000],
 ]]
 
-CASES = [*BORDERS, *CHECK, *SLICE, *GRID, *ANY_FILE, *CUTS, *NO_COMMAND]
+# What is said of journals is tested by tests/keep; here the map is loaded before one is made.
+KEEP = [
+    ("keep none journal 8080 2 4", 3, "load fault map\n"),
+    ("keep crossing journal 8080 2 4", 4, "refused 15 meets 0 1 125 125 50\n"),
+    ("keep two_squares two_squares 8080 2 4", 3, "load fault journal\n"),
+    ("keep two_squares folder 8080 2 4", 3, "load fault journal\n"),
+    ("keep two_squares none/journal 8080 2 4", 3, "load fault journal\n"),
+]
+
+CASES = [*BORDERS, *CHECK, *SLICE, *GRID, *ANY_FILE, *CUTS, *NO_COMMAND, *KEEP]

@@ -8,7 +8,7 @@ from lib import SECONDS, TOP
 
 # The tools of the shell that tests/run uses; python3 is none of them.
 TOOLS = ["sh", "cat", "dirname", "grep", "head", "id", "mktemp", "mv", "rm", "sed", "tail", "tee", "timeout", "tr"]
-SUITES = ["cli", "tools", "http", "deploy", "launcher", "web", "sweep_first", "growth", "package"]
+SUITES = ["cli", "tools", "http", "deploy", "launcher", "web", "sweep_first", "growth", "package", "trials", "keep"]
 LINE = "{} passed, {} failed, {} skipped"
 # Each case: what the suites print, with their statuses, and the closing line of all with the status.
 CASES = [

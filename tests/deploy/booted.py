@@ -15,7 +15,7 @@ from large_map import written
 from lib import Skipped
 
 TOOLS = ["systemd-nspawn", "systemctl", "nginx", "openssl", "jq", "curl", "setpriv", "unshare", "mount", "useradd", "systemd-socket-activate"]
-SECONDS = 400
+SECONDS = 900
 OWN_NAME = f"tgap-booted-{os.getpid()}"
 # Cells a side of a map whose edit takes two seconds or more.
 LARGE = 147

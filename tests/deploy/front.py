@@ -127,6 +127,18 @@ def exchanged(text, pairs):
     return text
 
 
+# Where programs have ports and no sockets the link leads to a file of the token in a folder of the port.
+PLACE = """map $realpath_root $spot_of_{of} {{
+    default "";
+    "~^(.*)$" $1;
+}}
+map $spot_of_{of} $place_of_{of} {{
+    default 127.0.0.1:{nobody};
+    "~^{room}/run/p([0-9]+)/" 127.0.0.1:$1;
+}}
+"""
+
+
 def temporary_folders(room):
     return "".join(f"{name}_temp_path {room}/{name};\n" for name in ["client_body", "proxy", "fastcgi", "uwsgi", "scgi"])
 
@@ -146,14 +158,15 @@ class Front(Running):
         (self.room / "page/meta.json").write_text("what is known\n")
         make_certificate(self.room / "etc")
         make_password(self.room / "etc/editors")
-        self.places = {}
         if isinstance(upstream, pathlib.Path):
             own, of_programs = "", [("/run/tgap/", f"{upstream}/")]
         else:
             for name, port in (upstream if isinstance(upstream, dict) else {"columbus": upstream}).items():
-                self.note(name, port, HISTORY)
-            own = f'map "$map/$history" $place {{\ndefault 127.0.0.1:{free_port()};\ninclude {self.room}/run/places;\n}}\n'
-            of_programs = [("unix:/run/tgap/$map/$history.sock", "$place"), ("/run/tgap/", f"{self.room}/run/")]
+                self.begin(name, port, HISTORY)
+            own = "".join(PLACE.format(of=of, room=self.room, nobody=free_port()) for of in ["history", "later"])
+            sockets = [("sock", "history"), ("edits", "history"), ("sock", "later")]
+            of_programs = [*((f"unix:/run/tgap/$map/${of}.{way}", f"$place_of_{of}") for way, of in sockets),
+                           *((f"map $realpath_root ${of} ", f"map $spot_of_{of} ${of} ") for of in ["history", "later"]), ("/run/tgap/", f"{self.room}/run/")]
         text = exchanged(change((TOP / "deploy/nginx.conf").read_text()), [
             ("pid /run/nginx.pid", f"daemon off;\npid {self.room}/pid"), ("http {", "http {\n" + own + temporary_folders(self.room)),
             ("/var/log/nginx/", f"{self.room}/log/"), ("/var/log/tgap/", f"{self.room}/log/"), ("/etc/tgap/", f"{self.room}/etc/"),
@@ -170,17 +183,14 @@ class Front(Running):
             self.stop()
             raise OSError(f"nginx does not start: {why}")
 
-    def note(self, name, port, history):
-        """Writes down which history a map has begun, and where the program of it listens."""
-        self.places[f"{name}/{history}"] = port
-        (self.room / f"run/{name}.history").write_text(f"{name} {history};\n")
-        (self.room / "run/places").write_text("".join(f"{place} 127.0.0.1:{port};\n" for place, port in self.places.items()))
-
     def begin(self, name, port, history):
-        """Has nginx know of a new history of a map, and of its program alone."""
-        self.places = {place: port for place, port in self.places.items() if not place.startswith(f"{name}/")}
-        self.note(name, port, history)
-        subprocess.run([str(word) for word in [*self.words, "-s", "reload"]], check=True, stderr=subprocess.DEVNULL)
+        """Has the link of a map lead to a history, and to the port of its program."""
+        link, place = self.room / "run" / name, self.room / f"run/p{port}"
+        for folder in [link, place]:
+            folder.mkdir(exist_ok=True)
+        (place / history).touch()
+        (link / "new").symlink_to(place / history)
+        os.replace(link / "new", link / "history")
 
     def stop(self, by=signal.SIGTERM):
         super().stop(by)

@@ -1,6 +1,6 @@
 """The steps of deploy/tgap-unit without systemd: the program in a network of its own, its lives, and a stop that waits for
 an edit. Folders, port and user are exchanged."""
-import contextlib
+import http.client
 import os
 import pathlib
 import re
@@ -11,7 +11,7 @@ import stat
 import subprocess
 import tempfile
 
-from front import COLUMBUS, PATH, PROXY, TOP, Front, Running, exchanged, listens, tool, until
+from front import COLUMBUS, PATH, PROXY, TOP, Front, Running, answer_of, exchanged, listens, tool, until
 from kept import kept
 from large_map import LARGE, written
 from lib import SECONDS, Skipped, free_port
@@ -19,26 +19,33 @@ from live import AT_ONCE, OWN_BATCH, side_by_side, timed
 
 TOOLS = ["unshare", "nsenter", "ip", "setpriv", "pkill", "systemd-socket-activate"]
 USER = "daemon"
-# Takes down what the front server is to do.
-SYSTEMCTL = '#!/bin/sh\necho "$@" >>"$ASKED"\nexit 5\n'
 
 
 class Unit:
-    """tgap@columbus, with a folder of its own for all that it writes."""
+    """tgap@columbus, with a folder of its own for all that it writes, and with a journal there where it is to have one."""
 
-    def __init__(self, executable, room, words, drain_seconds=30):
+    def __init__(self, executable, room, words, drain_seconds=30, versions=16, keeps=False):
         self.room, self.run, self.port, self.running = pathlib.Path(room), pathlib.Path(room) / "run", free_port(), None
         self.room.chmod(0o755)
         # The program's user may not be one who can reach the folder of the repository.
         files = {word: shutil.copy(word, room) for word in [executable, *words] if pathlib.Path(word).exists()}
+        self.program, self.journal, self.keeper = files[executable], self.room / "state/journal", self.room / "tgap-keeper"
         text = exchanged((TOP / "deploy/tgap-unit").read_text(), [
-            ("run=/run/tgap", f"run={self.run}"), ("user=tgap", f"user={USER}"), ("program=/usr/local/bin/tgap", f"program={files[executable]}"), ("port=8080", f"port={self.port}"),
-            ("drain_seconds=30", f"drain_seconds={drain_seconds}"),
+            ("run=/run/tgap", f"run={self.run}"), ("user=tgap", f"user={USER}"), ("program=/usr/local/bin/tgap", f"program={self.program}"), ("port=8080", f"port={self.port}"),
+            ("drain_seconds=30", f"drain_seconds={drain_seconds}"), ("keeper=/usr/local/lib/tgap/tgap-keeper", f"keeper={self.keeper}"),
         ])
         written_program(self.room / "steps", text)
-        written_program(self.room / "systemctl", SYSTEMCTL)
         path, *rules = [str(files.get(word, word)) for word in words]
-        self.environment = {**os.environ, "PATH": f"{room}:{PATH}", "ASKED": f"{room}/asked", "MAP": path, "WORKERS": "4", "VERSIONS": "16", "OBJECT_RULES": " ".join(rules)}
+        self.environment = {**os.environ, "PATH": PATH, "MAP": path, "WORKERS": "4", "VERSIONS": str(versions), "OBJECT_RULES": " ".join(rules)}
+        if keeps:
+            self.keep()
+
+    def keep(self):
+        shutil.copy(TOP / "deploy/tgap-keeper", self.keeper)
+        shutil.copytree(TOP / "tools", self.room / "tools")
+        self.journal.parent.mkdir()
+        shutil.chown(self.journal.parent, USER, USER)
+        self.environment["JOURNAL"] = str(self.journal)
 
     def __enter__(self):
         self.start()
@@ -60,7 +67,8 @@ class Unit:
         if (begun := self.step("begin")).returncode:
             raise OSError(f"no life begins: {begun.stderr}")
         words = ["unshare", "-n", "sh", "-c", 'ip link set lo up && exec "$@"', "sh", *as_user(), self.room / "steps", "serve", "columbus"]
-        self.running = Running(words, env=self.environment, stdout=subprocess.DEVNULL, stderr=subprocess.DEVNULL)
+        with (self.room / "log").open("a") as log:
+            self.running = Running(words, env=self.environment, stdout=subprocess.DEVNULL, stderr=log)
         # It has its network before its user; whoever enters before it is there stays outside.
         until(lambda: pathlib.Path(f"/proc/{self.running.process.pid}").owner() == USER)
         if (opened := self.beside("open")).returncode:
@@ -68,14 +76,36 @@ class Unit:
             raise OSError(f"the program does not serve: {opened.stderr}")
 
     def kill(self):
-        """As the unit does after a stop or a crash: nobody of this life is left."""
-        with contextlib.suppress(ProcessLookupError):
+        """As the unit does after a stop or a crash: nobody of this life is left. The number of one that was waited for may be another's."""
+        if self.running.process.returncode is None:
             os.killpg(self.running.process.pid, signal.SIGKILL)
-        self.running.process.wait(SECONDS)
+            self.running.process.wait(SECONDS)
+
+    def ask(self, method, path, body=None, way="sock"):
+        """Past the front server, by the sockets of the history that there is."""
+        client = http.client.HTTPConnection("columbus", timeout=SECONDS)
+        client.sock = socket.socket(socket.AF_UNIX)
+        client.sock.settimeout(SECONDS)
+        client.sock.connect(str(self.socket.with_suffix(f".{way}")))
+        # As the front server, which has a connection for each request.
+        return answer_of(client, method, path, body, {"Connection": "close"})
+
+    def edit(self, batch):
+        return self.ask("POST", "/edit", batch, "edits")
+
+    def log(self):
+        return (self.room / "log").read_text()
+
+    def end(self):
+        """As the unit is stopped: what has begun is finished."""
+        self.beside("drain")
+        self.running.process.send_signal(signal.SIGTERM)
+        os.waitid(os.P_PID, self.running.process.pid, os.WEXITED | os.WNOWAIT)
+        self.kill()
 
     @property
     def token(self):
-        return re.fullmatch(r"columbus ([0-9a-f]{16});\n", (self.run / "columbus.history").read_text())[1]
+        return os.readlink(self.run / "columbus/history")
 
     @property
     def socket(self):
@@ -110,9 +140,8 @@ def closed_port(tests):
         tests.same("another user of the machine", connects_as("nobody", unit.socket), False)
         tests.same("the front server's user", connects_as("www-data", unit.socket), True)
         tests.same("the rights of the socket and its folder", [stat.filemode(path.stat().st_mode) for path in [unit.socket, unit.socket.parent]], ["srw-rw----", "drwxr-s---"])
-        tests.same("who may write its token", stat.filemode((unit.run / "columbus.history").stat().st_mode), "-rw-r--r--")
-        tests.same("what the front server is asked for", (unit.room / "asked").read_text(), "--no-block try-reload-or-restart nginx\n")
-        for name in ["", "a b", "a;b", "a.b", "../a", "default", "include", "hostnames", "volatile"]:
+        tests.holds("the token", re.fullmatch("[0-9a-f]{16}", unit.token), unit.token)
+        for name in ["", "a b", "a;b", "a.b", "../a", "history"]:
             tests.same(f"no life of a map with the name '{name}'", (unit.step("begin", name=name).returncode, len(list(unit.run.iterdir()))), (1, 2))
 
 
@@ -120,7 +149,7 @@ def several_lives(tests):
     """Each life has a token, which leads to no other; the end of the way to the program is its end."""
     can_be_tried()
     with tempfile.TemporaryDirectory() as room, Unit(tests.executable, room, COLUMBUS) as unit, Front(unit.run) as front:
-        tokens, front_process = {unit.token}, front.process.pid
+        tokens = {unit.token}
         front.edit(OWN_BATCH)
         before = unit.socket
         unit.kill()
@@ -128,9 +157,8 @@ def several_lives(tests):
         unit.start()
         tokens.add(unit.token)
         tests.same("the socket of the life before", connects_as("root", before), False)
-        tests.same("a front server that knows the life before", front.ask("GET", "/map/info").status, 502)
-        os.kill(front_process, signal.SIGHUP)
-        tests.holds("and then the new one", until(lambda: front.ask("GET", "/map/info").headers["Tgap-History"] == unit.token, AT_ONCE))
+        reply = front.ask("GET", "/map/info")
+        tests.same("the front server knows the new one at once", (reply.status, reply.headers["Tgap-History"]), (200, unit.token))
         tests.same("its version", front.version(), 0)
         subprocess.run(["pkill", "-KILL", "-s", str(unit.running.process.pid), "-f", "systemd-socket"], check=True)
         tests.same("where the way ends", unit.running.process.wait(SECONDS), -signal.SIGKILL)

@@ -24,12 +24,12 @@ for path in run nginx.conf settings.py; do
 done
 curl -sS http://127.0.0.1:8080/info 2>/dev/null || echo 'the port is closed'
 ps -o user= -C tgap | sort | uniq -c | tr -s ' '
-tar -tzf /var/backups/tgap.tar.gz | grep -c -e columbus.json -e editors -e batches.log
+tar -tzf /var/backups/tgap.tar.gz | grep -c -e columbus.json -e editors -e batches.log -e columbus/journal
 """
 SAID = [
-    r"ok faces 49 arcs 134 points 877", r"version 0 steps 48 faces 49 .*", r"version 0 steps 48 faces 49 .*", r"published 1", r"published 1",
+    r"ok faces 49 arcs 134 points 877", r"version 0 steps 48 faces 49 .*", r"version 0 steps 48 faces 49 .*", r"published 1", r" *entry .*", r" *0 +1 +0 .*", r"1 entry, 1 edit; .*",
     r"stands root tgap 750 root www-data 640 tgap www-data 660 ", r"version 1 steps 48 faces 49 .*", r"the page", r"the metadata", r"run 404", r"nginx.conf 404", r"settings.py 404",
-    r"the port is closed", r" 1 tgap", r"3",
+    r"the port is closed", r" 1 tgap", r"4",
 ]
 
 
@@ -69,7 +69,7 @@ def script(room):
 def lay_out(room, executable):
     """A copy of what the document takes from the repository, and the tools that stand in for the system's."""
     repository = room / "repository"
-    for name in ["deploy", "examples", "clients"]:
+    for name in ["deploy", "examples", "clients", "tools"]:
         if (TOP / name).exists():
             shutil.copytree(TOP / name, repository / name)
     shutil.copy(TOP / "VERSION", repository)

@@ -1,14 +1,20 @@
 """What the launcher says: the help, the version, and a sentence for each status; the standard output and the status are the program's own."""
+import fcntl
+import pathlib
 import re
 import socket
 import subprocess
+import sys
 
 from checkout import TOOLCHAIN, sum_of
-from lib import SECONDS, free_port
+from lib import SECONDS, TOP, free_port
+
+sys.path.append(str(TOP / "tests/trials"))
+from kept import entry  # noqa: E402
 
 TWO, COLUMBUS, RULES = "examples/two_squares.tgap", "examples/columbus.json", "examples/columbus.rules.json"
-COMMANDS = ["borders", "check", "slice", "packet", "replay", "grid", "serve"]
-TOOLS = ["import", "where", "export", "steps", "loss"]
+COMMANDS = ["borders", "check", "slice", "packet", "replay", "grid", "serve", "keep"]
+TOOLS = ["import", "where", "export", "steps", "loss", "publish", "journal"]
 OWN_WORDS = ["build", "--help", "--version"]
 
 # The words of a command line, its status, and what the sentence has to name.
@@ -26,7 +32,12 @@ SENTENCES = [
     (["serve", TWO, "0", "1", "1"], 2, ["PORT", "'0'", "1 to 65535"]),
     (["serve", TWO, "8080", "17", "1"], 2, ["WORKERS", "'17'", "1 to 16"]),
     (["serve", TWO, "8080", "1", "65"], 2, ["VERSIONS", "'65'", "1 to 64"]),
+    (["keep", TWO, "8080", "1", "1"], 2, ["keep", "MAP JOURNAL PORT WORKERS VERSIONS [OBJECT RULES]", "got 4"]),
+    (["keep", TWO, "journal", "0", "1", "1"], 2, ["PORT", "'0'", "1 to 65535"]),
+    (["keep", TWO, "journal", "8080", "17", "1"], 2, ["WORKERS", "'17'", "1 to 16"]),
+    (["keep", TWO, "journal", "8080", "1", "65"], 2, ["VERSIONS", "'65'", "1 to 64"]),
     (["check", b"\xff"], 2, ["UTF-8"]),
+    (["keep", b"\xff", "journal", "8080", "1", "1"], 2, ["UTF-8"]),
     (["borders", "no such map", "1"], 3, ["no file 'no such map'", "docs/formats.md"]),
     (["check", "examples"], 3, ["'examples' is a folder"]),
     (["check", COLUMBUS, "areas", "no such rules"], 3, ["no file 'no such rules'"]),
@@ -69,12 +80,12 @@ def help_is_given(tests):
 
 
 def examples_of_the_help_work(tests):
-    """Each example is a command line that ends with 0, in the order of the help; `serve`, which does not end, is tested with the signals."""
+    """Each example is a command line that ends with 0, in the order of the help; `serve` and `keep`, which do not end, are tested with the signals."""
     lines = [line.strip() for line in tests.checkout.run("--help")[1].decode().splitlines() if line.startswith("      ./tgap")]
     environment = {"PATH": str(tests.checkout.bare)}
     try:
         for line in lines:
-            if " serve " not in line:
+            if " serve " not in line and " keep " not in line:
                 ran = subprocess.run(["/bin/sh", "-c", line], cwd=tests.checkout.top, env=environment, capture_output=True, timeout=SECONDS, check=False)
                 tests.same(line, (ran.returncode, ran.stderr), (0, b""))
     finally:
@@ -139,11 +150,12 @@ def typos_in_rules_are_told(tests):
             tests.same(f"{words[0]} with a typo: what the program answers", (status, out), (0, answer))
             tests.tell(f"{words[0]} with a typo", [] if re.fullmatch(r"tgap: \d+ areas count as 'field', the default of typo\.json, .*: 'wood' \(\d+\)\n", said) else [f"got {said!r}"])
             tests.same(f"{words[0]} with a typo, without a Python", checkout.run(*words, "typo.json"), (0, answer, ""))
-        port = str(free_port())
-        with checkout.start("serve", COLUMBUS, port, "1", "1", "areas", "typo.json", tools=checkout.python) as started:
-            served = started.stdout.readline()
-            started.terminate()
-            tests.same("serve with a typo", (served, b"'wood'" in started.stderr.read()), (f"serving {port}\n".encode(), True))
+        for command in (["serve", COLUMBUS], ["keep", COLUMBUS, checkout.room / "journal of a typo"]):
+            port = str(free_port())
+            with checkout.start(*command, port, "1", "1", "areas", "typo.json", tools=checkout.python) as started:
+                served = started.stdout.readline()
+                started.terminate()
+                tests.same(f"{command[0]} with a typo", (served, b"'wood'" in started.stderr.read()), (f"serving {port}\n".encode(), True))
     tests.same("nothing is told where all are named", checkout.run("check", COLUMBUS, "areas", RULES, tools=checkout.python)[2], "")
 
 
@@ -182,9 +194,31 @@ def taken_port_has_a_sentence(tests):
     with socket.socket() as one:
         one.bind(("127.0.0.1", port))
         one.listen()
-        (status, out, said), of_program = both(tests, ["serve", TWO, str(port), "1", "1"])
-    tests.same("a port that is taken: what the program answers", (status, out), of_program)
-    tests.tell("a port that is taken: its sentence", is_sentence(said, 8, [f"port {port}", "docs/deployment.md"]))
+        for words in (["serve", TWO], ["keep", TWO, str(tests.checkout.room / "journal")]):
+            (status, out, said), of_program = both(tests, [*words, str(port), "1", "1"])
+            tests.same(f"a port that is taken, {words[0]}: what the program answers", (status, out), of_program)
+            tests.tell(f"a port that is taken, {words[0]}: its sentence", is_sentence(said, 8, [f"port {port}", "docs/deployment.md"]))
+
+
+def refused_journals_have_sentences(tests):
+    """Of a command that keeps a journal the map is told of where it is at fault, and else the journal."""
+    room, port = tests.checkout.room, str(free_port())
+    follows, other, long, held = (str(room / name) for name in ("a journal", "another's", "a long one", "one that is held"))
+    for path, data in [(follows, entry(2, b"class 1 0\n")), (other, entry(1, b"drop 5 5\n")), (long, entry(1, b"") + entry(2, b"")), (held, b"")]:
+        pathlib.Path(path).write_bytes(data)
+    edits = ["cannot be made again", "journal-entry I", f"the map in '{TWO}'", "journal-long N", "VERSIONS, 2,", "docs/formats.md, \"A journal of edits\""]
+    with open(held, "rb") as locked:
+        fcntl.flock(locked, fcntl.LOCK_EX)
+        for map_, path, status, fragments in [
+                (TWO, "examples", 3, ["'examples' is a folder and no journal"]), (TWO, "no folder/journal", 3, ["there is no folder 'no folder'"]),
+                (TWO, TWO, 3, [f"'{TWO}' does not begin as a journal"]), (TWO, "/dev/null", 3, ["'/dev/null' is no plain file"]),
+                (TWO, held, 3, [f"'{held}' is held by another program"]), ("no such map", held, 3, ["no file 'no such map'"]),
+                (TWO, follows, 4, [f"journal '{follows}'", *edits]), (TWO, other, 4, edits), (TWO, long, 4, edits),
+                ("examples/crossing.tgap", follows, 4, ["'examples/crossing.tgap'", "./tgap where 'examples/crossing.tgap' on"])]:
+            words = ["keep", map_, path, port, "1", "2"]
+            (got, out, said), of_program = both(tests, words)
+            tests.same(f"{words}: what the program answers", (got, out), of_program)
+            tests.tell(f"{words}: its sentence", is_sentence(said, status, fragments))
 
 
 def rare_statuses_have_sentences(tests):
@@ -213,5 +247,6 @@ TESTS = [
     statuses_have_sentences,
     unwritten_answer_has_a_sentence,
     taken_port_has_a_sentence,
+    refused_journals_have_sentences,
     rare_statuses_have_sentences,
 ]

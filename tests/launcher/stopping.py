@@ -1,5 +1,6 @@
 """What stops the launcher stops the program, in whichever way it is stopped, and what stops the program ends the launcher."""
 import contextlib
+import http.client
 import os
 import pathlib
 import select
@@ -7,7 +8,7 @@ import signal
 import socket
 import time
 
-from lib import SECONDS, free_port
+from lib import SECONDS, ask, free_port
 
 TWO = "examples/two_squares.tgap"
 
@@ -30,10 +31,10 @@ def ends_soon(happens):
 
 
 @contextlib.contextmanager
-def serving(tests, **how):
+def serving(tests, command=("serve", TWO), **how):
     """The launcher, once it serves, and its port. It has a process group of its own, of which nothing is left behind."""
     port = free_port()
-    with tests.checkout.start("serve", TWO, str(port), "2", "4", start_new_session=True, **how) as started:
+    with tests.checkout.start(*command, str(port), "2", "4", start_new_session=True, **how) as started:
         try:
             ready, _, _ = select.select([started.stdout], [], [], SECONDS)
             said = started.stdout.readline() if ready else b""
@@ -55,6 +56,17 @@ def signals_stop_the_server(tests):
                 tests.same(f"{sent.name}, {tools.name}: nothing more is said", (started.stdout.read(), started.stderr.read()), (b"", b""))
 
 
+def signals_let_a_journal_go(tests):
+    """Each edit that was acknowledged is there when the journal is kept again by the next launcher."""
+    for number, sent in enumerate((signal.SIGTERM, signal.SIGINT, signal.SIGKILL)):
+        with serving(tests, ("keep", TWO, tests.checkout.room / "kept")) as (started, port), contextlib.closing(http.client.HTTPConnection("127.0.0.1", port, SECONDS)) as client:
+            told = ask(client, "GET", "/info")[1], ask(client, "POST", "/edit", b"")[1]
+            tests.same(f"{sent.name}: the versions before an edit and after it", told, (number, number + 1))
+            started.send_signal(sent)
+            tests.same(f"{sent.name}: the end of who kept a journal", started.wait(SECONDS), -sent)
+            tests.same(f"{sent.name}: the port is given back", ends_soon(lambda: not is_served(port)), True)
+
+
 def signals_to_the_program_end_the_launcher(tests):
     for sent in (signal.SIGTERM, signal.SIGHUP, signal.SIGKILL):
         with serving(tests) as (started, _):
@@ -72,4 +84,4 @@ def standard_input_is_passed_on(tests):
     tests.same("with no standard input", answer, (0, b"ok faces 2 arcs 3 points 10\n", ""))
 
 
-TESTS = [signals_stop_the_server, signals_to_the_program_end_the_launcher, standard_input_is_passed_on]
+TESTS = [signals_stop_the_server, signals_let_a_journal_go, signals_to_the_program_end_the_launcher, standard_input_is_passed_on]

@@ -2,6 +2,7 @@
 tells another version."""
 import os
 import pathlib
+import re
 import shutil
 import subprocess
 
@@ -56,7 +57,9 @@ def tells_of_the_library(tests):
         made = within(room, "./tgap", *words)
         tests.same(f"{words} there", (made.returncode, text in made.stdout, made.stderr), (0, True, ""))
     made = within(room, "./tests/run")
-    tests.same("tests/run there", (made.returncode, made.stdout.splitlines()[-1:]), (0, ["0 passed, 0 failed, 10 skipped"]))
+    # Each suite is skipped, and counts once.
+    suites = re.split("[ ,]", re.search(r'^rows="(.*)"$', (TOP / "tests/run").read_text(encoding="utf-8"), re.MULTILINE)[1])
+    tests.same("tests/run there", (made.returncode, made.stdout.splitlines()[-1:]), (0, [f"0 passed, 0 failed, {len(suites)} skipped"]))
     tests.same("tests/run says why", "no GNU C library" in made.stdout, True)
     loader = room / "lib64/ld-linux-x86-64.so.2"
     for told, wanted in (("ld.so (GNU libc) stable release version 2.31.", "2.31"), ("ld.so (Debian GLIBC 2.33-7) stable release version 2.33.", "2.33")):

@@ -33,11 +33,11 @@ def small_maps(tests, examples):
     made = tests.tool("steps", "squares.tgap")
     tests.done("the steps of two squares", made, "1 step, from 2 faces to 1 face")
     tests.same("their rows", rows(made.stdout), [[0, 2, 100, 10], [1, 1, 200, 6]])
-    tests.same("nothing moves where vertices go on straight lines", rows(tests.tool("loss", "squares.tgap").stdout), [[1, 1, 0, 6]])
+    tests.same("nothing moves where vertices go on straight lines", rows(tests.tool("loss", "squares.tgap").stdout), [[1, 1, 0, 0, 6]])
     # With the ratio 1 the corners (0,10), (0,0), (10,0) go one after the other, each with a triangle of half a square, and of the two squares the
     # triangle (10,10) (20,0) (20,10) is left: a quarter of their area.
     tests.write("rough.tgap", SQUARES.format(ratio=1))
-    tests.same("three quarters move where three corners go", rows(tests.tool("loss", "rough.tgap").stdout), [[1, 1, 75, 4]])
+    tests.same("three quarters move where three corners go", rows(tests.tool("loss", "rough.tgap").stdout), [[1, 1, 75, 75, 4]])
     made = tests.tool("steps", examples / "three_squares.tgap", "--least", 150)
     tests.done("the step for a least area", made, "step 2 is the first with no area below 150 square units: 1 face")
 
@@ -55,9 +55,10 @@ def a_real_map(tests, examples):
     tests.done("the loss of Columbus", made, "ratio 1024")
     table = rows(made.stdout)
     tests.same("its steps", [row[0] for row in table], [0, 24, 48])
-    tests.same("nothing at step 0", table[0][2::2], [0, 0, 0])
-    tests.same("nothing with the ratio 0", [row[6] for row in table], [0, 0, 0])
-    tests.tell("less with a greater ratio", [f"{row}" for row in table[1:] if not row[2] > 10 * row[4] > 0])
+    tests.same("nothing at step 0", table[0][2::3] + table[0][3::3], [0] * 6)
+    tests.same("nothing with the ratio 0", [row[8:10] for row in table], [[0, 0]] * 3)
+    tests.tell("less with a greater ratio", [f"{row}" for row in table[1:] if not row[2] > 10 * row[5] > 0])
+    tests.tell("no more than may be", [f"{row}" for row in table for at in (2, 5) if not row[at] <= row[at + 1] <= 2 * row[at]])
 
 
 def refusals(tests, examples):
@@ -68,6 +69,8 @@ def refusals(tests, examples):
              ("steps", "without rules", columbus[:2], 2, "RULES"),
              ("steps", "for an area that no face reaches", [squares, "--least", 1e9], 5, "no step has areas"),
              ("steps", "for a scale below 0", [squares, "--scale", -1], 2, "--scale"),
+             ("loss", "of a refused map", [examples / "crossing.tgap"], 4, "refused 15 meets"),
+             ("loss", "of a map that is not there", ["nowhere.tgap"], 3, "load fault map"),
              ("loss", "at a step that there is not", [squares, "--steps", 9], 5, "step too high 1"),
              ("loss", "with a ratio of a listing", [squares, "--ratio", 4], 2, "--ratio wants a topology"),
              ("loss", "with a ratio that is too great", [*columbus, "--ratio", 70000], 2, "--ratio")]

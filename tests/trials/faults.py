@@ -12,10 +12,6 @@ OPENING_WRITES, OPENING_SYNCS = 1, 2
 BATCHES = [b"move 20 10 24 10\n", b"class 2 1\n", b"insert 1 1 2 2 3 3\n"]
 
 
-def calls_told(disk):
-    return disk.calls.read_text(encoding="ascii").splitlines()
-
-
 def order_of_calls(tests):
     """A journal that is opened is made sure, and closed by a byte 0 where it is not. An entry is two writes and two syncs: all but its first byte, and then
     that byte; the answer comes after both."""
@@ -24,10 +20,10 @@ def order_of_calls(tests):
     with Room() as disk:
         disk.write(START)
         disk.append(BATCHES[:2])
-        tests.same("the calls of two appends", calls_told(disk), [f"write 0 {at + 1}", "sync", "sync", "put", *appended])
+        tests.same("the calls of two appends", disk.calls_told(), [f"write 0 {at + 1}", "sync", "sync", "put", *appended])
         disk.write(START[:-1])
         disk.append(BATCHES[:2])
-        tests.same("where the journal was not closed", calls_told(disk), [f"write 0 {at}", "sync", "sync", f"write {at} 1", "sync", "put", *appended])
+        tests.same("where the journal was not closed", disk.calls_told(), [f"write 0 {at}", "sync", "sync", f"write {at} 1", "sync", "put", *appended])
 
 
 def is_sound(disk, name, tests, outcomes, paths):
@@ -54,7 +50,7 @@ def calls_of(disk):
     """How many writes and syncs the batches take."""
     disk.write(START)
     disk.append(BATCHES)
-    lines = calls_told(disk)
+    lines = disk.calls_told()
     return sum(line.startswith("write") for line in lines), lines.count("sync")
 
 
@@ -73,7 +69,7 @@ def torn_writes(tests):
     """The process, or the machine, stops within a write, when any of its bytes have reached the file."""
     with Room() as disk:
         writes, _ = calls_of(disk)
-        sizes = [int(line.split()[2]) for line in calls_told(disk) if line.startswith("write")]
+        sizes = [int(line.split()[2]) for line in disk.calls_told() if line.startswith("write")]
         for call in range(1, writes + 1):
             for count in range(sizes[call - 1] + 1):
                 status, outcomes = with_fault(disk, "torn", call, count)

@@ -79,12 +79,19 @@ class Disk:
             path.write_bytes(data)
         self.calls.unlink(missing_ok=True)
 
+    def surroundings(self, fault=None, call=0, size=0):
+        """The environment in which a program has this disk; with a fault at the call of that number, where one is named."""
+        wanted = {"LD_PRELOAD": str(self.folder / "disk.so"), "DISK_FILE": str(self.file), "DISK_IMAGE": str(self.image), "DISK_CALLS": str(self.calls)}
+        return wanted | ({"DISK_FAULT": fault, "DISK_CALL": str(call), "DISK_BYTES": str(size)} if fault else {})
+
+    def calls_told(self):
+        """The calls that reached the disk."""
+        return self.calls.read_text(encoding="ascii").splitlines()
+
     def run(self, *words, path=None, fault=None, call=0, size=0, **how):
         """Runs the program on the journal; with a fault at the call of that number, where one is named."""
         command, *rest = words
-        wanted = {"LD_PRELOAD": str(self.folder / "disk.so"), "DISK_FILE": str(self.file), "DISK_IMAGE": str(self.image), "DISK_CALLS": str(self.calls)}
-        if fault:
-            wanted |= {"DISK_FAULT": fault, "DISK_CALL": str(call), "DISK_BYTES": str(size)}
+        wanted = self.surroundings(fault, call, size)
         return subprocess.run([TRIALS, command, path or self.file, *rest], env=wanted, capture_output=True, timeout=SECONDS, stdin=subprocess.DEVNULL, check=False, **how)
 
     def entries(self, path=None):
@@ -99,8 +106,6 @@ class Disk:
 
 def make_disk(folder):
     """A disk in a folder, with its library."""
-    if not TRIALS.is_file():
-        raise Skipped(f"there is no {TRIALS.relative_to(TOP)}: ./tgap build makes it")
     compiler = shutil.which("cc")
     if not compiler:
         raise Skipped("there is no C compiler")
@@ -108,10 +113,17 @@ def make_disk(folder):
     return Disk(folder)
 
 
+def has_trials():
+    """Skips a test where the program that keeps a journal by itself is not built."""
+    if not TRIALS.is_file():
+        raise Skipped(f"there is no {TRIALS.relative_to(TOP)}: ./tgap build makes it")
+
+
 class Room:
-    """A folder for a test, with a disk."""
+    """A folder for a test of that program, with a disk."""
 
     def __enter__(self):
+        has_trials()
         self.folder = tempfile.TemporaryDirectory()
         try:
             return make_disk(self.folder.name)

@@ -28,6 +28,10 @@ class Whole:
         self.last = shape(size)[0] - 1
         while self.last and not (text := self.answer(executable, "slice", self.last)).startswith(b"slice"):
             self.last = int(text.split()[-1])
+        self.read_slices(executable)
+
+    def read_slices(self, executable):
+        """The slices of the map at all steps, and the records between them."""
         self.slices = [read_slice(self.answer(executable, "slice", step)) for step in range(self.last + 1)]
         _, records = read_whole_packet(self.answer(executable, "packet", self.last, 0))
         self.records = {record.step: record for record in records}

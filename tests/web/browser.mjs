@@ -7,7 +7,8 @@ import { setTimeout as pause } from "node:timers/promises";
 import { inflateSync } from "node:zlib";
 import { firstMatch } from "./lib.mjs";
 
-const SECONDS = 30;
+// So long a page may take on a machine with much other work.
+const SECONDS = 90;
 const MILLISECONDS = 50;
 const REMOVALS = 10;
 const SECONDS_BETWEEN_REMOVALS = 0.5;
@@ -58,6 +59,7 @@ class Tab {
     tab.waiting = new Map();
     tab.written = [];
     tab.paused = () => {};
+    tab.listeners = new Map();
     tab.number = 0;
     await new Promise((resolve, reject) => {
       tab.socket.onopen = resolve;
@@ -74,6 +76,8 @@ class Tab {
       this.waiting.delete(id);
     } else if (method === "Fetch.requestPaused") {
       this.paused(params);
+    } else if (this.listeners.has(method)) {
+      this.listeners.get(method)(params);
     } else if (method === "Log.entryAdded") {
       this.written.push({ source: params.entry.source, text: params.entry.text });
     } else if (method === "Runtime.exceptionThrown" || method === "Runtime.consoleAPICalled") {
@@ -85,6 +89,28 @@ class Tab {
     const id = ++this.number;
     this.socket.send(JSON.stringify({ id, method, params }));
     return new Promise((resolve) => this.waiting.set(id, resolve));
+  }
+
+  /** Closes the tab, which gives no answer to that. */
+  close() {
+    this.socket.send(JSON.stringify({ id: ++this.number, method: "Page.close" }));
+  }
+
+  /**
+   * How long the pieces of work take that the page does while something is done, the longest first: in milliseconds of the processor, so that other work of the machine
+   * does not count.
+   */
+  async pieces(work) {
+    const events = [];
+    const ended = new Promise((resolve) => this.listeners.set("Tracing.tracingComplete", resolve));
+    this.listeners.set("Tracing.dataCollected", ({ value }) => events.push(...value));
+    await this.ask("Tracing.start", { transferMode: "ReportEvents", traceConfig: { includedCategories: ["toplevel", "disabled-by-default-devtools.timeline", "devtools.timeline"] } });
+    await work();
+    await this.ask("Tracing.end");
+    await ended;
+    const own = new Set(events.filter(({ name }) => name === "FireAnimationFrame").map(({ pid, tid }) => `${pid} ${tid}`));
+    const MICROSECONDS = 1000;
+    return events.filter(({ name, tdur, pid, tid }) => tdur && own.has(`${pid} ${tid}`) && /^ThreadController.*RunTask$/.test(name)).map(({ tdur }) => tdur / MICROSECONDS).sort((a, b) => b - a);
   }
 
   go(url) {

@@ -11,6 +11,7 @@ import { pictureOfSlice, pictureOfWindow } from "../../clients/js/pictures.js";
 import { areaOf, boxOf } from "../../clients/js/places.js";
 import { readWindowPacket, sliceText, windowPacketText, windowText } from "../../clients/js/wire.js";
 import { Tally, dice, gridListing, serve, tgap, thrown } from "./lib.mjs";
+import { calls } from "./calls.mjs";
 import { lives } from "./lives.mjs";
 import { refusals } from "./refusals.mjs";
 
@@ -297,6 +298,7 @@ async function example() {
 
 try {
   await example();
+  await calls(executable, tally);
   await withoutKeptConnections(versions);
   await keptConnections();
   await startedAnew();

@@ -5,7 +5,7 @@ import { setTimeout as pause } from "node:timers/promises";
 import { boxOf } from "../../clients/js/places.js";
 import { sliceText } from "../../clients/js/wire.js";
 import { KINDS, REFUSALS } from "./refusals.mjs";
-import { IDLE, NOTICES, PICTURE_TEXT, dragsNear, goesNear, otherVertex, placeOf, shown, text, vertexToMove } from "./served.mjs";
+import { IDLE, NOTICES, PICTURE_TEXT, dragsNear, goesNear, loadsAnew, otherVertex, placeOf, shown, text, vertexToMove } from "./served.mjs";
 
 const MIDDLE = [420, 330];
 const FOCUS = "window.dispatchEvent(new Event('focus'))";
@@ -192,8 +192,7 @@ async function dragsIntoAnotherHistory({ tab, tally, served }) {
 /** Behind a front server that names no history, lower numbers tell. */
 async function comparesNumbersWithoutAToken({ tab, tally, served }) {
   await served.changeFront((text) => text.replace(/add_header Tgap-History.*\n/, ""));
-  await tab.ask("Page.reload");
-  await pause(300);
+  await loadsAnew(tab);
   await tab.until(`${text("version")} === 'Version 1' && ${IDLE}`);
   tally.equal("without a token there is none", await tab.value("window.tgap.client.history"), null);
   served.endProgram();

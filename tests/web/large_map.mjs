@@ -1,8 +1,7 @@
 // The page over a map of 1,600 faces, where windows take the place of long rows of packets.
-import { setTimeout as pause } from "node:timers/promises";
 import { areaOf } from "../../clients/js/places.js";
 import { dice } from "./lib.mjs";
-import { IDLE, look, placeOf, shown, wrongSamples } from "./served.mjs";
+import { IDLE, look, placeOf, shown, turnsWheel, wrongSamples } from "./served.mjs";
 
 const MIDDLE = [400, 330];
 const MILLISECONDS_OF_DELAY = 150;
@@ -15,8 +14,15 @@ export async function largeMap(on) {
   await paintsWindowsWithinFaces(on);
   await movesAVertexOfAWindow(on);
   await goesOnAfterAnothersEdit(on);
-  const seen = await on.tab.value("window.seen");
+  const seen = await on.tab.value("({ ...window.seen, steps: null })");
   on.tally.holds(`at no moment a picture leaves a part of the view open: ${JSON.stringify(seen.open.slice(0, 3))}`, seen.open.length === 0 && seen.frames > 50);
+  const steps = await on.tab.value("[...window.seen.steps].map((it) => it.split(' ')[0])");
+  for (const kind of ["slice", "window"]) {
+    const count = steps.filter((it) => it === kind).length;
+    on.tally.holds(`on the way to a finer ${kind} steps between are seen: ${count}`, count > 20);
+  }
+  const asked = await on.tab.value("performance.getEntriesByType('resource').map(({ name }) => name.split('/map/')[1]?.split('/')[0]).filter(Boolean)");
+  on.tally.holds("windows are refined by packets", asked.includes("window-packet"));
   on.tally.holds("there are as many layers as the picture has", seen.layers === 0);
   on.tally.holds("a bar is seen while something is on its way", seen.bar > 0);
   on.tally.holds("and none when all is there", await on.tab.value("document.getElementById('progress').hidden"));
@@ -25,12 +31,13 @@ export async function largeMap(on) {
 /** Looks at each frame whether the picture covers the view. */
 function watch(tab) {
   return tab.value(`(() => {
-    const seen = (window.seen = { frames: 0, open: [], layers: 0, bar: 0 });
+    const seen = (window.seen = { frames: 0, open: [], layers: 0, bar: 0, steps: new Set() });
     const { sheet } = window.tgap;
     const frame = () => {
       const { picture, box } = sheet;
       const a = picture.area;
       seen.frames += 1;
+      seen.steps.add((a ? "window " : "slice ") + picture.step);
       if (a && !(a.x0 <= box.x0 && a.y0 <= box.y0 && a.x1 >= box.x1 && a.y1 >= box.y1)) seen.open.push([a, box]);
       let vectors = 0;
       sheet.map.eachLayer((it) => (vectors += it.setStyle ? 1 : 0));
@@ -61,11 +68,11 @@ async function neverShowsAStalePicture(on) {
   const { tab, tally } = on;
   await tab.delay(MILLISECONDS_OF_DELAY);
   await areRight(on, "all of it", 1);
-  await tab.wheel(MIDDLE, -1000);
+  await turnsWheel(tab, MIDDLE, -1000);
   await areRight(on, "on the way nearer", 4);
   await tab.until(IDLE);
   tally.equal("near, a window is shown", await areRight(on, "near", 1), "window");
-  await tab.wheel(MIDDLE, 1000);
+  await turnsWheel(tab, MIDDLE, 1000);
   tally.equal("as soon as one goes back, a slice is shown", await areRight(on, "on the way back", 4), "slice");
   await tab.until(IDLE);
   const back = await shown(tab);
@@ -137,8 +144,7 @@ async function goesOnAfterAnothersEdit({ tab, tally, served }) {
   await tab.until(IDLE);
   const [p] = [...(await served.slice(0)).edges.values()].map(({ points }) => points[1]);
   await served.edit(`move ${p.join(" ")} ${p[0] + 3} ${p[1] + 2}\n`);
-  await tab.wheel(MIDDLE, -100);
-  await pause(200);
+  await turnsWheel(tab, MIDDLE, -100);
   tally.holds("after another's edit the new version is shown", await tab.until(`document.getElementById('version').textContent === 'Version 2' && ${IDLE}`));
   const after = await shown(tab);
   tally.holds(`at the step of the view: ${after.step} of ${after.wanted}`, after.step === after.wanted && after.wanted < after.steps - 1);

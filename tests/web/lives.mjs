@@ -157,10 +157,12 @@ async function editsMeetAnotherHistory(executable, tally) {
 async function showOvertakes(executable, tally) {
   await asleep(executable, TOKENS, async ({ client, slices, front, both, turn }) => {
     front.before = ({ url }) => url === "/slice/0" && client.show(LAST, TOKENS[1]);
-    const calls = ["slice", "packet", "refine", "edit"].map((name) => thrown(CALLS[name](client, slices)));
+    const before = front.heard.length;
+    const calls = ["slice", "packet", "refine", "window", "topology", "faceAt", "edit"].map((name) => thrown(CALLS[name](client, slices)));
     const errors = await Promise.all(calls);
     tally.holds(`calls of a history that is shown no more tell of the one that is: ${errors}`, errors.every((error) => tellsOf(error, LAST, TOKENS[1])));
-    tally.equal("and those that waited were not sent", front.heard.at(-1).path, "/slice/0");
+    const heard = front.heard.slice(before).map(({ path }) => path).sort();
+    tally.equal("and those that waited were not sent", heard.join(), "/info,/packet/1/0,/packet/1/0,/slice/0");
     tally.equal("no edit was published", (await both[0].text("info")).slice(0, 9), `version ${LAST}`);
     turn();
     await isOfLife(tally, "after that", client, both[1]);

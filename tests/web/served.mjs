@@ -182,6 +182,27 @@ export function sliceOf(executable, step, ...map) {
   return readSlice(ran.stdout);
 }
 
+/** Turns the wheel, and waits until the view has followed: the page waits a moment for further turns. */
+export async function turnsWheel(tab, place, by) {
+  const zoom = await tab.value("window.tgap.sheet.map.getZoom()");
+  await tab.wheel(place, by);
+  return tab.until(`window.tgap.sheet.map.getZoom() !== ${zoom}`);
+}
+
+/** Gives the page another size, and waits until the map has taken it. */
+export async function resizes(tab, width, height) {
+  await tab.resize(width, height);
+  const isTaken = "(({ map }) => { const { x, y } = map.getSize(), { clientWidth, clientHeight } = map.getContainer(); return x === clientWidth && y === clientHeight; })(window.tgap.sheet)";
+  return tab.until(`window.innerWidth === ${width} && ${isTaken}`);
+}
+
+/** Loads the page anew, and waits until the one before is gone. */
+export async function loadsAnew(tab, words = {}) {
+  await tab.value("void (window.isOld = true)");
+  await tab.ask("Page.reload", words);
+  return tab.until("window.isOld === undefined");
+}
+
 /** Goes so near to a vertex that a pixel is a grid unit, and the finest step is shown. */
 export async function goesNear(tab, [x, y]) {
   await tab.value(`location.hash = '#0/${x}/${y}'`);

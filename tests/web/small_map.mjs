@@ -7,7 +7,7 @@ import { sliceText } from "../../clients/js/wire.js";
 import { pixelsOf } from "./browser.mjs";
 import { examples } from "./lib.mjs";
 import { tellsOfFailures } from "./failures.mjs";
-import { IDLE, NOTICES, PICTURE_TEXT, dragsNear, look, otherVertex, shown, sliceOf, text, vertexToMove, wrongSamples } from "./served.mjs";
+import { IDLE, NOTICES, PICTURE_TEXT, dragsNear, loadsAnew, look, otherVertex, resizes, shown, sliceOf, text, turnsWheel, vertexToMove, wrongSamples } from "./served.mjs";
 
 const MIDDLE = [420, 330];
 const POPUP = "document.querySelector('.leaflet-popup-content')?.innerText ?? ''";
@@ -72,20 +72,17 @@ async function keepsProportions({ tab, tally, executable, map }) {
 async function goesNearer(on) {
   const { tab, tally } = on;
   const first = (await shown(tab)).step;
-  await tab.wheel(MIDDLE, -20);
-  await pause(200);
+  await turnsWheel(tab, MIDDLE, -20);
   const second = await isRight(on, "nearer");
   tally.holds("nearer is finer", second < first && second > 0);
   await picture(on, "map_middle.png");
-  await tab.wheel(MIDDLE, -60);
-  await tab.until("window.tgap.sheet.picture.step === 0");
+  await turnsWheel(tab, MIDDLE, -60);
   tally.equal("the finest step comes last", await isRight(on, "near"), 0);
   await picture(on, "map_fine.png");
   const address = await tab.value("location.hash");
   const { zoom, box } = await shown(tab);
   tally.holds(`the position is in the address: ${address}`, address.startsWith(`#${zoom}/`));
-  await tab.ask("Page.reload");
-  await pause(300);
+  await loadsAnew(tab);
   await tab.until(IDLE);
   const again = await shown(tab);
   tally.holds("the address leads to the position", again.zoom === zoom && Math.abs(again.box.x0 - box.x0) < (box.x1 - box.x0) / 200);
@@ -135,8 +132,7 @@ async function keepsLabelsBesideBoxes({ tab, tally }) {
     const map = await tab.value("document.getElementById('map').clientHeight");
     tally.holds(`the map has room at a width of ${width}: ${map}`, map > 250);
   }
-  await tab.resize(1100, 613);
-  await pause(200);
+  await resizes(tab, 1100, 613);
   await tab.until(IDLE);
 }
 
