@@ -51,6 +51,11 @@ usage: ./tgap COMMAND WORD...
       time, and at most VERSIONS versions of the map
       ./tgap serve examples/two_squares.tgap 8080 4 16
 
+  keep MAP JOURNAL PORT WORKERS VERSIONS [OBJECT RULES]
+      serves as serve does, and stores each edit in the file JOURNAL before it says
+      that it is published; a later start makes all edits again from there
+      ./tgap keep examples/two_squares.tgap journal 8080 4 16
+
 Tools beside the program, in Python over GDAL and Shapely; each has its own --help:
 
   import       makes a map and its rules of any file of areas that GDAL reads
@@ -58,10 +63,12 @@ Tools beside the program, in Python over GDAL and Shapely; each has its own --he
   export       writes a slice as TopoJSON, GeoJSON, GeoPackage or a picture
   steps        lists the steps of a map, and the one that suits a scale
   loss         measures how far the areas of a slice differ from those of the map
+  publish      writes a map as one file that any web server can give, or tests one
+  journal      tells what a journal of edits has, and makes one edit of all of them
 
 MAP is the file of a listing. With OBJECT and RULES it is the file of a topology
 (TopoJSON), OBJECT the name of one of its objects, or - for the only one, and RULES
-the file of its rules. For a file, - is the standard input.
+the file of its rules. For a file, but for JOURNAL, - is the standard input.
 
   build               proves the sources of this checkout and builds their program;
                       it wants rt, the command of the Rattle toolchain, takes about
@@ -85,7 +92,7 @@ END
 # The help of one command: its paragraph of the whole text.
 help_of() {
     case $1 in
-        borders | check | slice | packet | replay | grid | serve) help_text | sed -n "/^  $1 /,/^\$/p" | sed "1s|^ *|usage: $called |" ;;
+        borders | check | slice | packet | replay | grid | serve | keep) help_text | sed -n "/^  $1 /,/^\$/p" | sed "1s|^ *|usage: $called |" ;;
         *) say "'$1' is no command ($called --help lists them)"; return 2 ;;
     esac
 }
@@ -106,6 +113,7 @@ words_of() {
         replay) echo "SLICE PACKET" ;;
         grid) echo "N" ;;
         serve) echo "MAP PORT WORKERS VERSIONS [OBJECT RULES]" ;;
+        keep) echo "MAP JOURNAL PORT WORKERS VERSIONS [OBJECT RULES]" ;;
     esac
 }
 
@@ -132,7 +140,7 @@ wrong_words() {
         shift
     done
     case $command,$given in
-        check,[13] | borders,2 | replay,2 | slice,[24] | packet,[35] | serve,[46]) echo "a word is no text in UTF-8" ;;
+        check,[13] | borders,2 | replay,2 | slice,[24] | packet,[35] | serve,[46] | keep,[57]) echo "a word is no text in UTF-8" ;;
         *) echo "the words of $command are $wanted, and it got $given" ;;
     esac
 }
@@ -145,6 +153,39 @@ wrong_file() {
         [ -r "$file" ] || { echo "the file '$file' may not be read"; return; }
     done
     echo "'$1'${2:+ or '$2'} could not be read"
+}
+
+# Whether files can be read, as far as that can be seen.
+are_readable() {
+    for file in "$@"; do
+        [ "$file" = - ] || { [ ! -d "$file" ] && [ -r "$file" ]; } || return
+    done
+}
+
+# Whether the program finds a map sound, by the words that name it.
+is_sound() { "$program" check "$@" >/dev/null 2>&1 </dev/null; }
+
+# Whether a file is empty or begins as a journal does.
+begins_as_journal() { [ "$(head -c 1 <"$1" | tr -d '\000\001' | wc -c)" -eq 0 ]; }
+
+# Why a journal could not be opened, as far as that can be seen.
+wrong_journal() {
+    case $1 in */*) folder=${1%/*} ;; *) folder=. ;; esac
+    if [ -d "$1" ]; then
+        echo "'$1' is a folder and no journal"
+    elif [ ! -e "$1" ] && [ ! -d "${folder:-/}" ]; then
+        echo "there is no folder '$folder' for the journal"
+    elif [ ! -e "$1" ]; then
+        echo "the journal '$1' could not be made"
+    elif [ ! -f "$1" ]; then
+        echo "'$1' is no plain file, as a journal is"
+    elif [ ! -r "$1" ] || [ ! -w "$1" ]; then
+        echo "the journal '$1' may not be read and written"
+    elif begins_as_journal "$1"; then
+        echo "the journal '$1' is held by another program that keeps it, or its disk failed"
+    else
+        echo "'$1' does not begin as a journal, and is left as it is"
+    fi
 }
 
 # What is wrong with the steps, given the command, its first file and its numbers.
@@ -167,13 +208,25 @@ explain() {
         slice,5) object=$4 second=$5 ;;
         packet,6) object=$5 second=$6 ;;
         serve,7) object=$6 second=$7 ;;
+        keep,8) object=$7 second=$8 ;;
         *) object="" second="" ;;
+    esac
+    # Whether it is the journal that is at fault: its map is read and checked before it.
+    case $status,${1-} in
+        3,keep) ! are_readable "$2" ${second:+"$second"} || set -- journal "$@" ;;
+        4,keep) ! is_sound "$2" ${second:+"$object" "$second"} || set -- journal "$@" ;;
     esac
     more="${documents}docs/formats.md, \"The command line\""
     case $status,${1-} in
         2,) help_text >&2; return ;;
         2,*) fault=$(wrong_words "$@") more="$called --help, and $more" ;;
+        3,journal) fault=$(wrong_journal "$4") more="${documents}docs/formats.md, \"A journal of edits\"" ;;
         3,*) fault=$(wrong_file "$2" ${second:+"$second"}) ;;
+        4,journal)
+            fault="the edits in the journal '$4' cannot be made again. journal-entry I: the number of entry I, counted from 0, does not follow, or the map in '$3' takes no such"
+            fault="$fault edit, so that the journal may be that of another map; journal-long N: there are N edits, and VERSIONS, $7, has to be above N; input-long: the file is too long"
+            more="${documents}docs/formats.md, \"A journal of edits\""
+            ;;
         4,replay) fault="the slice in '$2' or the packet in '$3' is longer than 67,108,864 bytes" ;;
         4,*)
             fault="the map in '$2'${second:+ or its rules in '$second'} are not as they must be, and the answer tells the first fault"
@@ -184,7 +237,10 @@ explain() {
         5,*) fault=$(wrong_steps "$@") ;;
         6,*) fault="the answer could not be written whole to the standard output: the disk may be full, or what reads it has ended" ;;
         7,*) fault="there was not enough memory for '${2-}'" more="${documents}docs/performance.md" ;;
-        8,*) fault="port $3 could not be had, since another program has it or it is kept for the administrator, or a connection could not be taken" more="${documents}docs/deployment.md" ;;
+        8,*)
+            [ "$1" != keep ] || shift
+            fault="port $3 could not be had, since another program has it or it is kept for the administrator, or a connection could not be taken" more="${documents}docs/deployment.md"
+            ;;
         9,*)
             fault="the slice in '$2' or the packet in '$3' is not as it must be, or they do not fit each other: the answer tells the line or the step"
             more="${documents}docs/formats.md, \"Slices, windows and packets\""
