@@ -54,6 +54,16 @@ def systemctl(*words):
     return subprocess.run(["systemctl", *words], check=False).returncode
 
 
+def forget_starts():
+    """systemd starts a unit five times in ten seconds and not again, and these tests want it more often."""
+    systemctl("reset-failed", UNIT)
+
+
+def restart():
+    forget_starts()
+    return systemctl("restart", UNIT)
+
+
 def shown(*names):
     said = subprocess.run(["systemctl", "show", UNIT, "-p", ",".join(names)], capture_output=True, text=True, check=True).stdout
     told = dict(line.split("=", 1) for line in said.splitlines())
@@ -143,7 +153,7 @@ def stops():
     for units, keeps in [([UNIT], False), ([UNIT, "nginx"], False), ([UNIT], True), ([UNIT, "nginx"], True)]:
         name = f"{units}{' with a journal' if keeps else ''}"
         serve(LARGEST, keeps=keeps)
-        systemctl("restart", UNIT)
+        restart()
         systemctl("start", "nginx")
         tell(f"the front server before {name}", front_server_knows(), True)
         before, history = len(kept()), token()
@@ -182,7 +192,7 @@ def open_requests():
 def keeps():
     """Edits through the front server over two joins and whatever ends the unit: none is lost, and readers meet other tokens alone."""
     serve(SQUARES, 8, True)
-    systemctl("restart", UNIT)
+    restart()
     tell("the front server before edits", front_server_knows(), True)
     readers = [Reader(stays) for stays in [True, False]]
     published = [patient_edit() for _ in range(12)]
@@ -195,6 +205,7 @@ def keeps():
     tell("edits in the journal", JOURNAL.read_bytes().count(OWN_BATCH), 12)
     for number, way in enumerate([restart, kill_the_program, kill_the_keeper, kill_the_way]):
         before, newest, process = token(), version_of(ask("GET", "/map/info").text), shown("MainPID")
+        forget_starts()
         way()
         begun = until(lambda process=process: shown("MainPID") not in (process, ["0"]) and shown("ActiveState", "SubState") == ["active", "running"], 60)
         tell(f"what stays over {way.__name__}", [begun, token() == before, version_of(past_nginx("GET", "/info").text)], [True, True, newest])
@@ -253,7 +264,7 @@ class Lives:
         faces, _, arcs = grid(self.side)
         LIFE.with_suffix(".new").write_bytes(listing(faces, [arc_text(*arc) for arc in arcs]))
         os.replace(LIFE.with_suffix(".new"), LIFE)
-        systemctl("reset-failed", UNIT)
+        forget_starts()
 
     def begun(self, before):
         """Whether another life has begun, which is taken down."""
@@ -269,7 +280,7 @@ def lives():
     serve(LIFE)
     all_lives = Lives()
     all_lives.prepare()
-    systemctl("restart", UNIT)
+    restart()
     tell("the first life", all_lives.begun(""), True)
     readers = [Reader(stays) for stays in [True, True, False, False]]
     for way in [restart, restart, kill_the_program, restart, kill_the_way, restart]:
@@ -293,10 +304,6 @@ def judge(told, faces):
     tell("replies of another life than they name", [pair for pair in set(given) if pair not in faces.items()], [])
     tell("lives that were read", len({history for history, _ in given}), len(faces))
     tell("what else is told", sorted({status for status, _, _ in told} - {200}), [502])
-
-
-def restart():
-    systemctl("restart", UNIT)
 
 
 def kill_the_program():
@@ -349,8 +356,7 @@ def dropped_in(text):
     DROP_IN.parent.mkdir(parents=True)
     DROP_IN.write_text(text)
     systemctl("daemon-reload")
-    systemctl("reset-failed", UNIT)
-    systemctl("restart", UNIT)
+    restart()
     yield
     DROP_IN.unlink()
     systemctl("daemon-reload")
@@ -365,8 +371,7 @@ def memory_is_limited():
 def refused():
     LIFE.write_text("no map\n")
     serve(LIFE)
-    systemctl("reset-failed", UNIT)
-    tell("a start with no map fails", systemctl("restart", UNIT) != 0, True)
+    tell("a start with no map fails", restart() != 0, True)
     time.sleep(4)
     tell("and is not tried again", shown("ActiveState", "ExecMainStatus", "NRestarts"), ["failed", "4", "0"])
     tell("what is told then", ask("GET", "/map/info").status, 502)
@@ -378,8 +383,7 @@ def refused():
 def machine_ends():
     """The machine is started again while an edit is being built."""
     serve(LARGEST, keeps=True)
-    systemctl("reset-failed", UNIT)
-    systemctl("restart", UNIT)
+    restart()
     wanted = pathlib.Path("/etc/systemd/system/booted.target.wants")
     wanted.mkdir()
     for name, unit in [(f"{UNIT}.service", "/etc/systemd/system/tgap@.service"), ("nginx.service", "/lib/systemd/system/nginx.service")]:
