@@ -14,7 +14,8 @@ use Rattle.face_cuts.specs.Outcomes.{has_room}
 use Rattle.face_cuts.specs.Nodes.{place_of, add_node}
 use Rattle.face_cuts.specs.Fusions.{fuse_faces}
 use Rattle.face_cuts.specs.Cuts.{cut_face}
-use Rattle.edit_laws.specs.Edits.{has_point, is_node, put_between, change_first, set_class, move_point, add_point, drop_point, cut_named, fuse_named, Node, apply, edited}
+use Rattle.edit_laws.specs.Edits.{Node, has_point, is_node, put_between, change_first, set_class, move_point, add_point, drop_point}
+use Rattle.edit_laws.specs.Edits.{cut_named, fuse_named, apply, edited}
 use Rattle.edit_laws.specs.EditLaws.{ends_line, joined_entry}
 
 -- an arc from the numbers of its line
@@ -148,7 +149,8 @@ lines_in_a_row = refl
 
 all_lines_in_a_row : edited squares (codes "add 10 0 10 10 11 5\nclass 1 1\nnode 0 0\ncut 1 0 3 0 0 5 6 10 10\nmove 5 6 4 6\ndrop 11 5\nfuse 1 3\n")
     ≡ Ok (map_of (1 ∷ 0 ∷ []) with_node.arcs)
-unfolding add_point set_class add_node cut_named cut_face move_point drop_point fuse_named fuse_faces spokes_at turns_before is_higher points_at number_of digits
+unfolding add_point set_class add_node cut_named cut_face move_point drop_point fuse_named fuse_faces
+    spokes_at turns_before is_higher points_at number_of digits
 all_lines_in_a_row = refl
 
 -- ---- when a line is refused
@@ -168,7 +170,8 @@ of_no_form : each squares (
 unfolding number_of digits
 of_no_form = refl
 
-node_of_no_form : each squares (codes "node 0\n" ∷ codes "node 0 0 0\n" ∷ codes "node 0 2147483649\n" ∷ codes "node 0 -0\n" ∷ codes "nodes 0 0\n" ∷ codes "node 0 0" ∷ [])
+node_of_no_form : each squares (
+    codes "node 0\n" ∷ codes "node 0 0 0\n" ∷ codes "node 0 2147483649\n" ∷ codes "node 0 -0\n" ∷ codes "nodes 0 0\n" ∷ codes "node 0 0" ∷ [])
     ≡ all_at 6 1 1
 unfolding number_of digits
 node_of_no_form = refl
@@ -182,7 +185,8 @@ cut_of_no_form : each squares (
 unfolding points_at number_of digits
 cut_of_no_form = refl
 
-fuse_of_no_form : each squares (codes "fuse 1\n" ∷ codes "fuse 1 2 3\n" ∷ codes "fuse 1 +2\n" ∷ codes "fuse 1 02\n" ∷ codes "fuse  1 2\n" ∷ codes "fuse 1 2" ∷ []) ≡ all_at 6 1 1
+fuse_of_no_form : each squares (
+    codes "fuse 1\n" ∷ codes "fuse 1 2 3\n" ∷ codes "fuse 1 +2\n" ∷ codes "fuse 1 02\n" ∷ codes "fuse  1 2\n" ∷ codes "fuse 1 2" ∷ []) ≡ all_at 6 1 1
 unfolding number_of digits
 fuse_of_no_form = refl
 
@@ -194,14 +198,17 @@ no_such_face_or_class = refl
 
 -- this comes before what is wrong with the points
 cut_of_no_such_face_or_class : each squares (
-    codes "cut 0 0 2 10 0 10 10\n" ∷ codes "cut 3 0 2 10 0 10 10\n" ∷ codes "cut -1 0 2 10 0 10 10\n" ∷ codes "cut 1180591620717411303424 0 2 10 0 10 10\n"
-    ∷ codes "cut 1 2 2 10 0 10 10\n" ∷ codes "cut 1 -1 2 10 0 10 10\n" ∷ codes "cut 1 1180591620717411303424 2 10 0 10 10\n" ∷ codes "cut 1 2 2 10 0 10 0\n" ∷ [])
+    codes "cut 0 0 2 10 0 10 10\n" ∷ codes "cut 3 0 2 10 0 10 10\n" ∷ codes "cut -1 0 2 10 0 10 10\n"
+    ∷ codes "cut 1180591620717411303424 0 2 10 0 10 10\n" ∷ codes "cut 1 2 2 10 0 10 10\n" ∷ codes "cut 1 -1 2 10 0 10 10\n"
+    ∷ codes "cut 1 1180591620717411303424 2 10 0 10 10\n" ∷ codes "cut 1 2 2 10 0 10 0\n" ∷ [])
     ≡ all_at 8 1 2
 unfolding cut_named points_at number_of digits
 cut_of_no_such_face_or_class = refl
 
 fuse_of_no_such_face : each squares (
-    codes "fuse 0 1\n" ∷ codes "fuse 1 0\n" ∷ codes "fuse 3 1\n" ∷ codes "fuse 1 3\n" ∷ codes "fuse -1 2\n" ∷ codes "fuse 1 1180591620717411303424\n" ∷ []) ≡ all_at 6 1 2
+    codes "fuse 0 1\n" ∷ codes "fuse 1 0\n" ∷ codes "fuse 3 1\n" ∷ codes "fuse 1 3\n" ∷ codes "fuse -1 2\n"
+    ∷ codes "fuse 1 1180591620717411303424\n" ∷ [])
+    ≡ all_at 6 1 2
 unfolding fuse_named number_of digits
 fuse_of_no_such_face = refl
 
@@ -241,23 +248,28 @@ unfolding add_point
 no_room m a b new arcs segment free full = rw (segment, free, full) refl
 
 -- An end that is no node, a direction along an arc, and one into another face. The first of these lines is no fault behind one that makes its node.
-no_sector : each squares (codes "cut 1 0 2 0 0 10 10\n" ∷ codes "cut 1 0 3 10 0 5 0 10 10\n" ∷ codes "cut 1 0 3 10 0 15 5 10 10\n" ∷ []) ≡ all_at 3 1 9
+no_sector : each squares (codes "cut 1 0 2 0 0 10 10\n" ∷ codes "cut 1 0 3 10 0 5 0 10 10\n" ∷ codes "cut 1 0 3 10 0 15 5 10 10\n" ∷ [])
+    ≡ all_at 3 1 9
 unfolding cut_named cut_face spokes_at turns_before points_at number_of digits
 no_sector = refl
 
 -- a point twice, the first one as the last, and an inner one that is a point of the map; this comes before an end that is no node
 point_taken : each squares (
-    codes "cut 1 0 4 10 0 5 5 5 5 10 10\n" ∷ codes "cut 1 0 3 10 0 5 5 10 0\n" ∷ codes "cut 1 0 3 10 0 0 0 10 10\n" ∷ codes "cut 1 0 2 5 5 5 5\n" ∷ []) ≡ all_at 4 1 10
+    codes "cut 1 0 4 10 0 5 5 5 5 10 10\n" ∷ codes "cut 1 0 3 10 0 5 5 10 0\n" ∷ codes "cut 1 0 3 10 0 0 0 10 10\n"
+    ∷ codes "cut 1 0 2 5 5 5 5\n" ∷ [])
+    ≡ all_at 4 1 10
 unfolding cut_named cut_face points_at number_of digits
 point_taken = refl
 
 -- as many faces as there may be; this comes before a point that stands twice
-no_room_for_cut : each (map_of (replicate MAX_FACES 0) squares.arcs) (codes "cut 1 0 2 10 0 10 10\n" ∷ codes "cut 1 0 2 10 0 10 0\n" ∷ []) ≡ all_at 2 1 11
+no_room_for_cut : each (map_of (replicate MAX_FACES 0) squares.arcs) (codes "cut 1 0 2 10 0 10 10\n" ∷ codes "cut 1 0 2 10 0 10 0\n" ∷ [])
+    ≡ all_at 2 1 11
 unfolding cut_named cut_face points_at number_of digits
 no_room_for_cut = refl
 
 -- a map in which there is no room for an arc and a point more
-no_room_for_node : (m : BaseMap) (v : Point) (place : ℕ × ℕ) → place_of v m.arcs ≡ Some place → is_node v m.arcs ≡ false → has_room m 0 1 1 ≡ false → apply m (Node v) ≡ Err 11
+no_room_for_node : (m : BaseMap) (v : Point) (place : ℕ × ℕ) → place_of v m.arcs ≡ Some place → is_node v m.arcs ≡ false → has_room m 0 1 1 ≡ false
+    → apply m (Node v) ≡ Err 11
 unfolding add_node
 no_room_for_node m v place found inner full = rw (found, inner, full) refl
 
