@@ -83,9 +83,10 @@ points_within (suc n) row points e =
     let whole : List Point × Row = (p ∷ rest.0, rest.1) in
     let same : whole ≡ points = cc in
     let later = points_within n y.1 rest read_rest in
-    subst (λ (z : List Point × Row). (length z.0 ≡ suc n) × (list_all in_limits z.0 ≡ true)) same
-    (ap suc later.0,
-    and_from (in_limits p) (list_all in_limits rest.0) (and_from _ _ (coordinate_within row x read_x) (coordinate_within x.1 y read_y)) later.1))))
+    subst (λ (z : List Point × Row). (length z.0 ≡ suc n) × (list_all in_limits z.0 ≡ true)) same (
+      ap suc later.0,
+      and_from (in_limits p) (list_all in_limits rest.0) (and_from _ _ (coordinate_within row x read_x) (coordinate_within x.1 y read_y)) later.1,
+    ))))
 
 -- a count that is read is at least the least
 count_least : (least most : ℕ) (row : Row) (count : ℕ × Row) → natural_at least most row ≡ Some count → least ≤ count.0
