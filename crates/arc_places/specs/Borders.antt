@@ -1,0 +1,31 @@
+-- The arcs that are listed for a face.
+use Rattle.std.specs.Prelude.{◌≡◌, ◌≤◌, ℕ, ◌-◌, Bool, true, ◌&&◌, List, [], length, map, slice_index_or, All}
+use Rattle.tgap_model.specs.declared.base.BaseArc.{BaseArc}
+use Rattle.tgap_model.specs.Base.{borders_face}
+use Rattle.arc_places.specs.declared.borders.Borders.{Borders}
+use Rattle.arc_places.specs.Places.{arc_passes, is_among}
+use Rattle.arc_places.specs.Slots.{is_there}
+
+-- the arcs that are listed for a face
+abbrev pub bordering : Borders → ℕ → List ℕ
+bordering borders f = slice_index_or (map (λ numbers. numbers.items) borders.arcs.items) f []
+
+-- how many faces there are, the one outside not counted
+abbrev pub face_count : Borders → ℕ
+face_count borders = length borders.arcs.items - 1
+
+-- the arc is there and has the face at its left or right
+abbrev pub is_beside : ℕ → BaseArc → Bool
+is_beside f a = is_there a && borders_face f a
+
+-- Each arc that is there is listed for its two faces. Others may be listed too.
+abbrev pub CoversFaces : (ℕ → List ℕ) → List BaseArc → Type 0
+CoversFaces lists arcs = (f i : ℕ) → arc_passes (is_beside f) arcs i ≡ true → is_among i (lists f) ≡ true
+
+-- the faces of the arc are among so many
+pub record HasFaces (count : ℕ) (a : BaseArc) : Type 0 where
+  pub left : a.left ≤ count
+  pub right : a.right ≤ count
+
+abbrev pub HaveFaces : ℕ → List BaseArc → Type 0
+HaveFaces count arcs = All (HasFaces count) arcs

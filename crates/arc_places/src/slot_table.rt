@@ -1,0 +1,65 @@
+//! A table of the arcs that are there in slots.
+
+ghost use Rattle.std.specs.Prelude.{◌≡◌, ◌<◌, IfOk, length};
+ghost use Rattle.ring_walk.specs.Spans.{AreSpans};
+ghost use Rattle.face_cuts.specs.Sectors.{spans_of};
+ghost use Rattle.arc_places.specs.Slots.{arcs_in, slot_of};
+ghost use Rattle.arc_places.specs.Places.{Covers, listed};
+ghost use Rattle.arc_places.specs.Borders.{CoversFaces, bordering};
+
+use crate::borders::Borders;
+use crate::places::Places;
+use face_cuts::{ArcTable, span_of};
+use ring_walk::{Side, Span};
+use std::alloc::Global;
+use std::marker::Model;
+use tgap_model::{BaseArc, Memory, Point};
+
+/// A table of the arcs that are there in slots, over the places of their points and the borders of their faces. Its arcs are
+/// numbered without those that are gone. Contracts see the slots.
+#[derive(Drop)]
+pub struct SlotTable<'a> {
+    slots: &'a [BaseArc],
+    places: &'a Places,
+    borders: &'a Borders,
+    numbers: Vec<u32>,
+    there: Vec<usize>,
+}
+
+impl<'a> Model for SlotTable<'a> {
+    ghost use Rattle.std.specs.Prelude.{List as Sequence};
+    ghost use Rattle.tgap_model.specs.declared.base.BaseArc.{BaseArc as Arc};
+    ghost use Rattle.arc_places.specs.SlotTables.{IsSlotTable};
+
+    ghost Value = { Sequence Arc };
+
+    ghost view = { λ t. t.slots.now };
+
+    ghost invariant = { λ t. IsSlotTable t.slots.now t.places.now t.borders.now t.numbers.items t.there.items };
+}
+
+impl<'a> SlotTable<'a> {
+    /// The table of the arcs that are there in these slots. It takes one look at each slot and no sort.
+    pub fn of(
+        alloc: Global,
+        slots: &'a [BaseArc],
+        places: &'a Places,
+        borders: &'a Borders,
+    ) -> Result<SlotTable<'a>, Memory>
+        requires spans { AreSpans (spans_of (arcs_in slots.now)) }
+        requires places { Covers (listed places.now) slots.now }
+        requires borders { CoversFaces (bordering borders.now) slots.now }
+        ensures { IfOk result (λ table. table ≡ slots.entry.now) }
+    {
+        Err(Memory)
+    }
+
+    /// The slot of an arc.
+    pub fn slot(&self, arc: u32) -> usize
+        requires { arc < length (arcs_in self.now) }
+        ensures slot { result ≡ slot_of self.now arc }
+        ensures within { result < length self.now }
+    {
+        self.there[arc as usize]
+    }
+}
