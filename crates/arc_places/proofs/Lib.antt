@@ -3,3 +3,4 @@ pub mod Listed
 pub mod FusedLists
 pub mod Rising
 pub mod LastOf
+pub mod FoundSides

@@ -1,5 +1,5 @@
 -- Slots and the arcs that are there: which number each of them has, and which slot.
-use Rattle.std.proofs.Common.{◌≡◌, ◌∙◌, ℕ, zero, suc, ◌+◌, ◌<◌, Bool, true, false, cond, List, [], ◌∷◌, length, filter, take, set, get_or, refl, sym, ap, subst, arith}
+use Rattle.std.proofs.Common.{◌≡◌, ◌≢◌, ◌∙◌, ℕ, zero, suc, ◌+◌, ◌<◌, ◌≤◌, Bool, true, false, cond, List, [], ◌∷◌, length, filter, take, set, get_or, refl, sym, ap, subst, arith}
 use Rattle.std.proofs.lemmas.Bool.{false≢true}
 use Rattle.tgap_model.specs.declared.base.BaseArc.{BaseArc}
 use Rattle.tgap_model.specs.Chains.{arc_number}
@@ -91,6 +91,13 @@ pub arc_in_slot : (slots : List BaseArc) (k : ℕ) → k < length (arcs_in slots
 arc_in_slot slots k lt =
     let h = slot_there slots k lt in
     sym (arc_there slots (slot_of slots k) h.within h.there).same ∙ ap (arc_number (arcs_in slots)) h.number
+
+-- no arc is in a slot past the last one, nor in one whose arc is gone
+pub none_past : (slots : List BaseArc) (i : ℕ) → length slots ≤ i → (k : ℕ) → k < length (arcs_in slots) → slot_of slots k ≢ i
+none_past slots i past k l e = (let h = (slot_there slots k l).within in omega (arith, past, e))
+
+pub none_gone : (slots : List BaseArc) (i : ℕ) → is_there (arc_number slots i) ≡ false → (k : ℕ) → k < length (arcs_in slots) → slot_of slots k ≢ i
+none_gone slots i gone k l e = false≢true (sym gone ∙ subst (λ (j : ℕ). is_there (arc_number slots j) ≡ true) e (slot_there slots k l).there)
 
 pub length-slots_from : (slots : List BaseArc) (j : ℕ) → length (slots_from j slots) ≡ length (arcs_in slots)
 length-slots_from [] j = refl

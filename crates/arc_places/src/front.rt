@@ -115,7 +115,7 @@ fn with_slot(table: &SlotTable<'_>, front: Front, x: Side, slot: usize) -> Front
     requires front { AreSpokesOf (spans_in table.now) (start_of (spans_in table.now) x) front }
     ensures spokes { AreSpokesOf (spans_in table.now) (start_of (spans_in table.now) x) result }
     ensures seen { (seen : OneSide → Bool) → AreLast (spans_in table.now) (start_of (spans_in table.now) x) x seen front
-        → AreLast (spans_in table.now) (start_of (spans_in table.now) x) x (λ s. seen s || (slot_of table.now s.span == slot)) result }
+        → AreLast (spans_in table.now) (start_of (spans_in table.now) x) x (λ s. seen s || (slot == slot_of table.now s.span)) result }
 {
     let Some(arc) = table.arc_of(slot) else {
         return front;
