@@ -10,10 +10,10 @@ use Rattle.ring_walk.specs.Sides.{numbered, side_number}
 use Rattle.ring_walk.proofs.SideNumbers.{number_within, numbered-side_number, numbered_within, side_number-numbered}
 use Rattle.face_cuts.proofs.Cases.{by_test, not_held, or_left, or_right}
 use Rattle.arc_places.specs.declared.sought.Sought.{Sought}
-use Rattle.arc_places.specs.Slots.{arcs_in, number_of, slot_of}
+use Rattle.arc_places.specs.Slots.{arcs_in, slot_of}
 use Rattle.arc_places.specs.SlotTables.{AreListed, is_found, passes}
 use Rattle.arc_places.proofs.Listed.{listed_passes, some_listed}
-use Rattle.arc_places.proofs.SlotNumbers.{slot_there}
+use Rattle.arc_places.proofs.SlotNumbers.{slot-inj}
 
 -- two tests of which each holds where the other does
 pub same_test : (a b : Bool) → (a ≡ true → b ≡ true) → (b ≡ true → a ≡ true) → a ≡ b
@@ -48,16 +48,12 @@ module _ (slots : List BaseArc) (sought : Sought) where
   abbrev is_it : ℕ → Side → Bool
   is_it i s = eqb (side_number s) i && passes slots sought s
 
-  -- two slots of arcs that are there
-  pub slot-inj : (k m : ℕ) → k < n → m < n → slot_of slots k ≡ slot_of slots m → k ≡ m
-  slot-inj k m l r e = sym (slot_there slots k l).number ∙ ap (number_of slots) e ∙ (slot_there slots m r).number
-
   -- in the slot of an arc the sides of the arc are found
   pub pair_found : (k slot : ℕ) → k < n → slot_of slots k ≡ slot → (i : ℕ) → is_found slots sought i slot ≡ (is_it i (side_by k Along) || is_it i (side_by k Against))
   pair_found k slot l e i =
       same_test (is_found slots sought i slot) (is_it i (side_by k Along) || is_it i (side_by k Against))
       (λ t. parts_of i slot t (λ m same p.
-      let is : (numbered i).span ≡ k = slot-inj (numbered i).span k m l (same ∙ sym e) in
+      let is : (numbered i).span ≡ k = slot-inj slots (numbered i).span k m l (same ∙ sym e) in
       let side : numbered i ≡ side_by k (numbered i).way = ap (λ (j : ℕ). side_by j (numbered i).way) is in
       by_way (numbered i).way (ap side_number (sym side) ∙ side_number-numbered i) (ap (passes slots sought) (sym side) ∙ p)))
       (λ t. by_test (is_it i (side_by k Along))

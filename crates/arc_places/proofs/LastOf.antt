@@ -39,8 +39,11 @@ module _ (spans : List Span) (h : AreSpans spans) (v : Point) where
 
   abbrev spoke : (s : Side) → IsSpoke spans v s → Spoke
   spoke s p = record {
-    node = start_of spans s; toward = toward_of spans s; side = s;
-    near = (limits s.way s.span p.side).0; apart = (limits s.way s.span p.side).1;
+    node = start_of spans s;
+    toward = toward_of spans s;
+    side = s;
+    near = (limits s.way s.span p.side).0;
+    apart = (limits s.way s.span p.side).1;
   }
 
   -- at one node the order of all spokes is that by direction
@@ -111,15 +114,23 @@ module _ (spans : List Span) (h : AreSpans spans) (v : Point) where
       by_test (spoke_before spans s t)
       (λ e. subst (λ (z : Side). Last (with_one test s) (Some z)) (sym (ap (λ (b : Bool). cond b t s) e)) (record {
         is = (l.is.0, or_left (test t) (same_side t s) l.is.1);
-        greatest = λ u q f. (t, refl, by_either test s u f
-            (λ k. of_last u q k)
-            (λ same. subst (λ (z : Side). spoke_before spans t z ≡ false) (sym same) (one_way s t p l.is.0 e)));
+        greatest = λ u q f. (
+          t,
+          refl,
+          by_either test s u f
+              (λ k. of_last u q k)
+              (λ same. subst (λ (z : Side). spoke_before spans t z ≡ false) (sym same) (one_way s t p l.is.0 e)),
+        );
       }))
       (λ e. subst (λ (z : Side). Last (with_one test s) (Some z)) (sym (ap (λ (b : Bool). cond b t s) e)) (record {
         is = (p, itself_passes test s);
-        greatest = λ u q f. (s, refl, by_either test s u f
-            (λ k. not_past s t u p l.is.0 q e (of_last u q k))
-            (λ same. subst (λ (z : Side). spoke_before spans s z ≡ false) (sym same) (spoke_order.itself s p)));
+        greatest = λ u q f. (
+          s,
+          refl,
+          by_either test s u f
+              (λ k. not_past s t u p l.is.0 q e (of_last u q k))
+              (λ same. subst (λ (z : Side). spoke_before spans s z ≡ false) (sym same) (spoke_order.itself s p)),
+        );
       }))
     where
       of_last : (u : Side) → IsSpoke spans v u → test u ≡ true → spoke_before spans t u ≡ false
@@ -178,6 +189,19 @@ module _ (spans : List Span) (h : AreSpans spans) (v : Point) where
       nothing true b = refl
       nothing false true = refl
       nothing false false = refl
+
+      or_none : (a : Bool) → (a || false) ≡ a
+      or_none true = refl
+      or_none false = refl
+
+  -- a side that does not leave the node is no spoke of it
+  pub seen_elsewhere : (x s : Side) (seen : Side → Bool) (front : Front) → (start_of spans s ≡ v → ⊥) → Seen x seen front → Seen x (with_one seen s) front
+  seen_elsewhere x s seen front other l =
+      seen_alike x seen (with_one seen s) front
+      (λ u p. by_test (same_side u s)
+      (λ t. absurd (other (sym (ap (start_of spans) (same_side-true u s t)) ∙ p.node)))
+      (λ f. sym (ap (λ (b : Bool). seen u || b) f ∙ or_none (seen u)))) l
+    where
       or_none : (a : Bool) → (a || false) ≡ a
       or_none true = refl
       or_none false = refl

@@ -4,3 +4,4 @@ pub mod FusedLists
 pub mod Rising
 pub mod LastOf
 pub mod FoundSides
+pub mod SeenSlots

@@ -117,11 +117,6 @@ impl<'a> ArcTable for SlotTable<'a> {
     }
 
     fn beside(&self, alloc: Global, face: u32) -> Result<Vec<Side>, Memory> {
-        sides_found(
-            alloc,
-            self,
-            self.borders.of_face(face),
-            &Sought::Face(face),
-        )
+        sides_found(alloc, self, self.borders.of_face(face), &Sought::Face(face))
     }
 }
