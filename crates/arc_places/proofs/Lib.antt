@@ -1,0 +1,7 @@
+pub mod SlotNumbers
+pub mod Listed
+pub mod FusedLists
+pub mod Rising
+pub mod LastOf
+pub mod FoundSides
+pub mod SeenSlots
