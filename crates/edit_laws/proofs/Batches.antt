@@ -6,7 +6,8 @@ use Rattle.line_forms.specs.Texts.{rows_of}
 use Rattle.line_forms.specs.Words.{Row, ◌>>=◌ as ◌then◌, ended}
 use Rattle.line_forms.specs.Lines.{◌>>=◌, next_number, is_over}
 use Rattle.face_cuts.proofs.NodesKeep.{nodes_keep}
-use Rattle.edit_laws.specs.Edits.{Edit, Class, Move, Add, Drop, Node, Cut, Fuse, decimal_at, point_at, arc_at, read_class, read_move, read_add, read_drop, read_node, read_cut, read_fuse, read_edit, apply, apply_line, at_line, edit_rows}
+use Rattle.edit_laws.specs.Edits.{Edit, Class, Move, Add, Drop, Node, Cut, Fuse, decimal_at, point_at, arc_at}
+use Rattle.edit_laws.specs.Edits.{read_class, read_move, read_add, read_drop, read_node, read_cut, read_fuse, read_edit, apply, apply_line, at_line, edit_rows}
 use Rattle.edit_laws.specs.EditLaws.{FitsLimits, BatchesKeepMaps}
 use Rattle.edit_laws.proofs.Numbers.{then_gives, ended_gives, point_within, arc_within}
 use Rattle.edit_laws.proofs.EditsKeep.{classes_keep, moves_keep, adds_keep, drops_keep, named_cuts_keep, named_fusions_keep}
@@ -48,7 +49,8 @@ cut_fits row e read =
     then_gives (decimal_at row) (λ face. decimal_at face.1 then λ class. arc_at class.1 then λ arc. ended (Cut face.0 class.0 arc.0) arc.1) e read
     (λ face f1 more. then_gives (decimal_at face.1) (λ class. arc_at class.1 then λ arc. ended (Cut face.0 class.0 arc.0) arc.1) e more
     (λ class f2 rest. then_gives (arc_at class.1) (λ arc. ended (Cut face.0 class.0 arc.0) arc.1) e rest
-    (λ arc f3 last. ended_gives (Cut face.0 class.0 arc.0) arc.1 e last (λ same. fits_along (Cut face.0 class.0 arc.0) e same (arc_within class.1 arc f3)))))
+    (λ arc f3 last. ended_gives (Cut face.0 class.0 arc.0) arc.1 e last
+    (λ same. fits_along (Cut face.0 class.0 arc.0) e same (arc_within class.1 arc f3)))))
 
 fuse_fits : (row : Row) (e : Edit) → read_fuse row ≡ Some e → FitsLimits e
 fuse_fits row e read =

@@ -14,7 +14,8 @@ use Rattle.face_cuts.specs.Fusions.{fuse_faces}
 use Rattle.face_cuts.specs.Cuts.{cut_face}
 use Rattle.face_cuts.proofs.FusionsKeep.{fusions_keep}
 use Rattle.face_cuts.proofs.CutsKeep.{cuts_keep}
-use Rattle.edit_laws.specs.Edits.{Cut, named, set_class, has_point, is_node, move_all, put_between, take_out, change_first, turns_back, move_point, add_point, drop_point, cut_named, fuse_named}
+use Rattle.edit_laws.specs.Edits.{named, set_class, has_point, is_node, move_all, put_between, take_out, change_first, turns_back, move_point, add_point, drop_point}
+use Rattle.edit_laws.specs.Edits.{Cut, cut_named, fuse_named}
 use Rattle.edit_laws.specs.EditLaws.{FitsLimits, ClassesKeepMaps, MovesKeepMaps, AddsKeepMaps, DropsKeepMaps}
 use Rattle.edit_laws.proofs.Numbers.{named_most}
 use Rattle.edit_laws.proofs.Laws.{classes_again, move_again, add_again, drop_again}
@@ -85,7 +86,8 @@ drops_keep m e old base made =
     by false node back found apart e1 made = absurd cc
 
 -- a cut and a fusion of faces that are named keep a base map one, as those of the faces do
-pub named_cuts_keep : (m e : BaseMap) (face class : List ℕ) (points : List Point) → IsTrue (is_base m) → FitsLimits (Cut face class points) → cut_named m face class points ≡ Ok e → IsTrue (is_base e)
+pub named_cuts_keep : (m e : BaseMap) (face class : List ℕ) (points : List Point) → IsTrue (is_base m) → FitsLimits (Cut face class points)
+    → cut_named m face class points ≡ Ok e → IsTrue (is_base e)
 unfolding cut_named
 named_cuts_keep m e face class points base fits made = by (named 1 (length m.classes) face) (named 0 (length m.rules.weights - 1) class) made
   where

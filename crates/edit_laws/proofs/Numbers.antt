@@ -67,7 +67,8 @@ point_within row p e =
     subst (λ (q : Point). in_limits q ≡ true) s (and_from _ _ (coordinate_within row x read_x) (coordinate_within x.1 y read_y))))
 
 -- points that are read are so many, all within the limits
-pub points_within : (n : ℕ) (row : Row) (points : List Point × Row) → points_at MAX_COORDINATE n row ≡ Some points → (length points.0 ≡ n) × (list_all in_limits points.0 ≡ true)
+pub points_within : (n : ℕ) (row : Row) (points : List Point × Row) → points_at MAX_COORDINATE n row ≡ Some points
+    → (length points.0 ≡ n) × (list_all in_limits points.0 ≡ true)
 unfolding points_at
 points_within zero row points e =
     let none : List Point × Row = ([], row) in
@@ -82,8 +83,10 @@ points_within (suc n) row points e =
     let whole : List Point × Row = (p ∷ rest.0, rest.1) in
     let same : whole ≡ points = cc in
     let later = points_within n y.1 rest read_rest in
-    subst (λ (z : List Point × Row). (length z.0 ≡ suc n) × (list_all in_limits z.0 ≡ true)) same
-    (ap suc later.0, and_from (in_limits p) (list_all in_limits rest.0) (and_from _ _ (coordinate_within row x read_x) (coordinate_within x.1 y read_y)) later.1))))
+    subst (λ (z : List Point × Row). (length z.0 ≡ suc n) × (list_all in_limits z.0 ≡ true)) same (
+      ap suc later.0,
+      and_from (in_limits p) (list_all in_limits rest.0) (and_from _ _ (coordinate_within row x read_x) (coordinate_within x.1 y read_y)) later.1,
+    ))))
 
 -- a count that is read is at least the least
 count_least : (least most : ℕ) (row : Row) (count : ℕ × Row) → natural_at least most row ≡ Some count → least ≤ count.0

@@ -7,12 +7,12 @@ use Rattle.tgap_model.specs.declared.geometry.Point.{Point}
 use Rattle.tgap_model.specs.declared.base.BaseArc.{BaseArc}
 use Rattle.tgap_model.specs.declared.limits.TheConstants.{MAX_COORDINATE, MAX_POINTS}
 use Rattle.tgap_model.specs.Base.{BaseMap, same_point, count_points}
-use Rattle.tgap_model.specs.Chains.{first_point, last_point}
 use Rattle.line_forms.specs.Texts.{number_of, rows_of}
 use Rattle.line_forms.specs.Words.{Row, ◌>>=◌ as ◌then◌, natural_at, ended}
 use Rattle.line_forms.specs.Lines.{◌>>=◌, next_number, is_over}
 use Rattle.line_forms.specs.ListingLines.{coordinate_at, points_at}
 use Rattle.line_forms.specs.Json.{ensured}
+pub use Rattle.face_cuts.specs.Nodes.{is_node, with_points}
 use Rattle.face_cuts.specs.Nodes.{add_node}
 use Rattle.face_cuts.specs.Fusions.{fuse_faces}
 use Rattle.face_cuts.specs.Cuts.{cut_face}
@@ -93,17 +93,9 @@ read_edit (w ∷ row) =
 abbrev pub has_point : Point → List BaseArc → Bool
 has_point p arcs = list_any (λ a. list_any (same_point p) a.points) arcs
 
--- some arc begins or ends at the point
-abbrev pub is_node : Point → List BaseArc → Bool
-is_node p arcs = list_any (λ a. same_point p (first_point a.points) || same_point p (last_point a.points)) arcs
-
 -- every point that is the one becomes the other
 abbrev pub moved : Point → Point → Point → Point
 moved old new p = if same_point old p then new else p
-
--- the arc with other points
-abbrev pub with_points : BaseArc → List Point → BaseArc
-with_points a points = record a { points = points }
 
 abbrev pub move_all : Point → Point → List BaseArc → List BaseArc
 move_all old new arcs = map (λ a. with_points a (map (moved old new) a.points)) arcs
