@@ -1,18 +1,17 @@
 -- The arcs that are listed for a face.
-use Rattle.std.specs.Prelude.{◌≡◌, ◌≤◌, ℕ, ◌-◌, Bool, true, ◌&&◌, List, [], length, map, slice_index_or, All}
+use Rattle.std.specs.Prelude.{◌≡◌, ◌≤◌, ℕ, ◌-◌, Bool, true, ◌&&◌, List, [], length, slice_index_or, All}
 use Rattle.tgap_model.specs.declared.base.BaseArc.{BaseArc}
 use Rattle.tgap_model.specs.Base.{borders_face}
-use Rattle.arc_places.specs.declared.borders.Borders.{Borders}
 use Rattle.arc_places.specs.Places.{arc_passes, is_among}
 use Rattle.arc_places.specs.Slots.{is_there}
 
--- the arcs that are listed for a face
-abbrev pub bordering : Borders → ℕ → List ℕ
-bordering borders f = slice_index_or (map (λ numbers. numbers.items) borders.arcs.items) f []
+-- the arcs that are listed for a face, in rows of which each is that of a face
+abbrev pub bordering : List (List ℕ) → ℕ → List ℕ
+bordering rows f = slice_index_or rows f []
 
 -- how many faces there are, the one outside not counted
-abbrev pub face_count : Borders → ℕ
-face_count borders = length borders.arcs.items - 1
+abbrev pub face_count : List (List ℕ) → ℕ
+face_count rows = length rows - 1
 
 -- the arc is there and has the face at its left or right
 abbrev pub is_beside : ℕ → BaseArc → Bool

@@ -3,11 +3,13 @@
 #![tactic(auto)]
 
 mod borders;
+mod found;
+mod front;
 mod ordered;
 mod places;
 mod slot_table;
 mod slots;
-mod spokes;
+mod sought;
 
 pub use borders::Borders;
 pub use places::Places;

@@ -1,6 +1,6 @@
 //! A table of the arcs that are there in slots.
 
-ghost use Rattle.std.specs.Prelude.{◌≡◌, ◌<◌, IfOk, length};
+ghost use Rattle.std.specs.Prelude.{◌≡◌, ◌≢◌, ◌<◌, ℕ, IfNone, IfOk, IfSome, length};
 ghost use Rattle.ring_walk.specs.Spans.{AreSpans};
 ghost use Rattle.face_cuts.specs.Sectors.{spans_of};
 ghost use Rattle.arc_places.specs.Slots.{arcs_in, slot_of};
@@ -8,7 +8,11 @@ ghost use Rattle.arc_places.specs.Places.{Covers, listed};
 ghost use Rattle.arc_places.specs.Borders.{CoversFaces, bordering};
 
 use crate::borders::Borders;
+use crate::found::sides_found;
+use crate::front::{in_front, start_of};
 use crate::places::Places;
+use crate::slots::{is_there, numbers_of, slots_of};
+use crate::sought::Sought;
 use face_cuts::{ArcTable, span_of};
 use ring_walk::{Side, Span};
 use std::alloc::Global;
@@ -22,7 +26,7 @@ pub struct SlotTable<'a> {
     slots: &'a [BaseArc],
     places: &'a Places,
     borders: &'a Borders,
-    numbers: Vec<u32>,
+    numbers: Vec<usize>,
     there: Vec<usize>,
 }
 
@@ -51,7 +55,15 @@ impl<'a> SlotTable<'a> {
         requires borders { CoversFaces (bordering borders.now) slots.now }
         ensures { IfOk result (λ table. table ≡ slots.entry.now) }
     {
-        Err(Memory)
+        let numbers = numbers_of(alloc, slots)?;
+        let there = slots_of(alloc, slots)?;
+        Ok(SlotTable {
+            slots,
+            places,
+            borders,
+            numbers,
+            there,
+        })
     }
 
     /// The slot of an arc.
@@ -61,5 +73,58 @@ impl<'a> SlotTable<'a> {
         ensures within { result < length self.now }
     {
         self.there[arc as usize]
+    }
+    /// The number of the arc in a slot; none where no arc is there.
+    pub fn arc_of(&self, slot: usize) -> Option<u32>
+        ensures found { IfSome result (λ k. (k < length (arcs_in self.now)) × (slot_of self.now k ≡ slot)) }
+        ensures none { IfNone result ((k : ℕ) → k < length (arcs_in self.now) → slot_of self.now k ≢ slot) }
+    {
+        if slot < self.slots.len() && is_there(&self.slots[slot]) {
+            Some(self.numbers[slot] as u32)
+        } else {
+            None
+        }
+    }
+}
+
+impl<'a> ArcTable for SlotTable<'a> {
+    ghost use Rattle.arc_places.specs.Slots.{arcs_in};
+
+    ghost arcs = { λ slots. arcs_in slots };
+
+    fn count(&self) -> usize {
+        self.there.len()
+    }
+
+    fn span(&self, arc: u32) -> Span {
+        span_of(&self.slots[self.slot(arc)])
+    }
+
+    fn points(&self, arc: u32) -> &[Point] {
+        self.slots[self.slot(arc)].points.as_slice()
+    }
+
+    fn next(&self, side: Side) -> Side {
+        let turned = side.turned();
+        let node = start_of(self, turned);
+        in_front(self, self.places.of_point(&node), turned)
+    }
+
+    fn leaving(&self, alloc: Global, node: Point) -> Result<Vec<Side>, Memory> {
+        sides_found(
+            alloc,
+            self,
+            self.places.of_point(&node),
+            &Sought::Node(node),
+        )
+    }
+
+    fn beside(&self, alloc: Global, face: u32) -> Result<Vec<Side>, Memory> {
+        sides_found(
+            alloc,
+            self,
+            self.borders.of_face(face),
+            &Sought::Face(face),
+        )
     }
 }

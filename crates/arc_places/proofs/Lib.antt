@@ -1,0 +1,5 @@
+pub mod SlotNumbers
+pub mod Listed
+pub mod FusedLists
+pub mod Rising
+pub mod LastOf
