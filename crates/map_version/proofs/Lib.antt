@@ -1,6 +1,12 @@
+pub mod Points
 pub mod Positions
 pub mod Firsts
 pub mod Listed
+pub mod InSlots
+pub mod Changing
+pub mod Renaming
+pub mod Counting
+pub mod Relisting
 pub mod Least
 pub mod Moves
 pub mod Drafts

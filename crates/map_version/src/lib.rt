@@ -8,9 +8,9 @@ mod batch;
 mod cause;
 mod draft;
 mod fault;
+mod labels;
 mod line;
 mod path;
-mod places;
 mod version;
 
 pub use batch::edited;
