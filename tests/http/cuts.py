@@ -1,9 +1,10 @@
-"""Nodes, cuts and fusions, as lines of batches: worked maps, each cause by a batch, lines behind a cut that name its points, batches of all kinds of lines,
-long batches, and maps that have as much as a map may have.
+"""Nodes, cuts and fusions, as lines of batches: worked maps, each cause by a batch, lines behind a cut that name its
+points, batches of all kinds of lines, long batches, and maps that have as much as a map may have.
 
-Cause 14 is told where two faces border each other alone. Over HTTP it can not be met: a map that is served is a planar partition, in which all faces hang
-together with the outside by their arcs; no line changes a side that is the outside's, and a cut and a fusion leave what hangs together. So it is tried on maps
-that are no partitions, by tests/trials."""
+Cause 14 is told where two faces border each other alone. Over HTTP it cannot be met: a map that is served is a planar
+partition, in which all faces hang together with the outside by their arcs; no line changes a side that is the
+outside's, and a cut and a fusion leave together what hangs together. So tests/trials has it, of a map that is no
+partition."""
 import contextlib
 import pathlib
 import sys
@@ -57,21 +58,21 @@ def at_fault(version, line, cause):
 
 SIDE = "10 0 10 10"
 RIGHT_SQUARE, MIDDLE = (1, 2, 0, "10 0 20 0 20 10 10 10"), (2, 1, 2, SIDE)
+CUT_SQUARE = [(0, 3, 0, "10 10 0 10 0 0"), RIGHT_SQUARE, MIDDLE, (3, 1, 0, "0 0 10 0"), (4, 3, 1, "0 0 10 10")]
 ISLAND = "10 10 20 10 20 20 10 20 10 10"
 # A map, and batches one after the other: each with the numbers of steps, faces, arcs and points, the classes, and the edges.
 WORKED = [
     ("two_squares", [
-        (CORNER + DIAGONAL, (2, 3, 5, 13), [0, 0, 0],
-         [(0, 3, 0, "10 10 0 10 0 0"), RIGHT_SQUARE, MIDDLE, (3, 1, 0, "0 0 10 0"), (4, 3, 1, "0 0 10 10")]),
+        (CORNER + DIAGONAL, (2, 3, 5, 13), [0, 0, 0], CUT_SQUARE),
         (JOIN, (1, 2, 4, 11), [0, 0], [(0, 1, 0, "10 10 0 10 0 0 10 0"), RIGHT_SQUARE, MIDDLE]),
         # The last number is free again.
-        (DIAGONAL, (2, 3, 5, 13), [0, 0, 0],
-         [(0, 3, 0, "10 10 0 10 0 0"), RIGHT_SQUARE, MIDDLE, (3, 1, 0, "0 0 10 0"), (4, 3, 1, "0 0 10 10")]),
+        (DIAGONAL, (2, 3, 5, 13), [0, 0, 0], CUT_SQUARE),
         # The third face gets the number that is left.
         (b"fuse 1 2\n", (1, 2, 4, 11), [0, 0], [(0, 2, 0, "10 10 0 10 0 0"), (1, 1, 0, "0 0 10 0 20 0 20 10 10 10"), (3, 2, 1, "0 0 10 10")]),
     ]),
     ("one_square", [
-        (b"node 10 10\ncut 1 0 2 10 10 0 0\n", (1, 2, 3, 8), [0, 0], [(0, 2, 0, "0 0 10 0 10 10"), (1, 1, 0, "10 10 0 10 0 0"), (2, 2, 1, "10 10 0 0")]),
+        (b"node 10 10\ncut 1 0 2 10 10 0 0\n", (1, 2, 3, 8), [0, 0],
+         [(0, 2, 0, "0 0 10 0 10 10"), (1, 1, 0, "10 10 0 10 0 0"), (2, 2, 1, "10 10 0 0")]),
     ]),
     # A square in the middle of another one, at the left of the cut and then at its right.
     ("hole_with_face", [
@@ -103,8 +104,8 @@ WORKED = [
     ]),
     ("two_roots", [
         (b"class 4 0\nfuse 4 2\n", (2, 3, 7, 18), [0, 0, 0],
-         [(0, 1, 0, "0 10 0 0 10 0"), (1, 2, 0, "10 0 20 0 20 10 20 20 10 20"), (3, 3, 0, "10 20 0 20 0 10"), (4, 1, 2, SIDE), (5, 2, 3, "10 20 10 10"),
-          (6, 3, 1, "0 10 10 10")]),
+         [(0, 1, 0, "0 10 0 0 10 0"), (1, 2, 0, "10 0 20 0 20 10 20 20 10 20"), (3, 3, 0, "10 20 0 20 0 10"), (4, 1, 2, SIDE),
+          (5, 2, 3, "10 20 10 10"), (6, 3, 1, "0 10 10 10")]),
     ]),
     # All faces become one, and then none is left to be added.
     ("four_squares", [
@@ -134,15 +135,21 @@ def worked(tests):
 FAR = b" ".join(b"%d 99" % x for x in range(MOST_CUT))
 # The cause, and the last line of each batch for which it is told.
 OF_TWO_SQUARES = [
-    (1, [b"cut 1 0 1 10 0", b"cut 1 0 0", b"cut 1 0 -2 10 0 10 10", b"cut 1 0 02 10 0 10 10", b"cut 1 0 +2 10 0 10 10", b"cut 1 0 %d 10 0 10 10" % HUGE,
-         b"cut 1 0 2 10 0 10", b"cut 1 0 2 10 0 10 10 5", b"cut 1 0 2 10 0 10 10 5 5", b"cut 1 0 3 10 0 10 10", b"cut 1 0 2 10 0 10 10 ", b"cut 1 0 2  10 0 10 10",
+    (1, [b"cut 1 0 1 10 0", b"cut 1 0 0", b"cut 1 0 -2 10 0 10 10", b"cut 1 0 02 10 0 10 10", b"cut 1 0 +2 10 0 10 10",
+         b"cut 1 0 %d 10 0 10 10" % HUGE,
+         b"cut 1 0 2 10 0 10", b"cut 1 0 2 10 0 10 10 5", b"cut 1 0 2 10 0 10 10 5 5", b"cut 1 0 3 10 0 10 10", b"cut 1 0 2 10 0 10 10 ",
+         b"cut 1 0 2  10 0 10 10",
          b"cut 1 0 2 10 0 10 010", b"cut 1 0 2 10 0 10 -0", b"cut 1 0 2 10 0 10 x", b"cut 1 0 2 10 0 10 2147483649", b"cut 1 0 2 -2147483649 0 10 10",
-         b"cut 01 0 2 10 0 10 10", b"cut 1 -0 2 10 0 10 10", b"cut x 0 2 10 0 10 10", b"cut 1 0 2", b"cut 1 0", b"cut 1", b"cut", b"cut ", b"Cut 1 0 2 10 0 10 10",
+         b"cut 01 0 2 10 0 10 10", b"cut 1 -0 2 10 0 10 10", b"cut x 0 2 10 0 10 10", b"cut 1 0 2", b"cut 1 0", b"cut 1", b"cut", b"cut ",
+         b"Cut 1 0 2 10 0 10 10",
          b"cut 1 0 2 10 0 10 10\r", b" cut 1 0 2 10 0 10 10", b"cut 1 0 %d %s 0 98" % (MOST_CUT + 1, FAR),
-         b"node", b"node 0", b"node 0 0 0", b"node  0 0", b"node 0 00", b"node 0 0 ", b"node 2147483649 0", b"node 0 -2147483649", b"Node 0 0", b"node 0 0\r",
+         b"node", b"node 0", b"node 0 0 0", b"node  0 0", b"node 0 00", b"node 0 0 ", b"node 2147483649 0", b"node 0 -2147483649", b"Node 0 0",
+         b"node 0 0\r",
          b"fuse", b"fuse 1", b"fuse 1 2 3", b"fuse 1 02", b"fuse +1 2", b"fuse 1  2", b"fuse 1 2 ", b"fuse 1 x", b"fuses 1 2", b"FUSE 1 2"]),
-    (2, [b"cut 0 0 2 10 0 10 10", b"cut 3 0 2 10 0 10 10", b"cut 1 1 2 10 0 10 10", b"cut -1 0 2 10 0 10 10", b"cut 1 -1 2 10 0 10 10", b"cut %d 0 2 10 0 10 10" % HUGE,
-         b"cut 1 %d 2 10 0 10 10" % HUGE, b"cut 4294967297 0 2 10 0 10 10", b"cut 3 0 2 10 0 10 0", b"fuse 0 1", b"fuse 1 0", b"fuse 0 0", b"fuse 3 1", b"fuse 1 3",
+    (2, [b"cut 0 0 2 10 0 10 10", b"cut 3 0 2 10 0 10 10", b"cut 1 1 2 10 0 10 10", b"cut -1 0 2 10 0 10 10", b"cut 1 -1 2 10 0 10 10",
+         b"cut %d 0 2 10 0 10 10" % HUGE,
+         b"cut 1 %d 2 10 0 10 10" % HUGE, b"cut 4294967297 0 2 10 0 10 10", b"cut 3 0 2 10 0 10 0", b"fuse 0 1", b"fuse 1 0", b"fuse 0 0",
+         b"fuse 3 1", b"fuse 1 3",
          b"fuse -1 1", b"fuse 1 %d" % HUGE, b"fuse 4294967297 2", b"fuse 3 3", b"node 0 0\nnode 0 10\ncut 3 0 2 0 0 10 10"]),
     (3, [b"node 5 5", b"node 2147483648 -2147483648", b"add 0 0 10 0 5 -1\ndrop 5 -1\nnode 5 -1", b"node 0 0\nmove 0 0 -1 -1\nnode 0 0"]),
     (6, [b"node 10 0", b"node 10 10", b"node 0 0\nnode 0 0", b"node 0 0\ndrop 0 0", b"node 0 0\nmove 0 0 -1 -1\nnode -1 -1",
@@ -152,11 +159,15 @@ OF_TWO_SQUARES = [
          # Along a border, and against it.
          b"cut 1 0 2 10 0 10 10", b"cut 1 0 2 10 10 10 0", b"cut 2 0 2 10 0 10 10", b"cut 1 0 3 10 0 10 5 10 10", b"cut 1 0 3 10 0 4 0 10 10",
          # Into another face, at one end and the other, and into the outside.
-         b"cut 1 0 3 10 0 15 5 10 10", b"cut 2 0 3 10 0 5 5 10 10", b"cut 1 0 4 10 0 5 5 15 6 10 10", b"cut 1 0 4 10 0 15 6 5 5 10 10", b"cut 1 0 3 10 0 10 -5 10 10",
-         b"node 0 0\ncut 2 0 2 0 0 10 10", b"node 0 0\ncut 2 0 3 10 0 5 5 0 0", b"node 0 0\ncut 1 0 2 0 0 10 0", b"node 0 0\ncut 1 0 3 0 0 -5 5 10 10",
+         b"cut 1 0 3 10 0 15 5 10 10", b"cut 2 0 3 10 0 5 5 10 10", b"cut 1 0 4 10 0 5 5 15 6 10 10", b"cut 1 0 4 10 0 15 6 5 5 10 10",
+         b"cut 1 0 3 10 0 10 -5 10 10",
+         b"node 0 0\ncut 2 0 2 0 0 10 10", b"node 0 0\ncut 2 0 3 10 0 5 5 0 0", b"node 0 0\ncut 1 0 2 0 0 10 0",
+         b"node 0 0\ncut 1 0 3 0 0 -5 5 10 10",
          b"cut 1 0 %d %s" % (MOST_CUT, FAR)]),
-    (10, [b"cut 1 0 2 10 0 10 0", b"cut 1 0 2 5 5 5 5", b"cut 1 0 4 10 0 5 5 5 5 10 10", b"cut 1 0 4 10 0 5 5 10 0 10 10", b"cut 1 0 5 10 0 5 5 6 6 5 5 10 10",
-          b"cut 1 0 3 10 0 0 0 10 10", b"cut 1 0 4 10 0 0 0 0 10 10 10", b"cut 1 0 3 10 0 20 10 10 10", b"cut 1 0 3 7 7 10 0 8 8", b"cut 1 0 3 5 5 6 6 5 5",
+    (10, [b"cut 1 0 2 10 0 10 0", b"cut 1 0 2 5 5 5 5", b"cut 1 0 4 10 0 5 5 5 5 10 10", b"cut 1 0 4 10 0 5 5 10 0 10 10",
+          b"cut 1 0 5 10 0 5 5 6 6 5 5 10 10",
+          b"cut 1 0 3 10 0 0 0 10 10", b"cut 1 0 4 10 0 0 0 0 10 10 10", b"cut 1 0 3 10 0 20 10 10 10", b"cut 1 0 3 7 7 10 0 8 8",
+          b"cut 1 0 3 5 5 6 6 5 5",
           b"cut 1 0 3 10 0 5 5 10 10\ncut 1 0 3 10 0 5 5 10 10", b"add 0 0 10 0 5 -1\ncut 1 0 3 10 0 5 -1 10 10"]),
     (13, [b"fuse 1 1", b"fuse 2 2", b"fuse 1 2\nfuse 1 1", b"node 0 0\nnode 20 0\ncut 1 0 2 0 0 10 10\nfuse 2 3"]),
 ]
@@ -243,7 +254,8 @@ MIXED = [
     ]),
     ("corner", [
         # Two squares with one corner in common: the walk passes the other one.
-        b"node 0 0\ncut 1 0 2 0 0 10 10\nfuse 1 3\nnode 20 20\ncut 2 0 3 20 20 16 15 10 10\nmove 16 15 15 16\nadd 10 10 15 16 12 13\ndrop 15 16\nclass 3 0\n",
+        b"node 0 0\ncut 1 0 2 0 0 10 10\nfuse 1 3\nnode 20 20\ncut 2 0 3 20 20 16 15 10 10\nmove 16 15 15 16\nadd 10 10 15 16 12 13\n"
+        b"drop 15 16\nclass 3 0\n",
     ]),
     ("hole_with_face", [
         b"node 30 30\nnode 20 20\ncut 1 0 2 20 20 30 30\n",
@@ -296,27 +308,29 @@ def triangles(count):
 
 
 def polygon(arcs):
-    """The listing of one face inside so many arcs: a level row of points, and one above the first. The first arc has one point of the row between its ends, and
-    each other one is one segment."""
+    """The listing of one face inside so many arcs: a level row of points, and one above the first. The first arc has one
+    point of the row between its ends, and each other one is one segment."""
     ring = [*((x, 0) for x in range(arcs)), (0, 1)]
     ends = [ring[:3], *([a, b] for a, b in zip(ring[2:], [*ring[3:], ring[0]]))]
     return listing(1, [arc_text(1, 0, points) for points in ends], ratio=0, version=2)
 
 
-# A map that has nearly as much as a map may have, and batches one after the other: each with its reply, the line at fault and the cause or the numbers of
-# steps, faces, arcs and points.
+# A map that has nearly as much as a map may have, and batches one after the other: each with the line at fault and the
+# cause, or with the numbers of steps, faces, arcs and points.
 FULL = {
     "faces": (lambda: triangles(MOST_FACES - 3), [
         (b"cut 1 0 3 0 0 1 3 4 4\n", (2, MOST_FACES, MOST_FACES + 1, 4 * MOST_FACES - 1)),
         (b"cut 1 0 3 0 0 1 2 4 4\n", (1, 11)), (b"node 0 4\ncut 2 0 3 0 0 3 1 4 4\n", (2, 11)),
         # It is told before anything of the points, and after the face and the class.
-        (b"cut 1 0 2 0 0 0 0\n", (1, 11)), (b"cut 1 0 2 9 9 9 8\n", (1, 11)), (b"cut %d 0 2 0 0 0 0\n" % (MOST_FACES + 1), (1, 2)), (b"cut 1 1 2 0 0 0 0\n", (1, 2)),
+        (b"cut 1 0 2 0 0 0 0\n", (1, 11)), (b"cut 1 0 2 9 9 9 8\n", (1, 11)), (b"cut 1 1 2 0 0 0 0\n", (1, 2)),
+        (b"cut %d 0 2 0 0 0 0\n" % (MOST_FACES + 1), (1, 2)),
         (b"fuse 1 %d\ncut 1 0 3 0 0 1 2 4 4\ncut 2 0 3 0 0 3 1 4 4\n" % MOST_FACES, (3, 11)),
         (b"fuse 1 %d\ncut 2 0 3 4 4 3 1 0 0\nnode 0 4\n" % MOST_FACES, (2, MOST_FACES, MOST_FACES + 2, 4 * MOST_FACES)),
     ]),
     "arcs": (lambda: polygon(MOST_ARCS - 1), [
         (b"cut 1 0 2 0 1 5 0\n", (1, 2, MOST_ARCS, 2 * MOST_ARCS + 1)),
-        (b"node 1 0\n", (1, 11)), (b"cut 2 0 2 0 1 7 0\n", (1, 11)), (b"node 9 9\n", (1, 3)), (b"node 3 0\n", (1, 6)), (b"cut 2 0 3 0 1 0 1 0 1\n", (1, 11)),
+        (b"node 1 0\n", (1, 11)), (b"cut 2 0 2 0 1 7 0\n", (1, 11)), (b"node 9 9\n", (1, 3)), (b"node 3 0\n", (1, 6)),
+        (b"cut 2 0 3 0 1 0 1 0 1\n", (1, 11)),
         (b"fuse 1 2\nnode 1 0\n", (0, 1, MOST_ARCS, 2 * MOST_ARCS)),
         (b"cut 1 0 2 0 1 7 0\n", (1, 11)), (b"add 0 1 0 0 -1 0\nnode -1 0\n", (2, 11)),
     ]),

@@ -104,8 +104,8 @@ def between(chance, a, b):
 
 
 def drawn_cut(chance, base):
-    """The lines that make nodes of the ends of a cut, where they are none, and the cut: between two points of one ring of a face, as the crow flies or by
-    some points on the way."""
+    """The lines that make nodes of the ends of a cut, where they are none, and the cut: between two points of one ring of a
+    face, as the crow flies or by some points on the way."""
     walks, face = Walks(base.arcs), chance.randrange(1, len(base.classes) + 1)
     row = walks.row(chance.choice(sides_of(walks, face)))
     points = list(dict.fromkeys(point for side in row for point in walks.points(side)))

@@ -1,5 +1,5 @@
-"""A slow plain reader of the edits that make nodes, cut faces and fuse them, by docs/rules.md, and of the causes for which an edit is refused. A base is one
-of plain_maps."""
+"""A slow plain reader of the edits that make nodes, cut faces and fuse them, by docs/rules.md, and of the causes for which
+an edit is refused. A base is one of plain_maps."""
 import collections
 from fractions import Fraction
 

@@ -10,8 +10,8 @@ from kept import SECONDS, TOP, TRIALS, Skipped
 sys.path[:0] = [str(TOP / "tests/sweep"), str(TOP / "bench")]
 from drawn_edits import KINDS, front_of, listing, widened  # noqa: E402
 from maps import bent_cells, cells, comb, islands, nested_rings, star, write  # noqa: E402
-from plain_cuts import Cause  # noqa: E402
-from plain_maps import read_listing  # noqa: E402
+from plain_cuts import Cause, fuse  # noqa: E402
+from plain_maps import Base, read_listing  # noqa: E402
 
 SHAPES = [(cells, 4), (bent_cells, 3), (islands, 3), (nested_rings, 4), (star, 3), (comb, 6)]
 EDITS, MOST_SEQUENCE = 3600, 40
@@ -69,4 +69,23 @@ def random_edits(tests):
         tests.tell(f"enough of {name}", [] if counts[name, "done"] >= LEAST else [f"only {counts}"])
 
 
-TESTS = [random_edits]
+def nothing_else(tests):
+    """Two faces that border each other alone are not fused. No planar partition has such faces, so no server is asked."""
+    if not TRIALS.is_file():
+        raise Skipped(f"there is no {TRIALS.relative_to(TOP)}: ./tgap build makes it")
+    with tempfile.TemporaryDirectory() as folder:
+        path = f"{folder}/map"
+        write(path, cells, 1)
+        with open(path, "rb") as file:
+            front = front_of(file.read())
+        base = Base(0, [1], [[1]], [0, 0], [(1, 2, [(0, 0), (9, 0), (0, 9), (0, 0)])])
+        with open(path, "wb") as file:
+            file.write(listing(base, front))
+        for numbers, cause in [((1, 2), 14), ((2, 1), 14), ((1, 1), 13), ((1, 3), 2)]:
+            words = [TRIALS, "fuse", path, *flat(numbers)]
+            ended = subprocess.run(words, capture_output=True, timeout=SECONDS, stdin=subprocess.DEVNULL, check=False)
+            tests.same(f"fuse {numbers} of two faces alone", (ended.returncode, ended.stdout), (4, b"cause %d\n" % cause))
+            tests.same(f"the same by a plain reader, {numbers}", wanted(fuse, base, numbers, front)[0], (4, b"cause %d\n" % cause))
+
+
+TESTS = [random_edits, nothing_else]
