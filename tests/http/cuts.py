@@ -7,19 +7,26 @@ outside's, and a cut and a fusion leave together what hangs together. So tests/t
 partition."""
 import contextlib
 import pathlib
-import sys
 import tempfile
 
 from lib import TOP, Server, arc_text, ask, listing
 from plain_answers import PlainAnswers
-
-sys.path.append(str(TOP / "tests/cli"))
-from maps import MAPS, row_of  # noqa: E402
-from plain_maps import read_listing  # noqa: E402
+from plain_maps import read_listing
 
 VERSIONS, BODY = 64, 1048576
 MOST_FACES, MOST_ARCS, MOST_POINTS, MOST_CUT = 32768, 65536, 524288, 65535
 HUGE = 2**70
+SQUARE, INNER = "0 0 10 0 10 10 0 10 0 0", "10 10 20 10 20 20 10 20 10 10"
+FOUR_SQUARES = ["1 0 3 0 10 0 0 10 0", "2 0 3 10 0 20 0 20 10", "4 0 3 20 10 20 20 10 20", "3 0 3 10 20 0 20 0 10",
+                "1 2 2 10 0 10 10", "2 4 2 20 10 10 10", "4 3 2 10 20 10 10", "3 1 2 0 10 10 10"]
+MAPS = {
+    **{name: (TOP / f"examples/{name}.tgap").read_bytes() for name in ("two_squares", "four_squares", "hole_with_face")},
+    "no_faces": listing(0, []),
+    "one_square": listing(1, [f"1 0 5 {SQUARE}"]),
+    "two_apart": listing(2, [f"1 0 5 {SQUARE}", "2 0 5 20 0 30 0 30 10 20 10 20 0"]),
+    "two_at_a_corner": listing(2, ["1 0 5 10 10 0 10 0 0 10 0 10 10", f"2 0 5 {INNER}"]),
+    "of_two_classes": listing(4, FOUR_SQUARES, ratio=0, classes=("1 1 0", "1 0 1"), class_of={2: 1, 4: 1}),
+}
 # A cut of the first of two squares, from corner to corner, and what joins its faces again.
 CORNER, DIAGONAL, JOIN = b"node 0 0\n", b"cut 1 0 2 0 0 10 10\n", b"fuse 1 3\n"
 
@@ -59,7 +66,6 @@ def at_fault(version, line, cause):
 SIDE = "10 0 10 10"
 RIGHT_SQUARE, MIDDLE = (1, 2, 0, "10 0 20 0 20 10 10 10"), (2, 1, 2, SIDE)
 CUT_SQUARE = [(0, 3, 0, "10 10 0 10 0 0"), RIGHT_SQUARE, MIDDLE, (3, 1, 0, "0 0 10 0"), (4, 3, 1, "0 0 10 10")]
-ISLAND = "10 10 20 10 20 20 10 20 10 10"
 # A map, and batches one after the other: each with the numbers of steps, faces, arcs and points, the classes, and the edges.
 WORKED = [
     ("two_squares", [
@@ -77,11 +83,11 @@ WORKED = [
     # A square in the middle of another one, at the left of the cut and then at its right.
     ("hole_with_face", [
         (b"node 30 30\ncut 1 0 3 0 0 25 5 30 30\n", (2, 3, 4, 14), [0, 0, 0],
-         [(0, 1, 0, "0 0 30 0 30 30"), (1, 2, 3, ISLAND), (2, 3, 0, "30 30 0 30 0 0"), (3, 3, 1, "0 0 25 5 30 30")]),
+         [(0, 1, 0, "0 0 30 0 30 30"), (1, 2, 3, INNER), (2, 3, 0, "30 30 0 30 0 0"), (3, 3, 1, "0 0 25 5 30 30")]),
     ]),
     ("hole_with_face", [
         (b"node 30 30\ncut 1 0 3 30 30 25 5 0 0\n", (2, 3, 4, 14), [0, 0, 0],
-         [(0, 3, 0, "0 0 30 0 30 30"), (1, 2, 1, ISLAND), (2, 1, 0, "30 30 0 30 0 0"), (3, 3, 1, "30 30 25 5 0 0")]),
+         [(0, 3, 0, "0 0 30 0 30 30"), (1, 2, 1, INNER), (2, 1, 0, "30 30 0 30 0 0"), (3, 3, 1, "30 30 25 5 0 0")]),
     ]),
     # The cut has both ends at the inner square: once the corner below it is cut off, and once the new face is all the rest.
     ("hole_with_face", [
@@ -93,16 +99,16 @@ WORKED = [
          [(0, 3, 0, "0 0 30 0 30 30 0 30 0 0"), (1, 2, 1, "10 10 20 10"), (2, 2, 3, "20 10 20 20 10 20 10 10"), (3, 3, 1, "20 10 15 5 10 10")]),
     ]),
     # Classes: the new face has that of its line, the fused one that of the first face, and the last face takes its own along.
-    ("two_roots", [
+    ("of_two_classes", [
         (b"node 0 0\ncut 1 1 2 0 0 10 10\n", None, [0, 1, 0, 1, 1], None),
         (b"fuse 5 1\n", None, [1, 1, 0, 1], None),
     ]),
-    ("two_roots", [
+    ("of_two_classes", [
         (b"fuse 1 2\n", (1, 3, 7, 18), [0, 1, 0],
          [(0, 1, 0, "0 10 0 0 10 0 20 0 20 10"), (2, 2, 0, "20 10 20 20 10 20"), (3, 3, 0, "10 20 0 20 0 10"), (4, 1, 2, "20 10 10 10"),
           (5, 2, 3, "10 20 10 10"), (6, 3, 1, "0 10 10 10")]),
     ]),
-    ("two_roots", [
+    ("of_two_classes", [
         (b"class 4 0\nfuse 4 2\n", (2, 3, 7, 18), [0, 0, 0],
          [(0, 1, 0, "0 10 0 0 10 0"), (1, 2, 0, "10 0 20 0 20 10 20 20 10 20"), (3, 3, 0, "10 20 0 20 0 10"), (4, 1, 2, SIDE),
           (5, 2, 3, "10 20 10 10"), (6, 3, 1, "0 10 10 10")]),
@@ -252,7 +258,7 @@ MIXED = [
         # A cut over a border, which the check finds; and one over itself.
         b"node 0 0\nnode 0 10\ncut 1 0 3 0 0 15 5 0 10\n", b"node 20 0\nnode 20 10\ncut 1 0 5 20 0 12 6 18 6 12 1 20 10\n",
     ]),
-    ("corner", [
+    ("two_at_a_corner", [
         # Two squares with one corner in common: the walk passes the other one.
         b"node 0 0\ncut 1 0 2 0 0 10 10\nfuse 1 3\nnode 20 20\ncut 2 0 3 20 20 16 15 10 10\nmove 16 15 15 16\nadd 10 10 15 16 12 13\n"
         b"drop 15 16\nclass 3 0\n",
@@ -261,7 +267,7 @@ MIXED = [
         b"node 30 30\nnode 20 20\ncut 1 0 2 20 20 30 30\n",
         b"node 30 0\ncut 1 0 3 30 0 25 5 30 30\nadd 30 0 25 5 27 1\nmove 25 5 26 10\ndrop 0 30\nclass 3 0\nfuse 1 2\n",
     ]),
-    ("two_roots", [
+    ("of_two_classes", [
         b"fuse 1 2\nnode 0 0\ncut 1 1 2 10 10 0 0\nclass 4 0\nmove 10 10 11 11\nadd 11 11 0 0 5 6\ndrop 20 20\nfuse 4 3\n",
         b"cut 1 1 3 0 0 3 1 10 0\n", b"node 10 20\n", b"cut 1 1 2 5 6 10 0\n",
     ]),
@@ -315,6 +321,11 @@ def polygon(arcs):
     return listing(1, [arc_text(1, 0, points) for points in ends], ratio=0, version=2)
 
 
+def long_arc(count):
+    """The listing of one face inside one arc of so many points: a level row, and a point above the first."""
+    return listing(1, [arc_text(1, 0, [*((x, 0) for x in range(count - 2)), (0, 1), (0, 0)])], ratio=0, version=2)
+
+
 # A map that has nearly as much as a map may have, and batches one after the other: each with the line at fault and the
 # cause, or with the numbers of steps, faces, arcs and points.
 FULL = {
@@ -334,7 +345,7 @@ FULL = {
         (b"fuse 1 2\nnode 1 0\n", (0, 1, MOST_ARCS, 2 * MOST_ARCS)),
         (b"cut 1 0 2 0 1 7 0\n", (1, 11)), (b"add 0 1 0 0 -1 0\nnode -1 0\n", (2, 11)),
     ]),
-    "points": (lambda: listing(1, [row_of(MOST_POINTS - 4)], ratio=0, version=2), [
+    "points": (lambda: long_arc(MOST_POINTS - 4), [
         (b"node 0 1\nnode 5 0\ncut 1 0 3 0 1 2 1 5 0\n", (3, 11)),
         (b"node 0 1\nnode 5 0\ncut 1 0 2 0 1 5 0\n", (1, 2, 4, MOST_POINTS)),
         (b"node 7 0\n", (1, 11)), (b"cut 2 0 2 5 0 0 1\n", (1, 11)), (b"add 0 1 0 0 -1 0\n", (1, 8)), (b"node 5 0\n", (1, 6)),
