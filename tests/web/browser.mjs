@@ -157,6 +157,21 @@ class Tab {
     await this.mouse("mouseReleased", to, { button: "left", clickCount: 1 });
   }
 
+  /** Presses a key and lets it go; `modifiers` are those of the protocol: 2 for Ctrl, 8 for Shift. */
+  async key(key, modifiers = 0) {
+    const known = { Enter: 13, Escape: 27, " ": 32, ArrowLeft: 37, ArrowUp: 38, ArrowRight: 39, ArrowDown: 40, Delete: 46 };
+    const windowsVirtualKeyCode = known[key] ?? key.toUpperCase().charCodeAt(0);
+    for (const type of ["rawKeyDown", "keyUp"]) await this.ask("Input.dispatchKeyEvent", { type, key, windowsVirtualKeyCode, modifiers });
+  }
+
+  /** Puts a finger down at the first place, leads it over the others, and lifts it at the last. */
+  async touch(...places) {
+    const [first, ...others] = places.map(([x, y]) => ({ touchPoints: [{ x, y }] }));
+    await this.ask("Input.dispatchTouchEvent", { type: "touchStart", ...first });
+    for (const place of others) await this.ask("Input.dispatchTouchEvent", { type: "touchMove", ...place });
+    await this.ask("Input.dispatchTouchEvent", { type: "touchEnd", touchPoints: [] });
+  }
+
   resize(width, height) {
     return this.ask("Emulation.setDeviceMetricsOverride", { width, height, deviceScaleFactor: 1, mobile: false });
   }

@@ -85,7 +85,7 @@ export async function edited(): Promise<string> {
   pictureOfSlice(draft, draft);
   const { draft: carried, left } = draft.carryTo(await Draft.of(client));
   await carried.publish(client);
-  return left.map(({ edits, reason }) => `${edits[0]?.kind} ${reason.cause}`).join();
+  return left.map(({ edits, reason }) => String(edits[0]?.kind) + String(reason.cause)).join();
 }
 export const isOfALine = (error: unknown) => (error instanceof EditFault ? error.line : error instanceof RefusedBatch && error.fault.kind === "line" ? error.fault.line : null);
 // @ts-expect-error a point has two coordinates
