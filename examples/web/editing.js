@@ -59,7 +59,8 @@ export class Editing {
   /** What the tools are told of the reader's pointing. */
   #pointed() {
     const whenFree = (name) => (...words) => (this.isBusy ? false : this.tool[name](...words));
-    return Object.fromEntries(["takes", "drags", "drops", "letsGo", "taps", "keys", "hovers", "presses"].map((name) => [name, whenFree(name)]));
+    const free = Object.fromEntries(["takes", "drags", "drops", "taps", "keys", "hovers", "presses"].map((name) => [name, whenFree(name)]));
+    return { ...free, letsGo: () => this.tool.letsGo() };
   }
 
   /** Asks for the map at full detail, and begins. */
@@ -300,7 +301,7 @@ export class Editing {
     this.toolbar.close();
     this.map.getContainer().classList.remove("editing");
     for (const cause of ["close", "tool"]) this.panel.settle(cause);
-    this.panel.tellSteps([], null);
+    this.panel.tellSteps(null);
     this.told.ended();
   }
 }

@@ -53,9 +53,10 @@ export class Panel {
     element("version").textContent = `Version ${version}`;
   }
 
-  /** The steps that are not published, in words; the number of the one that was refused, or null. */
-  tellSteps(steps, refused) {
-    element("steps").replaceChildren(...steps.map((words, i) => {
+  /** The steps that are not published, in words, or null where nothing is edited; the number of the one that was refused, or null. */
+  tellSteps(steps, refused = null) {
+    element("steps").hidden = steps === null;
+    element("steps").replaceChildren(...(steps ?? []).map((words, i) => {
       const row = document.createElement("li");
       row.textContent = words;
       row.classList.toggle("error", i === refused);

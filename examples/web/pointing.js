@@ -19,24 +19,24 @@ export class Pointing {
    * and `hovers(place, reach)`; it `letsGo` where nothing comes of a drag; `presses(key)` says whether it knows a key.
    */
   constructor(map, to) {
-    Object.assign(this, { map, to, pointers: new Set(), pressed: null, isOn: false });
+    Object.assign(this, { map, to, pointers: new Set(), pressed: null, isOn: false, areKeysUsed: false, at: null });
     const container = map.getContainer();
     const options = { capture: true };
     container.addEventListener("pointerdown", (event) => this.isOn && this.#down(event), options);
     container.addEventListener("pointermove", (event) => this.isOn && this.#move(event), options);
     for (const end of ["pointerup", "pointercancel"]) window.addEventListener(end, (event) => this.#up(event), options);
     container.addEventListener("keydown", (event) => this.isOn && this.#key(event), options);
+    window.addEventListener("keydown", ({ ctrlKey, metaKey }) => (this.areKeysUsed ||= !ctrlKey && !metaKey), options);
+    window.addEventListener("pointerdown", () => this.#useNoKeys(), options);
     for (const change of ["focus", "blur"]) container.addEventListener(change, () => this.#showCross());
     this.cross = L.DomUtil.create("div", "cross", container);
     this.cross.hidden = true;
   }
 
   turn(isOn) {
+    this.giveUp();
     this.isOn = isOn;
-    this.pressed = null;
-    this.at = null;
     this.map.doubleClickZoom[isOn ? "disable" : "enable"]();
-    this.map.dragging.enable();
     this.#showCross();
   }
 
@@ -58,6 +58,10 @@ export class Pointing {
     const isTaken = this.to.takes(place, reach, event.pointerType === "touch");
     if (isTaken) this.map.dragging.disable();
     this.pressed = { place, reach, slack, isTaken, hasMoved: false };
+  }
+
+  #useNoKeys() {
+    this.areKeysUsed = false;
     this.at = null;
     this.#showCross();
   }
@@ -119,10 +123,9 @@ export class Pointing {
     this.to.hovers(this.#cross(), FINE.reach, true);
   }
 
-  /** The cross is seen while the keys are the map's, unless a pointer was used last. */
+  /** The cross is seen while the keys are used, and are the map's. */
   #showCross() {
-    const container = this.map.getContainer();
-    const isSeen = this.isOn && document.activeElement === container && (this.at !== null || container.matches(":focus-visible"));
+    const isSeen = this.isOn && this.areKeysUsed && document.activeElement === this.map.getContainer();
     this.cross.hidden = !isSeen;
     if (isSeen) L.DomUtil.setPosition(this.cross, this.#cross());
   }

@@ -202,9 +202,10 @@ class Tab {
     return this.ask("Fetch.fulfillRequest", { requestId, responseCode: status, responsePhrase: phrase || " ", responseHeaders, body: Buffer.from(body).toString("base64") });
   }
 
-  /** What one sees, as the bytes of a PNG. */
-  async screenshot() {
-    const { result } = await this.ask("Page.captureScreenshot", { format: "png" });
+  /** What one sees, or what there is of it in a box of the screen, as the bytes of a PNG. */
+  async screenshot(box) {
+    const clip = box && { x: box.x, y: box.y, width: box.width, height: box.height, scale: 1 };
+    const { result } = await this.ask("Page.captureScreenshot", { format: "png", ...(clip && { clip }) });
     return Buffer.from(result.data, "base64");
   }
 }

@@ -346,15 +346,17 @@ async function tellsThatLinesAreUnknown({ name, draft, client }) {
 }
 
 /** Cuts and fusions; the second ones meet nodes that no slice shows. */
-async function publishesNewLines({ name, client, draft, another }) {
+async function publishesNewLines({ name, client, draft }) {
   let [tried, cut, unsound] = [0, 0, 0];
   const lines = new Lines(7);
   while (cut < 12 && tried < 300) {
     tried += 1;
     const face = lines.pick([...draft.faces.keys()]);
     const inner = draft.edgesBeside(face).flatMap(({ points }) => points);
-    const [p, q] = [lines.pick(inner), lines.pick(inner)];
-    if (causeOf(() => draft.cut(face, lines.below(4), [p, q])) !== 0) continue;
+    const points = [lines.pick(inner), lines.pick(inner)];
+    // Some have a corner anywhere in the map.
+    if (tried % 3 === 0) points.splice(1, 0, lines.place({ arcs: [...draft.edges.values()] }));
+    if (causeOf(() => draft.cut(face, lines.below(4), points)) !== 0) continue;
     if (causeOf(() => lines.below(3) === 0 && draft.fuse(draft.faces.size, face)) !== 0) throw new Error("the parts of a face cannot be fused");
     const shown = segments(draft);
     const refused = await thrown(draft.publish(client));
@@ -373,7 +375,6 @@ async function publishesNewLines({ name, client, draft, another }) {
   }
   tally.holds(`${name}: ${cut} cuts, and ${unsound} that are unsound`, cut === 12 && unsound > 0);
   await findsHiddenNodes({ name, client, draft });
-  void another;
 }
 
 async function findsHiddenNodes({ name, client, draft }) {

@@ -11,6 +11,8 @@ const tally = new Tally();
 const CTRL = 2;
 const SHIFT = 8;
 const FINGER = 44;
+// The guide shows the face that is third by the box round it.
+const PARCEL = 2;
 const HINT = "document.getElementById('hint').textContent";
 const STEPS = "[...document.querySelectorAll('#steps li')].map((it) => it.textContent + (it.classList.contains('error') ? '!' : '')).join('; ')";
 /** What the page says where the server knows neither cuts nor fusions. */
@@ -164,19 +166,20 @@ async function asksForCuts({ tab, served }) {
   await endsEditing(tab);
 }
 
-/** Two places on the screen at the border of a face, to the left and to the right of a place in it. */
+/** Two places on the screen at the border of a face, to the left and to the right of a place in it; between them no border is near to the line. */
 function acrossOf(tab, face) {
   return tab.value(`(() => {
     const { draft } = window.tgap.editing, { map } = window.tgap.sheet, box = document.getElementById('map').getBoundingClientRect();
-    const of = (x, y) => { const { lng, lat } = map.containerPointToLatLng([x, y]); return draft.faceAt(lng, lat); };
+    const isIn = (x, y) => { const { lng, lat } = map.containerPointToLatLng([x, y]); return draft.faceAt(lng, lat) === ${face}; };
     const size = map.getSize();
     let best = null;
     for (let y = 30; y < size.y - 30; y += 6) {
-      let first = null;
-      for (let x = 20; x < size.x - 60; x += 1) {
-        const isIn = of(x, y) === ${face};
-        if (isIn && first === null) first = x;
-        if (!isIn && first !== null) { if (x - first > (best?.wide ?? 60)) best = { wide: x - first, ends: [[first, y], [x, y]] }; first = null; }
+      for (let x = 20, first = null; x < size.x - 60; x += 1) {
+        if (isIn(x, y)) { first ??= x; continue; }
+        if (first === null) continue;
+        const inner = Array.from({ length: Math.floor((x - first) / 4) }, (_, i) => first + 4 * i).slice(5, -5);
+        if (x - first > (best?.wide ?? 60) && inner.every((it) => isIn(it, y - 14) && isIn(it, y + 14))) best = { wide: x - first, ends: [[first, y], [x, y]] };
+        first = null;
       }
     }
     return best?.ends.map(([x, y]) => [x + box.x, y + box.y]) ?? null;
@@ -294,6 +297,44 @@ async function editsByKeys({ tab, served }) {
   }
   tally.holds(`and joined: ${await batch(tab)}`, /fuse ([0-9]+ 50|50 [0-9]+)\n$/.test(await batch(tab)));
   await endsEditing(tab);
+}
+
+/** The pictures of docs/guide.md. */
+async function drawsForTheGuide({ tab, served }) {
+  const picture = async (name) => {
+    const box = await tab.value("(({ x, y, width, height }) => ({ x, y, width, height }))(document.getElementById('view').getBoundingClientRect())");
+    writeFileSync(path.join(folder, `${name}.png`), await tab.screenshot(box));
+  };
+  await resizes(tab, 520, 600);
+  await beginsEditing(tab);
+  if (!knowsCuts) await tab.value("void (window.tgap.editing.knowsCuts = true)");
+  const { face, box: [x0, y0, x1, y1] } = largeFace(await served.slice(0))[PARCEL];
+  await tab.value(`void window.tgap.sheet.map.fitBounds([[${y0}, ${x0}], [${y1}, ${x1}]], { animate: false })`);
+  await tab.until(IDLE);
+  await takes(tab, "split");
+  const [from, to] = await acrossOf(tab, face);
+  await tab.mouse("mouseMoved", from);
+  await tab.mouse("mousePressed", from, { button: "left", buttons: 1, clickCount: 1 });
+  const near = halfway(halfway(from, to), to);
+  await tab.mouse("mouseMoved", near, { button: "left", buttons: 1 });
+  await picture("edit_line");
+  await tab.mouse("mouseMoved", to, { button: "left", buttons: 1 });
+  await tab.mouse("mouseReleased", to, { button: "left", clickCount: 1 });
+  await takes(tab, "classes");
+  const ofClass = await tab.value(`(window.tgap.editing.draft.faces.get(${face}) + 2) % 4`);
+  await tab.value(`(() => { const box = document.getElementById('class'); box.value = '${ofClass}'; box.dispatchEvent(new Event('change')); })()`);
+  const [middle, [, high]] = [halfway(from, to), from];
+  await tab.click([middle[0], high - 30]);
+  await tab.mouse("mouseMoved", [middle[0], high - 31]);
+  await picture("edit_split");
+  await takes(tab, "join");
+  await tab.click([middle[0], high + 30]);
+  await picture("edit_chosen");
+  await tab.click([middle[0], high - 30]);
+  await picture("edit_join");
+  tally.holds(`the guide's split and join can be made: ${await tab.value(NOTICES)}`, (await tab.value("window.tgap.editing.draft.faces.size")) === (await served.slice(0)).faces.size);
+  await endsEditing(tab);
+  await resizes(tab, 1100, 613);
 }
 
 async function editsByTouch({ tab, served }) {
@@ -461,6 +502,7 @@ try {
   await resizes(tab, 1100, 613);
   const on = { tab, served };
   for (const work of [movesAddsAndDrops, losesNothingByAccident, givesClasses, asksForCuts, splitsAndJoins, editsByKeys, marksWhatIsRefused, publishes, carriesOver, publishesCuts, editsByTouch]) await work(on);
+  if (folder) await drawsForTheGuide(on);
   const written = tab.written.filter(({ source }) => source !== "network");
   tally.holds(`nothing is written to the console: ${JSON.stringify(written)}`, written.length === 0);
 } finally {

@@ -192,8 +192,8 @@ async function dragsIntoAnotherHistory({ tab, tally, served }) {
   tally.holds("while a vertex is dragged, a server that was started anew is told", await tab.until(`(${NOTICES}).includes('news: The server was started anew, with version 0. It is shown now.')`));
   tally.holds("and its map is edited", await tab.until(`${text("version")} === 'Version 0' && ${EDITING}`));
   await tab.mouse("mouseReleased", to, { button: "left", clickCount: 1 });
-  tally.holds("where the vertex is not there, that is told", await tab.until(`(${NOTICES}).includes('tool: This cannot be done: no point of a border is there.')`));
-  tally.holds("and nothing is published", (await served.info()).startsWith("version 0 "));
+  tally.equal("nothing comes of the drag", await tab.value(BATCH), "");
+  tally.equal("and no line of it stays", await tab.value("document.querySelectorAll('.mark-line').length"), 0);
   await editsNear(tab, otherVertex(await served.slice(0)), [6, 2]);
   tally.holds("an edit is, when it is made on the map that is there", await tab.until(`${text("version")} === 'Version 1' && ${EDITING}`));
   await endsEditing(tab);

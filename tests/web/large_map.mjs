@@ -40,8 +40,9 @@ function watch(tab) {
       seen.steps.add((a ? "window " : "slice ") + picture.step);
       if (a && !(a.x0 <= box.x0 && a.y0 <= box.y0 && a.x1 >= box.x1 && a.y1 >= box.y1)) seen.open.push([a, box]);
       let vectors = 0;
-      sheet.map.eachLayer((it) => (vectors += it.setStyle ? 1 : 0));
-      // The group counts itself.
+      // What marks an edit is drawn over it.
+      sheet.map.eachLayer((it) => (vectors += it.setStyle && it.options.renderer === sheet.canvas ? 1 : 0));
+      // The borders are one.
       if (vectors !== picture.fills.size + 1) seen.layers += 1;
       if (!document.getElementById("progress").hidden) seen.bar += 1;
       requestAnimationFrame(frame);

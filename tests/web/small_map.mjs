@@ -134,6 +134,9 @@ async function keepsLabelsBesideBoxes({ tab, tally }) {
   }
   await resizes(tab, 1100, 613);
   await tab.until(IDLE);
+  // Leaflet would tell of such a move a moment later.
+  await pause(400);
+  tally.holds("whatever its size is, what was shown whole stays so", await tab.value("window.tgap.sheet.all"));
 }
 
 /** What is drawn is put together once for a picture, and not when the map is moved. */
