@@ -51,9 +51,10 @@ export class Spokes {
   }
 
   #sorted(node) {
+    // They are by edge, and its start before its end; sorting leaves those of one direction so.
     const both = this.map.edgesAt(node).flatMap((edge) => [true, false].map((isAlong) => ({ edge, isAlong })));
     const leaving = both.filter((side) => samePoint(startOf(side), node));
-    return leaving.sort((s, t) => compareDirections(node, towardOf(s), towardOf(t)) || s.edge.key - t.edge.key || Number(t.isAlong) - Number(s.isAlong));
+    return leaving.sort((s, t) => compareDirections(node, towardOf(s), towardOf(t)));
   }
 
   /** The side by which the walk round a face goes on: that in front of the one by which it has come. */

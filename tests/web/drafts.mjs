@@ -6,6 +6,7 @@ import { Client } from "../../clients/js/client.js";
 import { Draft, knowsCuts } from "../../clients/js/draft.js";
 import { editOf, lineOf } from "../../clients/js/edit_lines.js";
 import { OtherVersion, faultIn } from "../../clients/js/errors.js";
+import { isRound } from "../../clients/js/sides.js";
 import { Tally, dice, endServing, examples, fetchAlone, gridListing, serve, thrown } from "./lib.mjs";
 import { edited, mapOf } from "./plain_edits.mjs";
 
@@ -217,6 +218,27 @@ function holdsTheLimits() {
   tally.equal("the ends of a cut at two borders", causeOf(() => draftOf(mapOf(ISLANDS)).applyLines("cut 1 0 3 0 0 40 5 40 10\n")), 12);
 }
 
+/** Directions and heights that floating point takes for one. */
+function isExact() {
+  const most = 2 ** 31;
+  const [corner, p, q] = [[-most, -most], [most - 1, most - 3], [most - 3, most - 5]];
+  const arcs = [
+    { left: 1, right: 0, points: [corner, [most, -most], p] },
+    { left: 1, right: 2, points: [p, corner] },
+    { left: 2, right: 0, points: [p, [-most, most], corner] },
+  ];
+  const map = { arcs, classes: [0, 0], count: 1 };
+  const line = `cut 1 0 3 ${[corner, q, p].flat().join(" ")}`;
+  const draft = draftOf(map);
+  tally.equal("a direction next to another one", causeOf(() => draft.applyLines(`${line}\n`)), 0);
+  tally.equal("lies in the sector that it lies in", stateOfDraft(draft), stateOf(edited(map, line)));
+  tally.equal("and not in the other", causeOf(() => draftOf(map).applyLines(`${line.replace("cut 1", "cut 2")}\n`)), 9);
+  // A segment that is a little flatter than the diagonal is above it at the left of the middle.
+  const flat = [[-most, 1 - most], [most, most - 1]];
+  const wrong = Array.from({ length: 4000 }, (_, i) => i - 2000).filter((k) => isRound([flat], [[k, k], [k + 9, k + 9]]) !== k < 0);
+  tally.equal("heights are compared as they are", wrong.length, 0);
+}
+
 /** What a cut and a fusion make of a map, as a user calls them. */
 function cutsAndFuses() {
   const draft = squares();
@@ -398,6 +420,7 @@ process.on("SIGTERM", () => {
   process.exit(1);
 });
 tellsEachCause();
+isExact();
 cutsAndFuses();
 followsThePlainProgram();
 carriesEdits();
