@@ -5,7 +5,7 @@ import path from "node:path";
 import { Client } from "../../clients/js/client.js";
 import { Draft, knowsCuts } from "../../clients/js/draft.js";
 import { editOf, lineOf } from "../../clients/js/edit_lines.js";
-import { OtherVersion, faultIn } from "../../clients/js/errors.js";
+import { OtherVersion, Refused, faultIn } from "../../clients/js/errors.js";
 import { isRound } from "../../clients/js/sides.js";
 import { Tally, dice, endServing, examples, fetchAlone, gridListing, serve, thrown } from "./lib.mjs";
 import { edited, mapOf } from "./plain_edits.mjs";
@@ -280,12 +280,66 @@ function carriesEdits() {
   tally.equal("all others are made again, with the numbers that faces have now", draft.batch(),
     `class 1 0\nmove ${[other, other.map((z) => z + 5)].flat().join(" ")}\nnode ${through[0].join(" ")}\nnode ${through[1].join(" ")}\ncut 1 2 2 ${through.flat().join(" ")}\nclass 9 3\n`);
   tally.equal("and are of the newer version", draft.version, 1);
+  leavesWhatHangsOnWhatIsLeft(map);
   const parted = draftOf(map);
   parted.cut(9, 0, cutThrough(parted, 9));
   const second = draftOf(map);
   second.setClass(9, 0);
   const carried = second.carryTo(parted);
   tally.equal("which of the two parts of a face was meant is not guessed", carried.left.length, 1);
+}
+
+function leavesWhatHangsOnWhatIsLeft(map) {
+  // Of the eight segments of the middle face, six go to the new one.
+  const mine = draftOf(map);
+  const [first, second] = mine.edgesBeside(5).map(({ points }) => points[1]);
+  const large = [[first, second], [second, first]].find((points) => {
+    mine.cut(5, 1, points);
+    const count = mine.edgesBeside(10).length;
+    mine.undo();
+    return count > 4;
+  });
+  mine.cut(5, 1, large);
+  mine.setClass(10, 3);
+  const newer = draftOf(map);
+  newer.drop(first);
+  const { draft, left } = mine.carryTo(newer);
+  tally.equal("with a cut that is left, what was done to its new face is", `${left.map(({ reason }) => reason.cause)} ${draft.steps.length}`, "3,2 1");
+  const other = draftOf(map);
+  other.setClass(5, 1);
+  const moved = draftOf(map);
+  const [kept] = moved.edgesBeside(5);
+  for (const point of new Map(moved.edgesBeside(5).flatMap(({ points }) => points).map((it) => [String(it), it])).values()) {
+    if (!kept.points.some((it) => String(it) === String(point))) moved.move(point, point.map((z) => z + 7));
+  }
+  tally.equal("a face of which little is as it was is another one", other.carryTo(moved).left.length, 1);
+}
+
+/** A refusal that tells that a point is a node already: the line is left out, and the rest is published. */
+async function learnsOfNodes() {
+  const draft = squares();
+  draft.setClass(1, 0);
+  draft.cut(1, 0, [[0, 0], [10, 10]]);
+  const asked = [];
+  const client = {
+    keepTo: () => {},
+    async edit(batch) {
+      asked.push(batch);
+      if (batch.includes("node 0 0")) throw new Refused(422, "edit line 2 cause 6");
+      return { version: 1, foreseen: true };
+    },
+  };
+  const { version } = await draft.publish(client);
+  const lines = ["class 1 0\n", "node 0 0\n", "cut 1 0 2 0 0 10 10\n"];
+  tally.equal("a node that no slice shows is learned of", JSON.stringify([version, asked]), JSON.stringify([1, [lines.join(""), lines[0] + lines[2]]]));
+  const refusing = { keepTo: () => {}, edit: async () => { throw new Refused(422, "edit line 1 cause 6"); } };
+  draft.drop([0, 10]);
+  const refused = await thrown(draft.publish(refusing));
+  tally.equal("and one that is to be dropped is told", `${refused.name} ${refused.step} ${refused.place} ${refused.message}`, "RefusedBatch 0 0,10 a border begins or ends there");
+  const busy = await thrown(draft.publish({ ...refusing, edit: async () => { throw new Refused(503, "busy, try again"); } }));
+  tally.equal("other refusals are as they are", `${busy.name} ${busy.status}`, "Refused 503");
+  const unsound = await thrown(draft.publish({ ...refusing, edit: async () => { throw new Refused(422, "refused 17 stack 12 1 2 0"); } }));
+  tally.equal("the place of a line along which faces disagree", `${unsound.place} ${unsound.step}`, "12.5,0 null");
 }
 
 /** Two inner vertices of the border of a face, across from each other. */
@@ -425,6 +479,7 @@ cutsAndFuses();
 followsThePlainProgram();
 carriesEdits();
 readsFaults();
+await learnsOfNodes();
 await over("Columbus", ["columbus.json", "areas", "columbus.rules.json"], publishesOldLines);
 await over("Columbus", ["columbus.json", "areas", "columbus.rules.json"], async (on) => {
   const knows = await knowsCuts(on.client);
