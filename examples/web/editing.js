@@ -98,7 +98,7 @@ export class Editing {
     this.before = null;
     this.toolbar.open(this.#classes(), this.known);
     this.pointing.turn(true);
-    this.map.getContainer().classList.add("editing");
+    document.body.classList.add("editing");
     this.#changed();
   }
 
@@ -184,7 +184,7 @@ export class Editing {
   #tellSteps() {
     this.toolbar.tell(this);
     this.panel.tellSteps(this.draft.steps.map(({ edits }) => wordsOfStep(edits, this.known)), this.refused);
-    this.panel.tellDraft(this.draft, this.known);
+    this.panel.tellDraft(this.draft);
   }
 
   /** Draws the draft as far as it is seen. */
@@ -288,6 +288,7 @@ export class Editing {
   close() {
     if (this.isBusy) return;
     if (!this.isChanged) return this.end();
+    this.panel.settle("tool");
     const count = this.draft.steps.length;
     this.panel.note("close", `${count === 1 ? "One step is" : `${count} steps are`} not published.`, true, [["Discard", () => this.end()]]);
   }
@@ -299,7 +300,7 @@ export class Editing {
     this.marks.clear();
     this.pointing.turn(false);
     this.toolbar.close();
-    this.map.getContainer().classList.remove("editing");
+    document.body.classList.remove("editing");
     for (const cause of ["close", "tool"]) this.panel.settle(cause);
     this.panel.tellSteps(null);
     this.told.ended();

@@ -99,8 +99,9 @@ function goOn(withEdits) {
 function tellNews(words, shown = "") {
   if (!editing.isOn) return panel.note("news", words + shown);
   if (editing.isChanged) return panel.note("news", `${words} Your edits are on version ${editing.draft.version}.`, false, waysOn());
+  if (!editing.isOutdated(client)) return panel.note("news", words, false, [["Show it", () => goOn(false)]]);
   panel.note("news", words + shown);
-  if (editing.isOutdated(client)) editing.goOn(false);
+  return editing.goOn(false);
 }
 
 async function tellPublished({ version, foreseen }, count) {

@@ -31,7 +31,11 @@ export class Panel {
     const faces = picture.faces.size;
     element("state").textContent = `Step ${picture.step} of ${steps}: ${faces} ${faces === 1 ? "face" : "faces"} ${where}`.trim() + ".";
     element("version").textContent = `Version ${picture.version}`;
-    const classes = [...new Set(picture.faces.values())].sort((a, b) => a - b);
+    this.#tellClasses(picture);
+  }
+
+  #tellClasses({ faces }) {
+    const classes = [...new Set(faces.values())].sort((a, b) => a - b);
     // Most pictures on the way to a finer step have the classes of the one before.
     if (classes.join() === this.legend) return;
     this.legend = classes.join();
@@ -47,7 +51,9 @@ export class Panel {
   }
 
   /** Tells that a draft is edited, in place of what else is shown. */
-  tellDraft({ faces, version, steps }) {
+  tellDraft(draft) {
+    const { faces, version, steps } = draft;
+    this.#tellClasses(draft);
     const changes = steps.length === 0 ? "nothing is changed yet" : `${steps.length} ${steps.length === 1 ? "step" : "steps"} to publish`;
     element("state").textContent = `Editing at full detail, ${faces.size} faces: ${changes}.`;
     element("version").textContent = `Version ${version}`;
@@ -58,6 +64,8 @@ export class Panel {
     element("steps").hidden = steps === null;
     element("steps").replaceChildren(...(steps ?? []).map((words, i) => {
       const row = document.createElement("li");
+      // Some of them are not shown on a small screen.
+      row.value = i + 1;
       row.textContent = words;
       row.classList.toggle("error", i === refused);
       return row;
