@@ -41,7 +41,8 @@ is_sought (Face f) w s = face_by w s == f
 -- the slot of each arc with such a side is listed
 abbrev pub AreListed : List BaseArc → List ℕ → Sought → Type 0
 AreListed slots numbers sought =
-    (k : ℕ) (w : Way) → k < length (arcs_in slots) → is_sought sought w (span_number (spans_in slots) k) ≡ true → is_among (slot_of slots k) numbers ≡ true
+    (k : ℕ) (w : Way) → k < length (arcs_in slots) → is_sought sought w (span_number (spans_in slots) k) ≡ true
+    → is_among (slot_of slots k) numbers ≡ true
 
 -- a side is such a one
 abbrev pub passes : List BaseArc → Sought → Side → Bool
@@ -49,7 +50,8 @@ passes slots sought s = is_sought sought s.way (span_number (spans_in slots) s.s
 
 -- the side with this number is one of the arc in this slot, and such a one
 abbrev pub is_found : List BaseArc → Sought → ℕ → ℕ → Bool
-is_found slots sought i slot = nat_lt (numbered i).span (length (arcs_in slots)) && (slot_of slots (numbered i).span == slot) && passes slots sought (numbered i)
+is_found slots sought i slot =
+    nat_lt (numbered i).span (length (arcs_in slots)) && (slot_of slots (numbered i).span == slot) && passes slots sought (numbered i)
 
 -- ---- the side in front of another one round its node
 
