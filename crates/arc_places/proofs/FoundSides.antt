@@ -1,5 +1,5 @@
 -- The sides that are found in the slots that are listed.
-use Rattle.std.proofs.Common.{◌≡◌, ◌≢◌, ◌∙◌, ℕ, ◌+◌, ◌*◌, ◌<◌, nat_lt, Bool, true, false, ◌&&◌, ◌||◌, eqb, List, length, refl, sym, ap, subst, arith}
+use Rattle.std.proofs.Common.{◌≡◌, ◌≢◌, ◌∙◌, ℕ, ◌*◌, ◌<◌, nat_lt, Bool, true, false, ◌&&◌, ◌||◌, eqb, List, length, refl, sym, ap, subst}
 use Rattle.std.specs.List.{list_any}
 use Rattle.std.proofs.lemmas.Bool.{false≢true, and_from, and_parts, eqb-true, eq-eqb, ltb-true, lt-ltb}
 use Rattle.tgap_model.specs.declared.base.BaseArc.{BaseArc}

@@ -1,11 +1,11 @@
 -- The last one of the spokes of a node that pass a test, and the one in front of a spoke round the node.
-use Rattle.std.proofs.Common.{◌≡◌, ◌≢◌, ◌∙◌, ℕ, nat_lt, zero, suc, ◌+◌, ◌-◌, ◌<◌, ◌≤◌, Bool, true, false, ◌&&◌, ◌||◌, Option, Some, None, List, length, filter, get_or, All, AllPairs, Contains, refl, sym, ap, ap₂, subst, arith}
+use Rattle.std.proofs.Common.{◌≡◌, ◌≢◌, ◌∙◌, ℕ, nat_lt, zero, suc, ◌-◌, ◌<◌, ◌≤◌, Bool, true, false, ◌&&◌, ◌||◌, Option, Some, None, List, length, filter, get_or, All, AllPairs, refl, sym, ap, ap₂, subst, arith}
 use Rattle.std.specs.Prelude.{cond, IsTrue, IfSome, unwrap_or}
 use Rattle.std.specs.Option.{option_or}
 use Rattle.std.proofs.lemmas.Bool.{false≢true, and_from, and_parts, ltb-true, ltb-false}
 use Rattle.std.proofs.lemmas.List.{get_or_default}
 use Rattle.std.proofs.lemmas.List.Kept.{AllPairs-filter}
-use Rattle.lemmas.specs.Sorting.{sort_by, is_sorted_by, IsStrictOrderOn}
+use Rattle.lemmas.specs.Sorting.{IsStrictOrderOn}
 use Rattle.lemmas.proofs.Members.{All-from_members}
 use Rattle.lemmas.proofs.Sorting.{All-from_sort_by, sort_by-is_sorted, sorted_pairs, all_pairs_decided}
 use Rattle.tgap_model.specs.declared.geometry.Point.{Point}
@@ -19,14 +19,14 @@ use Rattle.ring_walk.specs.declared.side.Way.TheVariants.{Along, Against}
 use Rattle.ring_walk.specs.declared.spoke.Spoke.{Spoke}
 use Rattle.ring_walk.specs.Rings.{in_front}
 use Rattle.ring_walk.specs.Sides.{start_by, toward_by, start_of, toward_of, span_number, sides, same_side, spoke_before, spokes_at}
-use Rattle.ring_walk.specs.Spans.{AreSpans, IsSide, before}
+use Rattle.ring_walk.specs.Spans.{AreSpans, before}
 use Rattle.ring_walk.proofs.NextSides.{from_round, in_front-at, place_before, round_differs, round_has}
 use Rattle.ring_walk.proofs.Order.{before_strict, before_tied}
-use Rattle.ring_walk.proofs.SideNumbers.{all_sides_within, same_side-itself, same_side-true, side_number-inj, sides_differ}
+use Rattle.ring_walk.proofs.SideNumbers.{same_side-itself, same_side-true, side_number-inj, sides_differ}
 use Rattle.face_cuts.specs.Spokes.{IsSpoke, later}
 use Rattle.face_cuts.proofs.Cases.{by_test, by_option, not_held, or_left, or_right}
 use Rattle.arc_places.specs.declared.front.Front.{Front}
-use Rattle.arc_places.specs.SlotTables.{AreLast, AreSpokesOf, IsLastOf}
+use Rattle.arc_places.specs.SlotTables.{AreLast, IsLastOf}
 
 module _ (spans : List Span) (h : AreSpans spans) (v : Point) where
   -- ---- the order of the spokes

@@ -1,6 +1,5 @@
 -- Lists in ascending order with the same members are one list.
-use Rattle.std.proofs.Common.{◌≡◌, ◌∙◌, ◌⊎◌, inl, inr, ⊎_elim, ℕ, ◌+◌, ◌*◌, ◌<◌, nat_lt, Bool, true, false, ◌&&◌, ◌||◌, eqb, List, [], ◌∷◌, length, map, filter, get_or, All, AllPairs, Contains, refl, sym, ap, ap₂, subst, arith}
-use Rattle.std.specs.List.{list_any}
+use Rattle.std.proofs.Common.{◌≡◌, ◌∙◌, ⊎_elim, ℕ, ◌*◌, ◌<◌, nat_lt, Bool, true, ◌&&◌, ◌||◌, eqb, List, [], ◌∷◌, length, map, filter, get_or, All, AllPairs, Contains, refl, sym, ap, ap₂, subst, arith}
 use Rattle.std.proofs.lemmas.Bool.{false≢true, and_from, and_parts, eqb-true, eq-eqb, ltb-true, lt-ltb}
 use Rattle.std.proofs.lemmas.List.{get_or-map, length-map}
 use Rattle.std.proofs.lemmas.List.Elements.{All-contains}

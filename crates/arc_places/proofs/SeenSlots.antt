@@ -1,8 +1,8 @@
 -- The spokes of a node that are seen in the slots that are listed, and why all spokes of a node and all sides of a face are listed.
-use Rattle.std.proofs.Common.{◌≡◌, ◌≢◌, ◌∙◌, ℕ, ◌+◌, ◌<◌, ◌≤◌, Bool, true, false, ◌&&◌, ◌||◌, eqb, List, [], ◌∷◌, length, get_or, take, refl, sym, ap, subst, arith}
+use Rattle.std.proofs.Common.{◌≡◌, ◌≢◌, ◌∙◌, ℕ, ◌+◌, ◌<◌, ◌≤◌, Bool, true, false, ◌||◌, eqb, List, [], ◌∷◌, length, get_or, take, refl, sym, ap, subst}
 use Rattle.std.proofs.Math.Bool.{or_assoc}
 use Rattle.std.specs.List.{list_any}
-use Rattle.std.proofs.lemmas.Bool.{false≢true, and_from, eqb-true, eq-eqb, ltb-true}
+use Rattle.std.proofs.lemmas.Bool.{false≢true, and_from, eqb-true, eq-eqb}
 use Rattle.std.proofs.lemmas.List.{get_or-map, take_all}
 use Rattle.std.proofs.lemmas.List.Folds.{list_any_more}
 use Rattle.tgap_model.specs.declared.geometry.Point.{Point}
@@ -18,16 +18,16 @@ use Rattle.ring_walk.specs.Sides.{face_by, same_side, span_number, start_by}
 use Rattle.ring_walk.specs.Spans.{AreSpans}
 use Rattle.ring_walk.proofs.SideNumbers.{same_side-itself, same_side-true}
 use Rattle.face_cuts.specs.Nodes.{passes}
-use Rattle.face_cuts.specs.Sectors.{span_of, spans_of}
+use Rattle.face_cuts.specs.Sectors.{span_of}
 use Rattle.face_cuts.specs.Spokes.{IsSpoke}
 use Rattle.face_cuts.proofs.Cases.{by_test, not_held, or_left, or_right}
 use Rattle.face_cuts.proofs.SpansOfArcs.{of_arc}
 use Rattle.arc_places.specs.declared.front.Front.{Front}
 use Rattle.arc_places.specs.declared.sought.Sought.TheVariants.{Node, Face}
 use Rattle.arc_places.specs.Slots.{arcs_in, is_there, slot_of}
-use Rattle.arc_places.specs.Places.{Covers, arc_passes, is_among}
+use Rattle.arc_places.specs.Places.{Covers, is_among}
 use Rattle.arc_places.specs.Borders.{CoversFaces, is_beside}
-use Rattle.arc_places.specs.SlotTables.{AreLast, AreListed, is_sought, spans_in}
+use Rattle.arc_places.specs.SlotTables.{AreLast, AreListed, spans_in}
 use Rattle.arc_places.proofs.FoundSides.{same_test}
 use Rattle.arc_places.proofs.LastOf.{seen_alike}
 use Rattle.arc_places.proofs.Listed.{passes_at}

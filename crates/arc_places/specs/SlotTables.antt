@@ -1,5 +1,5 @@
 -- What the table of slots is made of: for each slot the number of its arc, and for each number the slot. Which sides are looked for in it.
-use Rattle.std.specs.Prelude.{◌≡◌, ◌<◌, ℕ, ◌==◌, nat_lt, Bool, true, false, ◌&&◌, ◌||◌, List, Option, Some, IfSome, length, get_or}
+use Rattle.std.specs.Prelude.{◌≡◌, ◌<◌, ℕ, ◌==◌, nat_lt, Bool, true, false, ◌&&◌, List, Option, Some, IfSome, length}
 use Rattle.tgap_model.specs.declared.geometry.Point.{Point}
 use Rattle.tgap_model.specs.declared.base.BaseArc.{BaseArc}
 use Rattle.tgap_model.specs.Base.{same_point}
@@ -14,7 +14,7 @@ use Rattle.arc_places.specs.declared.places.Places.{Places}
 use Rattle.arc_places.specs.declared.sought.Sought.{Sought}
 use Rattle.arc_places.specs.declared.sought.Sought.TheVariants.{Node, Face}
 use Rattle.arc_places.specs.declared.front.Front.{Front}
-use Rattle.arc_places.specs.Slots.{arcs_in, number_of, slot_of, slots_from}
+use Rattle.arc_places.specs.Slots.{arcs_in, slot_of, slots_from}
 use Rattle.arc_places.specs.Places.{Covers, is_among, listed}
 use Rattle.arc_places.specs.Borders.{CoversFaces, bordering}
 use Rattle.arc_places.specs.Numbers.{AreNumbers}
@@ -41,7 +41,8 @@ is_sought (Face f) w s = face_by w s == f
 -- the slot of each arc with such a side is listed
 abbrev pub AreListed : List BaseArc → List ℕ → Sought → Type 0
 AreListed slots numbers sought =
-    (k : ℕ) (w : Way) → k < length (arcs_in slots) → is_sought sought w (span_number (spans_in slots) k) ≡ true → is_among (slot_of slots k) numbers ≡ true
+    (k : ℕ) (w : Way) → k < length (arcs_in slots) → is_sought sought w (span_number (spans_in slots) k) ≡ true
+    → is_among (slot_of slots k) numbers ≡ true
 
 -- a side is such a one
 abbrev pub passes : List BaseArc → Sought → Side → Bool
@@ -49,7 +50,8 @@ passes slots sought s = is_sought sought s.way (span_number (spans_in slots) s.s
 
 -- the side with this number is one of the arc in this slot, and such a one
 abbrev pub is_found : List BaseArc → Sought → ℕ → ℕ → Bool
-is_found slots sought i slot = nat_lt (numbered i).span (length (arcs_in slots)) && (slot_of slots (numbered i).span == slot) && passes slots sought (numbered i)
+is_found slots sought i slot =
+    nat_lt (numbered i).span (length (arcs_in slots)) && (slot_of slots (numbered i).span == slot) && passes slots sought (numbered i)
 
 -- ---- the side in front of another one round its node
 

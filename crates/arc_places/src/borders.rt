@@ -1,6 +1,7 @@
 //! The borders of faces: which arcs may have a face as a side.
 
-ghost use Rattle.std.specs.Prelude.{◌≡◌, ◌≢◌, ◌≤◌, ◌+◌, ◌++◌, ◌∷◌, ◌==◌, ◌&&◌, ◌||◌, ◌^◌, ◌<◌, ℕ, [], IfOk, OnOk, if◌then◌else◌};
+ghost use Rattle.std.specs.Prelude.{◌≡◌, ◌≢◌, ◌≤◌, ◌+◌, ◌++◌, ◌∷◌, ◌==◌, ◌&&◌, ◌||◌, ◌^◌, ◌<◌};
+ghost use Rattle.std.specs.Prelude.{ℕ, [], IfOk, OnOk, if◌then◌else◌};
 ghost use Rattle.tgap_model.specs.Base.{borders_face};
 ghost use Rattle.face_cuts.specs.Fusions.{renumbered};
 ghost use Rattle.arc_places.specs.Places.{is_among};

@@ -1,6 +1,7 @@
 //! The sides of a table that leave a node or have a face, found among the slots that are listed.
 
-ghost use Rattle.std.specs.Prelude.{◌≡◌, ◌≤◌, ◌<◌, ◌==◌, ◌&&◌, ◌||◌, ◌^◌, ◌*◌, ℕ, All, IfOk, OnOk, filter, length};
+ghost use Rattle.std.specs.Prelude.{◌≡◌, ◌≤◌, ◌<◌, ◌==◌, ◌&&◌, ◌||◌, ◌^◌, ◌*◌};
+ghost use Rattle.std.specs.Prelude.{ℕ, All, IfOk, OnOk, filter, length};
 ghost use Rattle.ring_walk.specs.Sides.{side_number, sides};
 ghost use Rattle.ring_walk.specs.Spans.{IsSide};
 ghost use Rattle.arc_places.specs.Slots.{arcs_in, slot_of};

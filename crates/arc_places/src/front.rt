@@ -116,7 +116,8 @@ fn with_arc(table: &SlotTable<'_>, front: Front, x: Side, arc: u32) -> Front
     requires front { AreSpokesOf (spans_in table.now) (start_of (spans_in table.now) x) front }
     ensures spokes { AreSpokesOf (spans_in table.now) (start_of (spans_in table.now) x) result }
     ensures seen { (seen : OneSide → Bool) → AreLast (spans_in table.now) (start_of (spans_in table.now) x) x seen front
-        → AreLast (spans_in table.now) (start_of (spans_in table.now) x) x (λ s. seen s || (slot_of table.now arc == slot_of table.now s.span)) result }
+        → AreLast (spans_in table.now) (start_of (spans_in table.now) x) x
+        (λ s. seen s || (slot_of table.now arc == slot_of table.now s.span)) result }
 {
     let along = Side {
         span: arc,

@@ -1,4 +1,4 @@
-use Rattle.std.proofs.Common.{◌≡◌, ◌∙◌, ◌||◌, ◌&&◌, ℕ, Bool, eqb, refl, sym, ap}
+use Rattle.std.proofs.Common.{◌∙◌, ◌||◌, ◌&&◌, Bool, eqb, refl, sym, ap}
 use Rattle.std.proofs.Math.Bool.{or_assoc}
 use Rattle.ring_walk.specs.declared.side.Side.{Side}
 use Rattle.ring_walk.specs.declared.side.Way.TheVariants.{Along, Against}

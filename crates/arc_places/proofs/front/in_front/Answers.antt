@@ -1,4 +1,4 @@
-use Rattle.std.proofs.Common.{◌≡◌, ◌∙◌, Option, get_or, take, refl, ap}
+use Rattle.std.proofs.Common.{◌∙◌, Option, get_or, take, refl, ap}
 use Rattle.std.specs.Prelude.{unwrap_or}
 use Rattle.std.proofs.lemmas.List.{get_or_default}
 use Rattle.ring_walk.specs.declared.side.Side.{Side}

@@ -1,4 +1,4 @@
-use Rattle.std.proofs.Common.{◌≡◌, ◌||◌, refl, subst}
+use Rattle.std.proofs.Common.{◌||◌, refl, subst}
 use Rattle.ring_walk.specs.declared.side.Side.{Side}
 use Rattle.ring_walk.specs.declared.side.Way.TheVariants.{Along}
 use Rattle.ring_walk.specs.Sides.{same_side, start_of}

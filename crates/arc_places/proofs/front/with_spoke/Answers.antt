@@ -1,4 +1,4 @@
-use Rattle.std.proofs.Common.{◌≡◌, ◌∙◌, ◌||◌, Some, sym, subst, subst₂}
+use Rattle.std.proofs.Common.{◌∙◌, ◌||◌, Some, sym, subst, subst₂}
 use Rattle.ring_walk.specs.declared.side.Side.{Side}
 use Rattle.ring_walk.specs.Sides.{same_side, start_of}
 use Rattle.face_cuts.specs.Spokes.{IsSpoke}

@@ -1,4 +1,4 @@
-use Rattle.std.proofs.Common.{◌≡◌, ◌∙◌, ℕ, [], ap}
+use Rattle.std.proofs.Common.{◌∙◌, [], ap}
 use Rattle.std.proofs.lemmas.List.{get_or_default}
 use Rattle.tgap_model.specs.Chains.{arc_number}
 use Rattle.arc_places.proofs.SlotNumbers.{arc_in_slot}

@@ -2,7 +2,7 @@ use Rattle.std.proofs.Common.{◌≡◌, ◌∙◌, ◌<◌, ℕ, List, [], leng
 use Rattle.std.proofs.lemmas.List.{get_or_default}
 use Rattle.tgap_model.specs.declared.base.BaseArc.{BaseArc}
 use Rattle.tgap_model.specs.Chains.{arc_number}
-use Rattle.arc_places.specs.Slots.{arcs_in, is_there, number_of, slot_of}
+use Rattle.arc_places.specs.Slots.{arcs_in, is_there, slot_of}
 use Rattle.arc_places.specs.Numbers.{AreNumbers}
 use Rattle.arc_places.proofs.SlotNumbers.{arc_there, none_gone, none_past, slot_again}
 use Rattle.arc_places.proofs.slots.number_at.Goals as goal

@@ -1,4 +1,4 @@
-use Rattle.std.proofs.Common.{◌≡◌, ◌∙◌, ◌<◌, ◌||◌, ℕ, List, [], cond, eqb, sym, ap, ap₂, subst}
+use Rattle.std.proofs.Common.{◌≡◌, ◌∙◌, ◌<◌, ◌||◌, ℕ, List, cond, eqb, sym, ap, ap₂, subst}
 use Rattle.arc_places.specs.Places.{is_among}
 use Rattle.arc_places.specs.Borders.{bordering, face_count}
 use Rattle.arc_places.proofs.FusedLists.{AreFused, are_fused}

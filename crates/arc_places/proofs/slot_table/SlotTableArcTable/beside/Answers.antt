@@ -1,4 +1,4 @@
-use Rattle.std.proofs.Common.{ℕ, List, sym, subst, subst₂}
+use Rattle.std.proofs.Common.{ℕ, List, sym, subst₂}
 use Rattle.tgap_model.specs.declared.base.BaseArc.{BaseArc}
 use Rattle.arc_places.specs.declared.sought.Sought.TheVariants.{Face}
 use Rattle.arc_places.specs.Borders.{bordering}
