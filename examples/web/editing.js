@@ -269,6 +269,8 @@ export class Editing {
 
   /** Goes on with the newest version: with all edits that still apply, or with none. */
   async goOn(withEdits) {
+    // The server may have been started anew, and be another one.
+    this.knowsCuts = null;
     await this.#busy("The newest version is asked for.", async () => {
       await this.told.renews();
       const { draft, left } = withEdits ? this.draft.carryTo(await this.#newest()) : { draft: await this.#newest(), left: [] };

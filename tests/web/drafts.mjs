@@ -177,8 +177,8 @@ function tellsEachCause() {
     [`class ${"9".repeat(80)} 0`, 2],
   ];
   for (const [line, cause] of rows) tally.equal(`two squares, ${line}`, causeOf(() => squares().apply([editOf(line)])), cause);
-  for (const line of ["", "clas 1 0", "class 1", "class 01 0", "class -1 0", "class 1 0 ", "move 1 1 2", "move 1 1 2 2147483649", "cut 1 0 1 0 0", "cut 1 0 2 0 0 10", "cut 1 0 02 0 0 10 10",
-    "cut 1 0 65536 0 0", "node 1", "fuse 1", "add 0 0 10 0 5", "drop 1 1 1", "constructor 1"]) {
+  for (const line of ["", "clas 1 0", "class 1", "class 01 0", "class -1 0", "class 1 0 ", "move 1 1 2", "move 1 1 2 2147483649", "cut 1 0 1 0 0", "cut 1 0 2 0 0 10",
+    "cut 1 0 02 0 0 10 10", "cut 1 0 65536 0 0", "node 1", "fuse 1", "add 0 0 10 0 5", "drop 1 1 1", "constructor 1"]) {
     tally.equal(`${JSON.stringify(line)} is no line`, editOf(line), null);
   }
   const batch = ["class 1 0\n", "class 1 0\nclass 9 0\n", "class 1 0\n\n", "class 1 0\nclass 2 0"];
@@ -276,9 +276,11 @@ function carriesEdits() {
   const before = mine.batch();
   const { draft, left } = mine.carryTo(new Draft({ step: 0, faces: newer.faces, edges: newer.edges }, { classes: 4, version: 1 }));
   tally.equal("what was done is as it was", mine.batch(), before);
-  tally.equal("an edit of what another editor has changed is left", left.map(({ edits, reason }) => `${lineOf(edits[0])}: ${reason.cause}`).join(), `move ${[corner, corner.map((z) => z + 5)].flat().join(" ")}: 3`);
+  const move = lineOf({ kind: "move", from: corner, to: corner.map((z) => z + 5) });
+  tally.equal("an edit of what another editor has changed is left", left.map(({ edits, reason }) => `${lineOf(edits[0])}: ${reason.cause}`).join(), `${move}: 3`);
   tally.equal("all others are made again, with the numbers that faces have now", draft.batch(),
-    `class 1 0\nmove ${[other, other.map((z) => z + 5)].flat().join(" ")}\nnode ${through[0].join(" ")}\nnode ${through[1].join(" ")}\ncut 1 2 2 ${through.flat().join(" ")}\nclass 9 3\n`);
+    ["class 1 0", lineOf({ kind: "move", from: other, to: other.map((z) => z + 5) }), ...through.map((point) => lineOf({ kind: "node", point })),
+      lineOf({ kind: "cut", face: 1, ofClass: 2, points: through }), "class 9 3", ""].join("\n"));
   tally.equal("and are of the newer version", draft.version, 1);
   leavesWhatHangsOnWhatIsLeft(map);
   const parted = draftOf(map);
@@ -399,7 +401,8 @@ async function publishesOldLines({ name, client, another, draft }) {
   await isPublished({ name, client, draft });
   draft.move(a, [...draft.edges.values()].at(-1).points[1].map((z) => z + 1));
   const refused = await thrown(draft.publish(client));
-  tally.holds(`${name}: what makes the map unsound is refused: ${refused}`, refused?.name === "RefusedBatch" && refused.place?.length === 2 && refused.step === null && refused.said.startsWith("refused 1"));
+  const isUnsound = refused?.name === "RefusedBatch" && refused.place?.length === 2 && refused.step === null && refused.said.startsWith("refused 1");
+  tally.holds(`${name}: what makes the map unsound is refused: ${refused}`, isUnsound);
   tally.equal(`${name}: and stays in the draft`, draft.steps.length, 1);
   draft.undo();
   draft.move(c, beside(c, d));
