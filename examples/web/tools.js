@@ -29,11 +29,11 @@ class Tool {
 
   /** What may be near to the reader's place. */
   vertexAt(place, reach) {
-    return vertexNear(this.map, this.draft.edges.values(), place, reach);
+    return vertexNear(this.map, this.editing.seen, place, reach);
   }
 
   segmentAt(place, reach) {
-    return segmentNear(this.map, this.draft.edges.values(), place, reach);
+    return segmentNear(this.map, this.editing.seen, place, reach);
   }
 
   faceAt(place) {
