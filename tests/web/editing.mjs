@@ -222,14 +222,16 @@ async function splitsAndJoins({ tab, served }) {
   tally.holds("the face that stays is told", (await tab.value(HINT)).includes("stays. Tap the neighbour that becomes part of it"));
   await tab.click([middle[0], middle[1] + 20]);
   tally.holds(`two areas are joined: ${await batch(tab)}`, /fuse ([0-9]+ 50|50 [0-9]+)\n$/.test(await batch(tab)) && (await tab.value("window.tgap.editing.draft.faces.size")) === 49);
-  const far = await placeIn(tab, largeFace(await served.slice(0)).at(-1).face);
-  if (far) {
-    const lines = await batch(tab);
-    await tab.click([middle[0], middle[1] - 14]);
-    await tab.click(far);
-    const told = await tab.value(NOTICES);
-    tally.holds(`only neighbours are: ${told}`, told.includes("tool: The two areas have no border with each other.") && (await batch(tab)) === lines);
-  }
+  const apart = await tab.value(`(() => {
+    const { draft } = window.tgap.editing, near = new Set(draft.edgesBeside(${face}).flatMap(({ left, right }) => [left, right]));
+    return [...draft.faces.keys()].filter((it) => !near.has(it));
+  })()`);
+  const far = await placeIn(tab, largeFace(await served.slice(0)).find((it) => apart.includes(it.face)).face);
+  const lines = await batch(tab);
+  await tab.click([middle[0], middle[1] - 14]);
+  await tab.click(far);
+  const told = await tab.value(NOTICES);
+  tally.holds(`only neighbours are: ${told}`, told.includes("tool: The two areas have no border with each other.") && (await batch(tab)) === lines);
   await refusesLines({ tab, from, to });
   await endsEditing(tab);
 }
