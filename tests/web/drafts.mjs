@@ -1,6 +1,7 @@
 // Holds the drafts of clients/js against a plain program, over random edits of small maps, and against the built program.
 // usage: node tests/web/drafts.mjs EXECUTABLE. Last line: 'N passed, N failed, N skipped'.
-import { readFileSync } from "node:fs";
+import { mkdtempSync, readFileSync, rmSync, writeFileSync } from "node:fs";
+import { tmpdir } from "node:os";
 import path from "node:path";
 import { Client } from "../../clients/js/client.js";
 import { Draft, knowsCuts } from "../../clients/js/draft.js";
@@ -12,7 +13,12 @@ import { edited, mapOf } from "./plain_edits.mjs";
 
 const executable = process.argv[2];
 const tally = new Tally();
+const room = mkdtempSync(path.join(tmpdir(), "web-drafts-"));
 const LINES = 1500;
+const BATCHES = 150;
+// A server that is tried has 64, the map itself among them.
+const MOST_VERSIONS = 60;
+const NEWER = /^(node|cut|fuse) /;
 const MOST_POINTS = 524288;
 const MOST_ARCS = 65536;
 
@@ -472,6 +478,48 @@ async function findsHiddenNodes({ name, client, draft }) {
   tally.holds(`${name}: such a vertex cannot be dropped, and is told: ${refused}`, refused?.fault?.cause === 6 && refused.step === 0 && String(refused.place) === String(points[0]));
 }
 
+/** Lines of all kinds: the server finds the same one at fault, with the same cause, or makes the same map of them. */
+async function agreesWithTheServer(name, text, knows) {
+  const file = path.join(room, `${name.replaceAll(" ", "_")}.tgap`);
+  writeFileSync(file, text);
+  const { root, stop } = await serve(executable, file);
+  const client = new Client(root, { fetch: fetchAlone });
+  const lines = new Lines(name.length + 1);
+  const told = { published: 0, unsound: 0, line: 0, wrong: [] };
+  let map = mapOf(text);
+  const draft = draftOf(map);
+  for (let i = 0; i < BATCHES && told.published < MOST_VERSIONS; i++) {
+    const batch = lines.next(map);
+    if (!knows && batch.some((line) => NEWER.test(line))) continue;
+    let next = map;
+    for (const line of batch) next = typeof next === "number" ? next : edited(next, line);
+    const found = foundFor(draft, batch);
+    const said = await client.edit(batch.map((line) => `${line}\n`).join("")).then(() => "", (error) => error.said);
+    const outcome = said === "" ? "published" : found === "" ? "unsound" : "line";
+    told[outcome] += 1;
+    if (outcome === "published") map = next;
+    if (outcome === "unsound") draft.undo();
+    const isSame = {
+      published: async () => found === "" && segments(await client.slice(0)) === segments(draft),
+      unsound: () => /^refused 1[567] /.test(said),
+      line: () => said === found,
+    };
+    if (!(await isSame[outcome]())) told.wrong.push([batch, found, said]);
+  }
+  stop();
+  tally.holds(`${name}: the server agrees: ${JSON.stringify(told)}`, told.wrong.length === 0 && told.published > 5 && told.line > 5);
+}
+
+/** What a server would say of the lines that a draft takes; the empty text where it takes them all. */
+function foundFor(draft, batch) {
+  try {
+    draft.applyLines(batch.map((line) => `${line}\n`).join(""));
+    return "";
+  } catch (error) {
+    return `edit line ${error.line} cause ${error.cause}`;
+  }
+}
+
 process.on("SIGTERM", () => {
   endServing();
   process.exit(1);
@@ -484,11 +532,17 @@ carriesEdits();
 readsFaults();
 await learnsOfNodes();
 await over("Columbus", ["columbus.json", "areas", "columbus.rules.json"], publishesOldLines);
+let knows = false;
 await over("Columbus", ["columbus.json", "areas", "columbus.rules.json"], async (on) => {
-  const knows = await knowsCuts(on.client);
+  knows = await knowsCuts(on.client);
   tally.equal("asking for cuts publishes nothing", (await on.client.newest()).version, 0);
   if (knows) return publishesNewLines(on);
   await tellsThatLinesAreUnknown(on);
   tally.skip("cuts and fusions that are published", "the program does not know these lines");
 });
+try {
+  for (const [name, text] of MAPS.filter((it) => it[0] !== "far corners")) await agreesWithTheServer(name, text, knows);
+} finally {
+  rmSync(room, { recursive: true });
+}
 tally.end();
