@@ -13,14 +13,16 @@ import { Classes, Join, Points, Split } from "./tools.js";
 import { wordsOfFault, wordsOfStep } from "./words.js";
 
 const NEWER_TOOLS = ["split", "join"];
+// Where more points would be seen, the reader has to come nearer: each step would take long to draw, and he could tell no vertex from another.
+const MOST_POINTS = 5000;
 
 export class Editing {
   /**
    * `client`, `sheet`, `panel` and `known` are those of the page, which is `told`: what is `published`, of how many steps; what `refused` that; what `failed` to be read;
-   * that editing has `ended`; and that it `renews` what it shows to the newest version.
+   * that editing has `ended`; and that it `renews` what it shows to the newest version. `told.coarse` gives its own picture, for a view that shows too much.
    */
   constructor({ client, sheet, panel, known }, told) {
-    Object.assign(this, { client, sheet, panel, known, told, draft: null, isBusy: false, knowsCuts: null });
+    Object.assign(this, { client, sheet, panel, known, told, draft: null, isBusy: false, isFar: false, knowsCuts: null });
     this.map = sheet.map;
     this.marks = new Marks(this.map);
     this.tools = [Points, Classes, Split, Join].map((Kind) => new Kind(this));
@@ -58,7 +60,7 @@ export class Editing {
 
   /** What the tools are told of the reader's pointing. */
   #pointed() {
-    const whenFree = (name) => (...words) => (this.isBusy ? false : this.tool[name](...words));
+    const whenFree = (name) => (...words) => (this.isBusy || this.isFar ? false : this.tool[name](...words));
     const free = Object.fromEntries(["takes", "drags", "drops", "taps", "keys", "hovers", "presses"].map((name) => [name, whenFree(name)]));
     return { ...free, letsGo: () => this.tool.letsGo() };
   }
@@ -177,7 +179,7 @@ export class Editing {
     this.marks.clear("wrong");
     this.refused = null;
     this.draw();
-    this.tool.show();
+    if (!this.isFar) this.tool.show();
     this.#tellSteps();
   }
 
@@ -192,22 +194,37 @@ export class Editing {
     const seen = this.sheet.box;
     const area = gridBox(seen, BEYOND);
     const edges = new Map([...this.draft.edges].filter(([, { points }]) => touches(area, points)));
+    this.area = area;
+    this.seen = [...edges.values()];
+    this.#goFar(this.seen.reduce((sum, { points }) => sum + points.length, 0) > MOST_POINTS);
+    if (this.isFar) return;
     const face = this.draft.faceAt(area.x0 + 1, area.y1 - 1);
     const window = { step: 0, area, faces: this.draft.faces, edges };
-    this.area = area;
     this.sheet.show(pictureAtOnce(window, this.draft, { face, ofClass: this.draft.faces.get(face) ?? null }));
-    this.marks.vertices(edges.values(), gridBox(seen));
-    this.marks.lines("changed", this.#changedSegments(edges.values()));
+    this.marks.vertices(this.seen, gridBox(seen));
+    this.marks.lines("changed", this.#changedSegments());
+  }
+
+  /** From afar the page's own picture is shown, without the edits. */
+  #goFar(isFar) {
+    const hasChanged = this.isFar !== isFar;
+    this.isFar = isFar;
+    if (isFar) {
+      this.pointing.giveUp();
+      this.marks.clear();
+      this.told.coarse();
+    }
+    if (hasChanged) this.tellTool();
   }
 
   /** The segments that the map does not have without the edits. */
-  #changedSegments(edges) {
+  #changedSegments() {
     this.before ??= this.#withoutEdits();
     const [before, after] = [this.before, this.draft.edges];
     const nameOf = (segment) => segment.map(String).sort().join();
     const gone = [...before.values()].filter((edge) => after.get(edge.key) !== edge);
     const were = new Set(gone.flatMap(({ points }) => segmentsOf(points)).map(nameOf));
-    const changed = [...edges].filter((edge) => before.get(edge.key) !== edge);
+    const changed = this.seen.filter((edge) => before.get(edge.key) !== edge);
     return changed.flatMap(({ points }) => segmentsOf(points)).filter((segment) => !were.has(nameOf(segment)));
   }
 
@@ -223,8 +240,8 @@ export class Editing {
   /** The view has moved. */
   look() {
     if (!this.isOn) return;
-    if (!holdsBox(this.area, gridBox(this.sheet.box))) this.draw();
-    else this.marks.vertices(this.draft.edges.values(), gridBox(this.sheet.box));
+    if (this.isFar || !holdsBox(this.area, gridBox(this.sheet.box))) this.draw();
+    else this.marks.vertices(this.seen, gridBox(this.sheet.box));
   }
 
   /** A sentence on what to do. */
@@ -233,7 +250,7 @@ export class Editing {
   }
 
   tellTool() {
-    if (this.isOn && !this.isBusy) this.tell(this.tool.hint);
+    if (this.isOn && !this.isBusy) this.tell(this.isFar ? "Come nearer to edit: from here there are too many vertices to tell one from another." : this.tool.hint);
     this.toolbar.tell(this);
   }
 
@@ -269,6 +286,8 @@ export class Editing {
 
   /** Goes on with the newest version: with all edits that still apply, or with none. */
   async goOn(withEdits) {
+    // The server may have been started anew, and be another one.
+    this.knowsCuts = null;
     await this.#busy("The newest version is asked for.", async () => {
       await this.told.renews();
       const { draft, left } = withEdits ? this.draft.carryTo(await this.#newest()) : { draft: await this.#newest(), left: [] };
@@ -297,6 +316,7 @@ export class Editing {
     if (this.isChanged) this.panel.settle("edit");
     this.tool.leave();
     this.draft = null;
+    this.isFar = false;
     this.marks.clear();
     this.pointing.turn(false);
     this.toolbar.close();

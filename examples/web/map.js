@@ -49,6 +49,7 @@ const editing = new Editing({ client, sheet, panel, known }, {
   refused: tellOfEdit,
   failed: tellFailure,
   ended: () => detail.picture && show(detail.picture),
+  coarse: () => detail.picture && sheet.picture !== detail.picture && sheet.show(detail.picture),
   renews: () => detail.catchUp(),
 });
 const identify = new Identify(sheet, detail, known, { isWanted: () => !editing.isOn, failed: tellFailure });
@@ -74,8 +75,9 @@ async function begin(bounds) {
 function show(picture) {
   identify.show(picture);
   // Who edits sees what he edits.
-  if (editing.isOn) return;
+  if (editing.isOn && !editing.isFar) return;
   sheet.show(picture);
+  if (editing.isOn) return;
   panel.tell(picture, detail.info.steps, picture.area !== null && !holdsBox(picture.area, detail.bounds));
   // Last, since a wider view may want another picture.
   sheet.setHome(detail.bounds);

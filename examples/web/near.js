@@ -1,6 +1,8 @@
-// What lies next to a place of the screen: a vertex of a border, or a place on one.
+// What lies next to a place of the screen: a vertex of a border, or a place on one; and whether a line crosses a border.
 
+import { boxOf } from "./clients/js/places.js";
 import { touches } from "./clients/js/replay.js";
+import { segmentsOf } from "./clients/js/sides.js";
 
 const L = window.L;
 
@@ -49,4 +51,20 @@ export function segmentNear(map, edges, place, reach) {
     }
   }
   return nearest;
+}
+
+/** At which side of the line from p to q a point lies. */
+const sideOf = (p, q, [x, y]) => Math.sign((q[0] - p[0]) * (y - p[1]) - (q[1] - p[1]) * (x - p[0]));
+
+/** Whether two segments cross: at a place that is an end of neither. */
+const cross = ([p, q], [a, b]) => sideOf(p, q, a) * sideOf(p, q, b) < 0 && sideOf(a, b, p) * sideOf(a, b, q) < 0;
+
+/** Whether a row of points crosses a border, other than on the segments that a vertex of it is put on. */
+export function crossesBorder(edges, line, adds) {
+  const nameOf = (ends) => ends.map(String).sort().join();
+  const put = new Set(adds.map(({ ends }) => nameOf(ends)));
+  const own = segmentsOf(line);
+  const box = boxOf([{ points: line }]);
+  const meets = (segment) => touches(box, segment) && own.some((it) => cross(it, segment)) && !put.has(nameOf(segment));
+  return [...edges].some(({ points }) => touches(box, points) && segmentsOf(points).some(meets));
 }

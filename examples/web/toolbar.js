@@ -24,8 +24,11 @@ export class Toolbar {
     box.replaceChildren(...classes.map((number) => new Option(known.nameOfClass(number), number)));
     if (value) box.value = value;
     this.#showClass();
+    const isThere = !element("tools").hidden;
     element("tools").hidden = false;
     element("edit").hidden = true;
+    // The keys go on from the button that is gone.
+    if (!isThere) document.querySelector("#tools [data-tool]").focus();
   }
 
   close() {

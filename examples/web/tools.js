@@ -1,6 +1,11 @@
 // The tools with which a map is edited. Each is told where the reader points (pointing.js), and makes steps of the draft.
 
-import { gridPoint, onScreen, segmentNear, vertexNear } from "./near.js";
+import { EditFault } from "./clients/js/errors.js";
+import { crossesBorder, gridPoint, onScreen, segmentNear, vertexNear } from "./near.js";
+
+// The cause of a line that meets a border on its way, and that of one that does not lead into a face.
+const CROSSES = 10;
+const LEADS_ELSEWHERE = 9;
 
 const same = (p, q) => String(p) === String(q);
 
@@ -24,11 +29,11 @@ class Tool {
 
   /** What may be near to the reader's place. */
   vertexAt(place, reach) {
-    return vertexNear(this.map, this.draft.edges.values(), place, reach);
+    return vertexNear(this.map, this.editing.seen, place, reach);
   }
 
   segmentAt(place, reach) {
-    return segmentNear(this.map, this.draft.edges.values(), place, reach);
+    return segmentNear(this.map, this.editing.seen, place, reach);
   }
 
   faceAt(place) {
@@ -275,8 +280,9 @@ export class Split extends Tool {
     return this.editing.makes(() => this.#cut(line, adds));
   }
 
-  /** Cuts the face into which the line leads: one of those beside its beginning. */
+  /** Cuts the face into which the line leads: one of those beside its beginning. What crosses a border would be refused when it is published. */
   #cut(line, adds) {
+    if (crossesBorder(this.draft.edges.values(), line, adds)) throw new EditFault(CROSSES);
     const [first] = adds.filter(({ point }) => same(point, line[0]));
     const beside = this.draft.edgesAt(first ? first.ends[0] : line[0]).flatMap(({ left, right }) => [left, right]);
     let fault = null;
@@ -285,7 +291,7 @@ export class Split extends Tool {
         return this.draft.cut(face, this.draft.faces.get(face), line, adds);
       } catch (error) {
         // The line leads into another one, or says more of this one.
-        if (fault === null || error.cause !== 9) fault = error;
+        if (fault === null || error.cause !== LEADS_ELSEWHERE) fault = error;
       }
     }
     throw fault;

@@ -89,7 +89,7 @@ export function wordsOfFault({ cause, message }) {
     6: "Borders meet there: this vertex cannot be removed.",
     7: "This vertex cannot be removed: the border would double back.",
     9: "The line has to lead through one area, from its border to its border.",
-    10: "The line comes to one place twice, or touches a border on its way.",
+    10: "The line comes to one place twice, or meets a border on its way.",
     12: "The line has to begin and end at borders that hang together: an island has none in common with what is round it.",
     13: "The two areas have no border with each other.",
     14: "Nothing would be left of the border round the two areas.",

@@ -1,6 +1,7 @@
 // Holds the drafts of clients/js against a plain program, over random edits of small maps, and against the built program.
 // usage: node tests/web/drafts.mjs EXECUTABLE. Last line: 'N passed, N failed, N skipped'.
-import { readFileSync } from "node:fs";
+import { mkdtempSync, readFileSync, rmSync, writeFileSync } from "node:fs";
+import { tmpdir } from "node:os";
 import path from "node:path";
 import { Client } from "../../clients/js/client.js";
 import { Draft, knowsCuts } from "../../clients/js/draft.js";
@@ -12,7 +13,12 @@ import { edited, mapOf } from "./plain_edits.mjs";
 
 const executable = process.argv[2];
 const tally = new Tally();
+const room = mkdtempSync(path.join(tmpdir(), "web-drafts-"));
 const LINES = 1500;
+const BATCHES = 150;
+// A server that is tried has 64, the map itself among them.
+const MOST_VERSIONS = 60;
+const NEWER = /^(node|cut|fuse) /;
 const MOST_POINTS = 524288;
 const MOST_ARCS = 65536;
 
@@ -177,8 +183,8 @@ function tellsEachCause() {
     [`class ${"9".repeat(80)} 0`, 2],
   ];
   for (const [line, cause] of rows) tally.equal(`two squares, ${line}`, causeOf(() => squares().apply([editOf(line)])), cause);
-  for (const line of ["", "clas 1 0", "class 1", "class 01 0", "class -1 0", "class 1 0 ", "move 1 1 2", "move 1 1 2 2147483649", "cut 1 0 1 0 0", "cut 1 0 2 0 0 10", "cut 1 0 02 0 0 10 10",
-    "cut 1 0 65536 0 0", "node 1", "fuse 1", "add 0 0 10 0 5", "drop 1 1 1", "constructor 1"]) {
+  for (const line of ["", "clas 1 0", "class 1", "class 01 0", "class -1 0", "class 1 0 ", "move 1 1 2", "move 1 1 2 2147483649", "cut 1 0 1 0 0", "cut 1 0 2 0 0 10",
+    "cut 1 0 02 0 0 10 10", "cut 1 0 65536 0 0", "node 1", "fuse 1", "add 0 0 10 0 5", "drop 1 1 1", "constructor 1"]) {
     tally.equal(`${JSON.stringify(line)} is no line`, editOf(line), null);
   }
   const batch = ["class 1 0\n", "class 1 0\nclass 9 0\n", "class 1 0\n\n", "class 1 0\nclass 2 0"];
@@ -276,9 +282,11 @@ function carriesEdits() {
   const before = mine.batch();
   const { draft, left } = mine.carryTo(new Draft({ step: 0, faces: newer.faces, edges: newer.edges }, { classes: 4, version: 1 }));
   tally.equal("what was done is as it was", mine.batch(), before);
-  tally.equal("an edit of what another editor has changed is left", left.map(({ edits, reason }) => `${lineOf(edits[0])}: ${reason.cause}`).join(), `move ${[corner, corner.map((z) => z + 5)].flat().join(" ")}: 3`);
+  const move = lineOf({ kind: "move", from: corner, to: corner.map((z) => z + 5) });
+  tally.equal("an edit of what another editor has changed is left", left.map(({ edits, reason }) => `${lineOf(edits[0])}: ${reason.cause}`).join(), `${move}: 3`);
   tally.equal("all others are made again, with the numbers that faces have now", draft.batch(),
-    `class 1 0\nmove ${[other, other.map((z) => z + 5)].flat().join(" ")}\nnode ${through[0].join(" ")}\nnode ${through[1].join(" ")}\ncut 1 2 2 ${through.flat().join(" ")}\nclass 9 3\n`);
+    ["class 1 0", lineOf({ kind: "move", from: other, to: other.map((z) => z + 5) }), ...through.map((point) => lineOf({ kind: "node", point })),
+      lineOf({ kind: "cut", face: 1, ofClass: 2, points: through }), "class 9 3", ""].join("\n"));
   tally.equal("and are of the newer version", draft.version, 1);
   leavesWhatHangsOnWhatIsLeft(map);
   const parted = draftOf(map);
@@ -399,7 +407,8 @@ async function publishesOldLines({ name, client, another, draft }) {
   await isPublished({ name, client, draft });
   draft.move(a, [...draft.edges.values()].at(-1).points[1].map((z) => z + 1));
   const refused = await thrown(draft.publish(client));
-  tally.holds(`${name}: what makes the map unsound is refused: ${refused}`, refused?.name === "RefusedBatch" && refused.place?.length === 2 && refused.step === null && refused.said.startsWith("refused 1"));
+  const isUnsound = refused?.name === "RefusedBatch" && refused.place?.length === 2 && refused.step === null && refused.said.startsWith("refused 1");
+  tally.holds(`${name}: what makes the map unsound is refused: ${refused}`, isUnsound);
   tally.equal(`${name}: and stays in the draft`, draft.steps.length, 1);
   draft.undo();
   draft.move(c, beside(c, d));
@@ -469,6 +478,48 @@ async function findsHiddenNodes({ name, client, draft }) {
   tally.holds(`${name}: such a vertex cannot be dropped, and is told: ${refused}`, refused?.fault?.cause === 6 && refused.step === 0 && String(refused.place) === String(points[0]));
 }
 
+/** Lines of all kinds: the server finds the same one at fault, with the same cause, or makes the same map of them. */
+async function agreesWithTheServer(name, text, knows) {
+  const file = path.join(room, `${name.replaceAll(" ", "_")}.tgap`);
+  writeFileSync(file, text);
+  const { root, stop } = await serve(executable, file);
+  const client = new Client(root, { fetch: fetchAlone });
+  const lines = new Lines(name.length + 1);
+  const told = { published: 0, unsound: 0, line: 0, wrong: [] };
+  let map = mapOf(text);
+  const draft = draftOf(map);
+  for (let i = 0; i < BATCHES && told.published < MOST_VERSIONS; i++) {
+    const batch = lines.next(map);
+    if (!knows && batch.some((line) => NEWER.test(line))) continue;
+    let next = map;
+    for (const line of batch) next = typeof next === "number" ? next : edited(next, line);
+    const found = foundFor(draft, batch);
+    const said = await client.edit(batch.map((line) => `${line}\n`).join("")).then(() => "", (error) => error.said);
+    const outcome = said === "" ? "published" : found === "" ? "unsound" : "line";
+    told[outcome] += 1;
+    if (outcome === "published") map = next;
+    if (outcome === "unsound") draft.undo();
+    const isSame = {
+      published: async () => found === "" && segments(await client.slice(0)) === segments(draft),
+      unsound: () => /^refused 1[567] /.test(said),
+      line: () => said === found,
+    };
+    if (!(await isSame[outcome]())) told.wrong.push([batch, found, said]);
+  }
+  stop();
+  tally.holds(`${name}: the server agrees: ${JSON.stringify(told)}`, told.wrong.length === 0 && told.published > 5 && told.line > 5);
+}
+
+/** What a server would say of the lines that a draft takes; the empty text where it takes them all. */
+function foundFor(draft, batch) {
+  try {
+    draft.applyLines(batch.map((line) => `${line}\n`).join(""));
+    return "";
+  } catch (error) {
+    return `edit line ${error.line} cause ${error.cause}`;
+  }
+}
+
 process.on("SIGTERM", () => {
   endServing();
   process.exit(1);
@@ -481,11 +532,17 @@ carriesEdits();
 readsFaults();
 await learnsOfNodes();
 await over("Columbus", ["columbus.json", "areas", "columbus.rules.json"], publishesOldLines);
+let knows = false;
 await over("Columbus", ["columbus.json", "areas", "columbus.rules.json"], async (on) => {
-  const knows = await knowsCuts(on.client);
+  knows = await knowsCuts(on.client);
   tally.equal("asking for cuts publishes nothing", (await on.client.newest()).version, 0);
   if (knows) return publishesNewLines(on);
   await tellsThatLinesAreUnknown(on);
   tally.skip("cuts and fusions that are published", "the program does not know these lines");
 });
+try {
+  for (const [name, text] of MAPS.filter((it) => it[0] !== "far corners")) await agreesWithTheServer(name, text, knows);
+} finally {
+  rmSync(room, { recursive: true });
+}
 tally.end();

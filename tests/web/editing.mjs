@@ -43,7 +43,10 @@ function innerVertex({ edges }) {
 }
 
 /** The point of the grid at a place of the screen. */
-const gridAt = (tab, [x, y]) => tab.value(`(({ map }) => { const box = map.getContainer().getBoundingClientRect(); const { lng, lat } = map.containerPointToLatLng([${x} - box.x, ${y} - box.y]); return [Math.round(lng), Math.round(lat)]; })(window.tgap.sheet)`);
+const gridAt = (tab, [x, y]) => tab.value(`(({ map }) => {
+  const box = map.getContainer().getBoundingClientRect(), { lng, lat } = map.containerPointToLatLng([${x} - box.x, ${y} - box.y]);
+  return [Math.round(lng), Math.round(lat)];
+})(window.tgap.sheet)`);
 
 /** Drags a vertex by so many pixels; gives where it is then. */
 async function dragsVertex(tab, vertex, by) {
@@ -96,7 +99,8 @@ async function movesAddsAndDrops({ tab, served }) {
   await presses(tab, "remove");
   const told = await tab.value(NOTICES);
   const isNode = await tab.value(`window.tgap.editing.draft.isNode([${before}])`);
-  tally.holds(`a vertex that is chosen is removed by the button, unless borders meet there: ${told}`, isNode ? told === "tool: Borders meet there: this vertex cannot be removed." : (await batch(tab)).endsWith(`drop ${before.join(" ")}\n`));
+  const isRight = isNode ? told === "tool: Borders meet there: this vertex cannot be removed." : (await batch(tab)).endsWith(`drop ${before.join(" ")}\n`);
+  tally.holds(`a vertex that is chosen is removed by the button, unless borders meet there: ${told}`, isRight);
   await picture(tab, "edit_points");
   await endsEditing(tab);
 }
@@ -122,10 +126,10 @@ async function losesNothingByAccident({ tab, served }) {
 /** Where the middle of a face is on the screen, when all of the map is shown: a place that is away from its borders. */
 async function placeIn(tab, face) {
   return tab.value(`(() => {
-    const { draft } = window.tgap.editing, { map } = window.tgap.sheet, size = map.getSize();
+    const { draft } = window.tgap.editing, { map } = window.tgap.sheet, size = map.getSize(), box = document.getElementById('map').getBoundingClientRect();
     const of = (x, y) => { const { lng, lat } = map.containerPointToLatLng([x, y]); return draft.faceAt(lng, lat); };
     for (let x = 20; x < size.x - 20; x += 4) for (let y = 20; y < size.y - 20; y += 4)
-      if ([-12, 0, 12].every((dx) => [-12, 0, 12].every((dy) => of(x + dx, y + dy) === ${face}))) { const box = document.getElementById('map').getBoundingClientRect(); return [x + box.x, y + box.y]; }
+      if ([-12, 0, 12].every((dx) => [-12, 0, 12].every((dy) => of(x + dx, y + dy) === ${face}))) return [x + box.x, y + box.y];
     return null;
   })()`);
 }
@@ -208,8 +212,8 @@ async function splitsAndJoins({ tab, served }) {
   for (const place of [from, [middle[0], middle[1] + 5], to]) await tab.click(place);
   const tapped = CUT.exec(await batch(tab));
   tally.holds(`so does one that is tapped, with its corners: ${await batch(tab)}`, tapped?.[3] === String(face) && tapped[5] === "3");
-  const parts = await Promise.all([-14, 20].map((by) => tab.value(`(() => { const { map } = window.tgap.sheet, box = document.getElementById('map').getBoundingClientRect();
-    const { lng, lat } = map.containerPointToLatLng([${middle[0]} - box.x, ${middle[1] + by} - box.y]); return window.tgap.editing.draft.faceAt(lng, lat); })()`)));
+  const beside = await Promise.all([-14, 20].map((by) => gridAt(tab, [middle[0], middle[1] + by])));
+  const parts = await Promise.all(beside.map(([x, y]) => tab.value(`window.tgap.editing.draft.faceAt(${x} + 0.25, ${y} + 0.25)`)));
   tally.equal("on either side is another face", parts.sort((a, b) => a - b).join(), `${face},50`);
   await picture(tab, "edit_split_corner");
 
@@ -218,13 +222,16 @@ async function splitsAndJoins({ tab, served }) {
   tally.holds("the face that stays is told", (await tab.value(HINT)).includes("stays. Tap the neighbour that becomes part of it"));
   await tab.click([middle[0], middle[1] + 20]);
   tally.holds(`two areas are joined: ${await batch(tab)}`, /fuse ([0-9]+ 50|50 [0-9]+)\n$/.test(await batch(tab)) && (await tab.value("window.tgap.editing.draft.faces.size")) === 49);
-  const far = await placeIn(tab, largeFace(await served.slice(0)).at(-1).face);
-  if (far) {
-    const lines = await batch(tab);
-    await tab.click([middle[0], middle[1] - 14]);
-    await tab.click(far);
-    tally.holds(`only neighbours are: ${await tab.value(NOTICES)}`, (await tab.value(NOTICES)).includes("tool: The two areas have no border with each other.") && (await batch(tab)) === lines);
-  }
+  const apart = await tab.value(`(() => {
+    const { draft } = window.tgap.editing, near = new Set(draft.edgesBeside(${face}).flatMap(({ left, right }) => [left, right]));
+    return [...draft.faces.keys()].filter((it) => !near.has(it));
+  })()`);
+  const far = await placeIn(tab, largeFace(await served.slice(0)).find((it) => apart.includes(it.face)).face);
+  const lines = await batch(tab);
+  await tab.click([middle[0], middle[1] - 14]);
+  await tab.click(far);
+  const told = await tab.value(NOTICES);
+  tally.holds(`only neighbours are: ${told}`, told.includes("tool: The two areas have no border with each other.") && (await batch(tab)) === lines);
   await refusesLines({ tab, from, to });
   await endsEditing(tab);
 }
@@ -243,6 +250,12 @@ async function refusesLines({ tab, from, to }) {
   tally.equal("Escape gives it up", await tab.value("window.tgap.editing.tool.line.length"), 1);
   await tab.key("Escape");
   tally.equal("and nothing has come of it", await batch(tab), before);
+  // By a corner far outside.
+  const bottom = await tab.value("document.getElementById('map').getBoundingClientRect().bottom");
+  for (const place of [from, [middle[0], bottom - 6], to]) await tab.click(place);
+  const told = await tab.value(NOTICES);
+  const isRefused = told.includes("tool: The line comes to one place twice, or meets a border on its way.") && (await batch(tab)) === before;
+  tally.holds(`a line that crosses a border is refused at once: ${told}`, isRefused);
 }
 
 /** The keys alone: the cross goes to a place, in large steps and in small ones. */
@@ -343,7 +356,8 @@ async function editsByTouch({ tab, served }) {
   await loadsAnew(tab);
   await tab.until(IDLE);
   await beginsEditing(tab);
-  const small = await tab.value("[...document.querySelectorAll('#tools button, #tools select')].filter((it) => it.offsetParent).map((it) => it.getBoundingClientRect()).filter(({ width, height }) => width < 44 || height < 44).length");
+  const small = await tab.value(`[...document.querySelectorAll('#tools button, #tools select, .leaflet-bar > *')].filter((it) => it.offsetParent)
+    .map((it) => it.getBoundingClientRect()).filter(({ width, height }) => width < ${FINGER} || height < ${FINGER}).length`);
   tally.equal(`what a finger has to hit is ${FINGER} pixels wide and high`, small, 0);
   tally.equal("the page is not wider than the screen", await tab.value("document.documentElement.scrollWidth"), 390);
   tally.holds("the map has room", (await tab.value("document.getElementById('map').clientHeight")) > 250);
@@ -391,7 +405,8 @@ async function marksWhatIsRefused({ tab, served }) {
   const answer = (body) => ({ status: 422, headers: {}, body });
   await tab.intercepting("*/map/edit", ({ requestId }) => tab.fulfill(requestId, answer("edit line 1 cause 3\n")), async () => {
     await presses(tab, "publish");
-    tally.holds("the step at fault is told", await tab.until(`(${NOTICES}).includes('edit: Your edits are not published. Step 1 does not fit the map that is there: no point of a border is there (edit line 1 cause 3).')`));
+    const words = "edit: Your edits are not published. Step 1 does not fit the map that is there: no point of a border is there (edit line 1 cause 3).";
+    tally.holds("the step at fault is told", await tab.until(`(${NOTICES}).includes(${JSON.stringify(words)})`));
     tally.equal("and marked in the list", await tab.value(STEPS), "A vertex is moved!");
     tally.equal("and on the map", await tab.value("document.querySelectorAll('.mark-wrong').length"), 1);
   });
@@ -404,7 +419,8 @@ async function marksWhatIsRefused({ tab, served }) {
   await tab.value(`window.tgap.editing.makes(() => window.tgap.editing.draft.move([${vertex}], [${over}]))`);
   await tab.value(`window.tgap.editing.makes(() => window.tgap.editing.draft.move([${before}], [${over.map((z) => z + 40)}]))`);
   await presses(tab, "publish");
-  tally.holds(`an unsound map is told: ${await tab.value(NOTICES)}`, await tab.until(`(${NOTICES}).includes('edit: Your edits are not published. The map would not be sound:') && (${NOTICES}).includes('The place is marked')`));
+  const isTold = await tab.until(`(${NOTICES}).includes('edit: Your edits are not published. The map would not be sound:') && (${NOTICES}).includes('The place is marked')`);
+  tally.holds(`an unsound map is told: ${await tab.value(NOTICES)}`, isTold);
   const named = /meets [0-9]+ [0-9]+ (-?[0-9]+) (-?[0-9]+) ([0-9]+)/.exec(await tab.value(NOTICES)).slice(1).map(Number);
   const place = await placeOf(tab, named.slice(0, 2).map((z) => z / named[2]));
   const mark = await tab.value("(({ x, y, width, height }) => [x + width / 2, y + height / 2])(document.querySelector('.mark-wrong').getBoundingClientRect())");
@@ -443,10 +459,13 @@ async function carriesOver({ tab, served }) {
   await tab.value("window.dispatchEvent(new Event('focus'))");
   tally.holds("who edits is told of a newer version", await tab.until(`(${NOTICES}).includes('news: Version 2 of the map is there. Your edits are on version 1.')`));
   await presses(tab, "publish");
-  tally.holds("edits of an older version are not published", await tab.until(`(${NOTICES}).includes('edit: Your edits are not published: somebody else has published another version.')`));
+  const words = "edit: Your edits are not published: somebody else has published another version.";
+  tally.holds("edits of an older version are not published", await tab.until(`(${NOTICES}).includes('${words}')`));
   tally.holds("nothing was", (await served.info()).startsWith("version 2 "));
   await tab.value("document.querySelector('#notices li[data-cause=edit] .actions button').click()");
-  tally.holds(`what still applies is carried over: ${await tab.value(NOTICES)}`, await tab.until(`${EDITING} && (${NOTICES}).includes('edit: 1 of 2 steps is made again on version 2. Look at the map, and publish. Left out: A vertex is moved (no point of a border is there).')`));
+  const carried = "edit: 1 of 2 steps is made again on version 2. Look at the map, and publish. Left out: A vertex is moved (no point of a border is there).";
+  const isCarried = await tab.until(`${EDITING} && (${NOTICES}).includes(${JSON.stringify(carried)})`);
+  tally.holds(`what still applies is carried over: ${await tab.value(NOTICES)}`, isCarried);
   tally.equal("and no more", await batch(tab), `${moves(vertex, [5, 3])}\n`);
   await presses(tab, "publish");
   tally.holds("then it is published", await tab.until(`(${NOTICES}).includes('edit: Your edit is published as version 3.') && ${EDITING}`));
@@ -501,7 +520,9 @@ try {
   await tab.until(IDLE);
   await resizes(tab, 1100, 613);
   const on = { tab, served };
-  for (const work of [movesAddsAndDrops, losesNothingByAccident, givesClasses, asksForCuts, splitsAndJoins, editsByKeys, marksWhatIsRefused, publishes, carriesOver, publishesCuts, editsByTouch]) await work(on);
+  const here = [movesAddsAndDrops, losesNothingByAccident, givesClasses, asksForCuts, splitsAndJoins, editsByKeys];
+  const published = [marksWhatIsRefused, publishes, carriesOver, publishesCuts, editsByTouch];
+  for (const work of [...here, ...published]) await work(on);
   if (folder) await drawsForTheGuide(on);
   const written = tab.written.filter(({ source }) => source !== "network");
   tally.holds(`nothing is written to the console: ${JSON.stringify(written)}`, written.length === 0);

@@ -1,7 +1,7 @@
 // The page over a map of 1,600 faces, where windows take the place of long rows of packets.
 import { areaOf } from "../../clients/js/places.js";
 import { dice } from "./lib.mjs";
-import { IDLE, beginsEditing, endsEditing, look, placeOf, presses, shown, turnsWheel, wrongSamples } from "./served.mjs";
+import { BATCH, IDLE, beginsEditing, endsEditing, look, placeOf, presses, shown, turnsWheel, wrongSamples } from "./served.mjs";
 
 const MIDDLE = [400, 330];
 const MILLISECONDS_OF_DELAY = 150;
@@ -13,6 +13,7 @@ export async function largeMap(on) {
   await neverShowsAStalePicture(on);
   await paintsWindowsWithinFaces(on);
   await movesAVertexOfAWindow(on);
+  await editsFromNearAlone(on);
   await goesOnAfterAnothersEdit(on);
   const seen = await on.tab.value("({ ...window.seen, steps: null })");
   on.tally.holds(`at no moment a picture leaves a part of the view open: ${JSON.stringify(seen.open.slice(0, 3))}`, seen.open.length === 0 && seen.frames > 50);
@@ -138,6 +139,20 @@ async function movesAVertexOfAWindow({ tab, tally, served }) {
   tally.holds(`a vertex of a window can be moved: ${await tab.value("document.getElementById('notices').textContent")}`, isMoved);
   const points = [...(await served.slice(0)).edges.values()].flatMap((it) => it.points.map(String));
   tally.holds("and is elsewhere then", !points.includes(String(vertex)));
+  await endsEditing(tab);
+}
+
+/** Where all of a large map is seen it is shown as coarse as ever, and cannot be edited. */
+async function editsFromNearAlone({ tab, tally }) {
+  const HINT = "document.getElementById('hint').textContent";
+  await presses(tab, "all");
+  await tab.until(IDLE);
+  await beginsEditing(tab);
+  tally.holds("from afar nothing can be edited", (await tab.value(HINT)).startsWith("Come nearer to edit"));
+  await tab.click(MIDDLE);
+  tally.equal("whatever is tapped", await tab.value(`${BATCH} + (window.tgap.sheet.picture === window.tgap.detail.picture)`), "true");
+  await tab.value("location.hash = '#-2/20000/20000'");
+  tally.holds("nearer it can", await tab.until(`${IDLE} && (${HINT}).startsWith('Drag a vertex') && window.tgap.sheet.picture.step === 0`));
   await endsEditing(tab);
 }
 
