@@ -173,7 +173,7 @@ changed_borders lists i change slots here covers f j e =
     (λ h. and_from (is_there (arc_number slots i)) (borders_face f (arc_number slots i)) here
     (and_parts (is_there (with_points (arc_number slots i) (change (arc_number slots i).points))) (borders_face f (arc_number slots i)) h).1) j e)
 
-passes_all : (test : BaseArc → Bool) (f : BaseArc → BaseArc) → ((a : BaseArc) → test (f a) ≡ true → test a ≡ true) → (slots : List BaseArc) (i : ℕ)
+pub passes_all : (test : BaseArc → Bool) (f : BaseArc → BaseArc) → ((a : BaseArc) → test (f a) ≡ true → test a ≡ true) → (slots : List BaseArc) (i : ℕ)
     → arc_passes test (map f slots) i ≡ true → arc_passes test slots i ≡ true
 passes_all test f back [] i e = e
 passes_all test f back (a ∷ slots) zero e = back a e

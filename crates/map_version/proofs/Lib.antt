@@ -9,5 +9,6 @@ pub mod Counting
 pub mod Relisting
 pub mod Least
 pub mod Moves
+pub mod PointRows
 pub mod Drafts
 pub mod Batches

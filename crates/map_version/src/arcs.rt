@@ -234,7 +234,7 @@ impl IndexedArcs {
 
     /// Whether the arc in this slot is there and between the two faces.
     fn is_between_at(&self, slot: usize, fusion: &Fusion) -> bool
-        ensures { result ≡ arc_passes (is_taken fusion.now.kept fusion.now.gone) self.now.slots slot }
+        ensures { result ≡ is_taken fusion.now.kept fusion.now.gone (arc_number self.now.slots slot) }
     {
         match self.slots.get(slot) {
             Some(arc) => fusion.is_between(arc),
@@ -244,7 +244,7 @@ impl IndexedArcs {
 
     /// Whether the arc in this slot is there, has this face as a side, and is not between the two faces.
     fn is_other_at(&self, slot: usize, fusion: &Fusion, face: u32) -> bool
-        ensures { result ≡ arc_passes (is_other fusion.now.kept fusion.now.gone face) self.now.slots slot }
+        ensures { result ≡ is_other fusion.now.kept fusion.now.gone face (arc_number self.now.slots slot) }
     {
         match self.slots.get(slot) {
             Some(arc) => fusion.is_other(arc, face),
@@ -277,7 +277,6 @@ impl IndexedArcs {
     }
 
     /// Whether some other arc has one of the two faces as a side.
-    #[tactic(auto, using(crate::proofs::Renaming::others_left))]
     pub fn is_any_left(&self, fusion: &Fusion) -> bool
         ensures { result ≡ list_any (λ a. borders_face fusion.now.kept a || borders_face fusion.now.gone a) (others fusion.now.kept fusion.now.gone (arcs_of self.now)) }
     {

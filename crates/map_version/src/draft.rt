@@ -4,18 +4,16 @@ ghost use Rattle.std.specs.Prelude.{◌≡◌, ◌≤◌, ◌<◌, ◌+◌, ◌-
 ghost use Rattle.std.specs.List.{list_all};
 ghost use Rattle.std.specs.Option.{ok_or};
 ghost use Rattle.tgap_model.specs.declared.failure.Or.TheVariants.{Fault};
-ghost use Rattle.tgap_model.specs.Base.{is_base, in_limits};
+ghost use Rattle.tgap_model.specs.Base.{count_points, is_base, in_limits};
 ghost use Rattle.tgap_model.specs.Chains.{arc_number};
 ghost use Rattle.edit_laws.specs.Edits.{named, set_class, move_point, add_point, drop_point, cut_named, fuse_named, apply, apply_line};
 ghost use Rattle.face_cuts.specs.Nodes.{add_node};
 ghost use Rattle.plain_io.specs.Taking.{GivesWhole};
 ghost use Rattle.edit_laws.specs.EditLaws.{FitsLimits};
-ghost use Rattle.arc_places.specs.Slots.{arcs_in};
-ghost use Rattle.arc_places.specs.Borders.{HaveFaces};
-ghost use Rattle.map_version.specs.Indexed.{arcs_of, has_more};
+ghost use Rattle.map_version.specs.Indexed.{arcs_of};
 ghost use Rattle.map_version.specs.Firsts.{pair_of};
 ghost use Rattle.map_version.specs.Lines.{told};
-ghost use Rattle.map_version.specs.Drafts.{arcs_now, drafted};
+ghost use Rattle.map_version.specs.Drafts.{IsDraft, arcs_now, drafted};
 ghost use Rattle.map_version.specs.Drops.{goes_on};
 
 use crate::arcs::{IndexedArcs, Place};
@@ -30,7 +28,7 @@ use plain_io::{Pieces, read_number};
 use std::alloc::Global;
 use std::marker::Model;
 use tgap_model::{
-    Base, BaseArc, List, MAX_FACES, MAX_POINTS, Memory, Or, Point, copied_rules,
+    Base, BaseArc, List, MAX_ARCS, MAX_FACES, MAX_POINTS, Memory, Or, Point, copied_rules,
 };
 
 /// A base map with other classes, and from the first line on that does more than set a class with other arcs, which are a copy with
@@ -63,22 +61,20 @@ fn named(word: &[u8], least: u32, most: usize) -> Option<usize>
     Some(number as usize)
 }
 
-/// The arcs that were indexed, or else those of the base map, of which there are so many faces.
+/// The arcs that were indexed, or else those of the base map, of which there are so many faces as classes.
 fn own_arcs(
     alloc: Global,
     base: &Base,
-    faces: usize,
+    classes: &[u32],
     indexed: Option<IndexedArcs>,
 ) -> Result<IndexedArcs, Memory>
-    requires few { faces < 2 ^ 32 }
-    requires faces { HaveFaces faces (arcs_now indexed base.now.arcs) }
-    requires indexed { IfSome indexed (λ x. x.faces ≡ faces) }
+    requires { IsDraft (drafted base.now classes.now (arcs_now indexed base.now.arcs)) indexed }
     ensures arcs { IfOk result (λ arcs. arcs_of arcs ≡ arcs_now indexed base.now.arcs) }
-    ensures faces { IfOk result (λ arcs. arcs.faces ≡ faces) }
+    ensures faces { IfOk result (λ arcs. arcs.faces ≡ length classes.now) }
 {
     match indexed {
         Some(arcs) => Ok(arcs),
-        None => IndexedArcs::of(alloc, base.arcs().as_slice(), faces),
+        None => IndexedArcs::of(alloc, base.arcs().as_slice(), classes.len()),
     }
 }
 
@@ -112,7 +108,7 @@ fn goes_on(arcs: &IndexedArcs, place: Place) -> Result<(), Or<u8>>
 
 /// Whether a map with so many faces and these arcs may have so many more faces, and an arc more with so many points.
 fn has_room(faces: usize, arcs: &IndexedArcs, more: usize, points: usize) -> bool
-    ensures { result ≡ (nat_le (faces + more) MAX_FACES && has_more 1 points (arcs_of arcs.now)) }
+    ensures { result ≡ (nat_le (faces + more) MAX_FACES && nat_le (length (arcs_of arcs.now) + 1) MAX_ARCS && nat_le (count_points (arcs_of arcs.now) + points) MAX_POINTS) }
 {
     faces <= MAX_FACES && more <= MAX_FACES - faces && arcs.has_room(1, points)
 }
@@ -209,7 +205,8 @@ impl<'a> Draft<'a> {
         requires { IsTrue (in_limits new) }
         ensures { GivesWhole result (move_point self.entry old.now new) }
     {
-        let arcs = own_arcs(alloc, self.base, self.classes.len(), self.arcs)?;
+        let indexed = self.arcs;
+        let arcs = own_arcs(alloc, self.base, &self.classes, indexed)?;
         ensured(arcs.has_point(old), NO_SUCH_POINT)?;
         ensured(!arcs.has_point(&new), POINT_TAKEN)?;
         self.arcs = Some(arcs.move_all(alloc, old, new)?);
@@ -227,7 +224,8 @@ impl<'a> Draft<'a> {
         requires { IsTrue (in_limits new) }
         ensures { GivesWhole result (add_point self.entry a b new) }
     {
-        let arcs = own_arcs(alloc, self.base, self.classes.len(), self.arcs)?;
+        let indexed = self.arcs;
+        let arcs = own_arcs(alloc, self.base, &self.classes, indexed)?;
         let place = found(arcs.place_of(&Sought::Segment(a, b)), NO_SUCH_SEGMENT)?;
         ensured(!arcs.has_point(&new), POINT_TAKEN)?;
         ensured(arcs.count_points() < MAX_POINTS, NO_ROOM)?;
@@ -240,7 +238,8 @@ impl<'a> Draft<'a> {
     fn drop_point(mut self, alloc: Global, old: Point) -> Result<Draft<'a>, Or<u8>>
         ensures { GivesWhole result (drop_point self.entry old) }
     {
-        let arcs = own_arcs(alloc, self.base, self.classes.len(), self.arcs)?;
+        let indexed = self.arcs;
+        let arcs = own_arcs(alloc, self.base, &self.classes, indexed)?;
         ensured(arcs.has_point(&old), NO_SUCH_POINT)?;
         ensured(!arcs.is_node(&old), IS_NODE)?;
         let place = found(arcs.place_of(&Sought::Inner(old)), NO_SUCH_POINT)?;
@@ -254,7 +253,8 @@ impl<'a> Draft<'a> {
     fn add_node(mut self, alloc: Global, at: Point) -> Result<Draft<'a>, Or<u8>>
         ensures { GivesWhole result (add_node self.entry at) }
     {
-        let arcs = own_arcs(alloc, self.base, self.classes.len(), self.arcs)?;
+        let indexed = self.arcs;
+        let arcs = own_arcs(alloc, self.base, &self.classes, indexed)?;
         let place = found(arcs.place_of(&Sought::Any(at)), NO_SUCH_POINT)?;
         ensured(!arcs.is_node(&at), IS_NODE)?;
         ensured(has_room(self.classes.len(), &arcs, 0, 1), PAST_LIMIT)?;
@@ -277,7 +277,8 @@ impl<'a> Draft<'a> {
     {
         let face = self.face_named(face)?;
         let class = self.class_named(class)?;
-        let arcs = own_arcs(alloc, self.base, self.classes.len(), self.arcs)?;
+        let indexed = self.arcs;
+        let arcs = own_arcs(alloc, self.base, &self.classes, indexed)?;
         let room = has_room(self.classes.len(), &arcs, 1, points.len());
         ensured(room, PAST_LIMIT)?;
         ensured(arcs.are_free(alloc, points.as_slice())?, NOT_FREE)?;
@@ -297,7 +298,8 @@ impl<'a> Draft<'a> {
             kept: self.face_named(kept)?,
             gone: self.face_named(gone)?,
         };
-        let arcs = own_arcs(alloc, self.base, self.classes.len(), self.arcs)?;
+        let indexed = self.arcs;
+        let arcs = own_arcs(alloc, self.base, &self.classes, indexed)?;
         ensured(arcs.is_any_between(&fusion), NOTHING_BETWEEN)?;
         ensured(arcs.is_any_left(&fusion), NOTHING_LEFT)?;
         self.arcs = Some(arcs.fuse(alloc, &fusion)?);

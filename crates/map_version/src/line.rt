@@ -163,7 +163,7 @@ fn read_cut<'a>(alloc: Global, words: &mut Pieces<'a>) -> Result<Edit<'a>, Or<u8
 
 /// The edit, where there is one.
 fn edit_or<'a>(edit: Option<Edit<'a>>) -> Result<Edit<'a>, Or<u8>>
-    ensures { GivesTold result (ok_or (option_map told edit) 1) }
+    ensures { GivesTold result (ok_or (option_map told edit.entry) 1) }
 {
     found(edit, NO_EDIT)
 }

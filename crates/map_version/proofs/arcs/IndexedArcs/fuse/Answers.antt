@@ -29,7 +29,7 @@ invariant_of-result c =
     (record {
       by_point = fused_places (listed c.self.inside.places) f g label slots c.self.invariant.by_point;
       by_face = fused_covers n f g (bordering c.self.inside.borders) (bordering c.fuse.new.self) slots after c.in_ok-fuse.ensures.both c.in_ok-fuse.ensures.others
-          (λ h i e. let came = all_came_from h f g label slots i e in (came.0, within_faces n slots faces came.0 i came.1.0, came.1.0, came.1.1))
+          (λ h i e. let came = all_came_from h f g label slots i e in (came.0, within_faces n slots faces came.0 i came.1, came.1, came.2))
           c.self.invariant.by_face;
       counted = subst (λ (xs : List BaseArc). AreCounted xs c.apply.new.counts) there c.apply.ensures.counted;
     })
