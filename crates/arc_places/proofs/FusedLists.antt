@@ -56,7 +56,6 @@ module _ (n kept gone : ℕ) (all : List ℕ) (first : ℕ → List ℕ) (b1 b2 
     (two : (f : ℕ) → b2 f ≡ cond (eqb f gone) [] (b1 f))
     (three : (f : ℕ) → b3 f ≡ cond (eqb f kept) all (b2 f))
     (four : (f : ℕ) → f < n → last f ≡ cond (eqb f gone) (b3 n) (b3 f)) where
-
   kept_after : b3 kept ≡ all
   kept_after = three kept ∙ cond-true (eqb kept kept) all (b2 kept) (eq-eqb kept kept refl)
 

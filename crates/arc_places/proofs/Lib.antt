@@ -3,3 +3,5 @@ pub mod Listed
 pub mod FusedLists
 pub mod Rising
 pub mod LastOf
+pub mod FoundSides
+pub mod SeenSlots

@@ -12,6 +12,21 @@ use Rattle.face_cuts.specs.Nodes.{passes}
 use Rattle.face_cuts.proofs.Cases.{by_test, or_left, or_right}
 use Rattle.arc_places.specs.Places.{arc_passes, is_among, Covers}
 
+-- a number that is listed and passes
+pub listed_passes : (passes : ℕ → Bool) (numbers : List ℕ) (i : ℕ) → is_among i numbers ≡ true → passes i ≡ true → list_any passes numbers ≡ true
+listed_passes passes [] i among passed = absurd (false≢true among)
+listed_passes passes (j ∷ numbers) i among passed =
+    by_test (eqb j i)
+    (λ t. or_left (passes j) (list_any passes numbers) (let same = eqb-true j i t in subst (λ (n : ℕ). passes n ≡ true) (sym same) passed))
+    (λ f. or_right (passes j) (list_any passes numbers) (listed_passes passes numbers i (rw f at among) passed))
+
+pub some_listed : {P : Type 0} (passes : ℕ → Bool) (numbers : List ℕ) → list_any passes numbers ≡ true → ((i : ℕ) → passes i ≡ true → P) → P
+some_listed passes [] e use_it = absurd (false≢true e)
+some_listed passes (j ∷ numbers) e use_it =
+    by_test (passes j)
+    (λ t. use_it j t)
+    (λ f. some_listed passes numbers (rw f at e) use_it)
+
 -- the arc of a number, by its points
 pub passes_at : (test : BaseArc → Bool) (arcs : List BaseArc) (i : ℕ) → i < length arcs → arc_passes test arcs i ≡ test (arc_number arcs i)
 passes_at test [] i lt = absurd (omega arith)

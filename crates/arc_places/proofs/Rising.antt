@@ -1,11 +1,10 @@
 -- Lists in ascending order with the same members are one list.
-use Rattle.std.proofs.Common.{◌≡◌, ◌∙◌, ◌⊎◌, inl, inr, ⊎_elim, ℕ, ◌+◌, ◌*◌, ◌<◌, nat_lt, Bool, true, false, ◌&&◌, ◌||◌, eqb, List, [], ◌∷◌, length, map, filter, get_or, All, AllPairs, Contains, refl, sym, ap, ap₂, subst, arith}
-use Rattle.std.specs.List.{list_any}
+use Rattle.std.proofs.Common.{◌≡◌, ◌∙◌, ⊎_elim, ℕ, ◌*◌, ◌<◌, nat_lt, Bool, true, ◌&&◌, ◌||◌, eqb, List, [], ◌∷◌, length, map, filter, get_or, All, AllPairs, Contains, refl, sym, ap, ap₂, subst, arith}
 use Rattle.std.proofs.lemmas.Bool.{false≢true, and_from, and_parts, eqb-true, eq-eqb, ltb-true, lt-ltb}
 use Rattle.std.proofs.lemmas.List.{get_or-map, length-map}
 use Rattle.std.proofs.lemmas.List.Elements.{All-contains}
 use Rattle.std.proofs.lemmas.List.Kept.{AllPairs-filter, AllPairs-from_increasing}
-use Rattle.lemmas.proofs.Members.{in_head, in_tail, in_cases, in_none, AllPairs-head, AllPairs-tail, Contains-filter, Contains-from_filter, Contains-map, Contains-from_map}
+use Rattle.lemmas.proofs.Members.{All-from_members, in_head, in_tail, in_cases, in_none, AllPairs-head, AllPairs-tail, Contains-filter, Contains-from_filter, Contains-map, Contains-from_map}
 use Rattle.ring_walk.specs.declared.side.Side.{Side}
 use Rattle.ring_walk.specs.Sides.{numbered, side_number, sides}
 use Rattle.ring_walk.specs.Spans.{IsSide}
@@ -78,7 +77,7 @@ sides_rise n = λ i j d less short.
 
 numbers_rise : (numbers : List ℕ) → AllPairs (λ i j. i < j) numbers → Rise side_number (map numbered numbers)
 numbers_rise numbers r = λ i j d less short.
-    let second : j < length numbers = omega (arith, short, length-map numbered numbers) in
+    let second : j < length numbers = omega (arith, short, length-map numbers numbered) in
     let first : i < length numbers = omega (arith, less, second) in
     let a : side_number (get_or (map numbered numbers) i d) ≡ get_or numbers i 0 = ap side_number (get_or-map numbered numbers i 0 d first) ∙ side_number-numbered (get_or numbers i 0) in
     let b : side_number (get_or (map numbered numbers) j d) ≡ get_or numbers j 0 = ap side_number (get_or-map numbered numbers j 0 d second) ∙ side_number-numbered (get_or numbers j 0) in
@@ -103,3 +102,8 @@ found_in_order numbers ordered n p o found =
     found (side_number s) ∙ and_from (nat_lt (side_number s) (2 * n)) (p (numbered (side_number s))) (lt-ltb (side_number s) (2 * n) within) (ap p (numbered-side_number s) ∙ h.1) in
     subst (Contains (map numbered ordered)) (numbered-side_number s)
     (Contains-map numbered ordered (side_number s) (from_among (side_number s) ordered (o.same (side_number s) ∙ among))))
+
+-- what holds of all numbers holds of them in order
+pub ordered_hold : (P : ℕ → Type 0) (numbers ordered : List ℕ) → AreOrdered numbers ordered → All P numbers → All P ordered
+ordered_hold P numbers ordered o h =
+    All-from_members P ordered (λ i c. All-contains P numbers i h (from_among i numbers (sym (o.same i) ∙ to_among i ordered c)))

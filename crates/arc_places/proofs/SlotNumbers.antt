@@ -1,5 +1,5 @@
 -- Slots and the arcs that are there: which number each of them has, and which slot.
-use Rattle.std.proofs.Common.{◌≡◌, ◌∙◌, ℕ, zero, suc, ◌+◌, ◌<◌, Bool, true, false, cond, List, [], ◌∷◌, length, filter, take, set, get_or, refl, sym, ap, subst, arith}
+use Rattle.std.proofs.Common.{◌≡◌, ◌≢◌, ◌∙◌, ℕ, zero, suc, ◌+◌, ◌<◌, ◌≤◌, Bool, true, false, cond, List, [], ◌∷◌, length, filter, take, set, get_or, refl, sym, ap, subst, arith}
 use Rattle.std.proofs.lemmas.Bool.{false≢true}
 use Rattle.tgap_model.specs.declared.base.BaseArc.{BaseArc}
 use Rattle.tgap_model.specs.Chains.{arc_number}
@@ -23,6 +23,7 @@ arc_there (a ∷ slots) (suc i) lt e =
   where
     front : List BaseArc
     front = filter is_there (take i slots)
+
     by : (b : Bool) → length front < length (arcs_in slots) → arc_number (arcs_in slots) (length front) ≡ arc_number slots i
         → (length (cond b (a ∷ front) front) < length (cond b (a ∷ arcs_in slots) (arcs_in slots))) × (arc_number (cond b (a ∷ arcs_in slots) (arcs_in slots)) (length (cond b (a ∷ front) front)) ≡ arc_number slots i)
     by true l s = (omega arith, s)
@@ -40,6 +41,7 @@ slot_from_number (a ∷ slots) j (suc i) lt e = by (is_there a) (slot_from_numbe
   where
     front : List BaseArc
     front = filter is_there (take i slots)
+
     by : (b : Bool) → get_or (slots_from (j + 1) slots) (length front) 0 ≡ (j + 1) + i
         → get_or (cond b (j ∷ slots_from (j + 1) slots) (slots_from (j + 1) slots)) (length (cond b (a ∷ front) front)) 0 ≡ j + suc i
     by true h = h ∙ omega arith
@@ -66,15 +68,19 @@ some_slot (a ∷ slots) k lt = by (is_there a) refl lt (some_slot slots)
   where
     front : ℕ → List BaseArc
     front i = filter is_there (take i slots)
+
     first : (m : ℕ) (b : Bool) → is_there a ≡ b → b ≡ true → m ≡ 0 → (i : ℕ) × IsSlotOf (a ∷ slots) m i
     first m b e f z = (0, record { within = omega arith; there = e ∙ f; number = sym z })
+
     after : (m n : ℕ) (i : ℕ) → IsSlotOf slots m i → length (cond (is_there a) (a ∷ front i) (front i)) ≡ n → (i : ℕ) × IsSlotOf (a ∷ slots) n i
     after m n i h e = (suc i, record { within = (let l = h.within in omega arith); there = h.there; number = e })
+
     counted : (m : ℕ) → is_there a ≡ true → m < length (arcs_in slots) + 1 → ((m : ℕ) → m < length (arcs_in slots) → (i : ℕ) × IsSlotOf slots m i) → (i : ℕ) × IsSlotOf (a ∷ slots) m i
     counted zero e l rest = first 0 (is_there a) refl e refl
     counted (suc m) e l rest =
         let h = rest m (omega arith) in
         after m (suc m) h.0 h.1 (ap (λ (b : Bool). length (cond b (a ∷ front h.0) (front h.0))) e ∙ ap (λ (n : ℕ). suc n) h.1.number)
+
     by : (b : Bool) → is_there a ≡ b → k < length (cond b (a ∷ arcs_in slots) (arcs_in slots)) → ((m : ℕ) → m < length (arcs_in slots) → (i : ℕ) × IsSlotOf slots m i) → (i : ℕ) × IsSlotOf (a ∷ slots) k i
     by true e l rest = counted k e (omega arith) rest
     by false e l rest =
@@ -86,11 +92,22 @@ slot_there slots k lt =
     let h = some_slot slots k lt in
     subst (IsSlotOf slots k) (sym (ap (slot_of slots) (sym h.1.number) ∙ slot_again slots h.0 h.1.within h.1.there)) h.1
 
+-- two arcs that are there have two slots
+pub slot-inj : (slots : List BaseArc) (k m : ℕ) → k < length (arcs_in slots) → m < length (arcs_in slots) → slot_of slots k ≡ slot_of slots m → k ≡ m
+slot-inj slots k m l r e = sym (slot_there slots k l).number ∙ ap (number_of slots) e ∙ (slot_there slots m r).number
+
 -- the arc with this number stands in its slot
 pub arc_in_slot : (slots : List BaseArc) (k : ℕ) → k < length (arcs_in slots) → arc_number slots (slot_of slots k) ≡ arc_number (arcs_in slots) k
 arc_in_slot slots k lt =
     let h = slot_there slots k lt in
     sym (arc_there slots (slot_of slots k) h.within h.there).same ∙ ap (arc_number (arcs_in slots)) h.number
+
+-- no arc is in a slot past the last one, nor in one whose arc is gone
+pub none_past : (slots : List BaseArc) (i : ℕ) → length slots ≤ i → (k : ℕ) → k < length (arcs_in slots) → slot_of slots k ≢ i
+none_past slots i past k l e = (let h = (slot_there slots k l).within in omega (arith, past, e))
+
+pub none_gone : (slots : List BaseArc) (i : ℕ) → is_there (arc_number slots i) ≡ false → (k : ℕ) → k < length (arcs_in slots) → slot_of slots k ≢ i
+none_gone slots i gone k l e = false≢true (sym gone ∙ subst (λ (j : ℕ). is_there (arc_number slots j) ≡ true) e (slot_there slots k l).there)
 
 pub length-slots_from : (slots : List BaseArc) (j : ℕ) → length (slots_from j slots) ≡ length (arcs_in slots)
 length-slots_from [] j = refl
@@ -114,6 +131,7 @@ set_there (b ∷ slots) (suc i) a lt e f = by (is_there b) (set_there slots i a 
   where
     front : List BaseArc
     front = filter is_there (take i slots)
+
     by : (t : Bool) → arcs_in (set slots i a) ≡ set (arcs_in slots) (length front) a
         → cond t (b ∷ arcs_in (set slots i a)) (arcs_in (set slots i a)) ≡ set (cond t (b ∷ arcs_in slots) (arcs_in slots)) (length (cond t (b ∷ front) front)) a
     by true h = ap (λ (arcs : List BaseArc). b ∷ arcs) h

@@ -1,5 +1,5 @@
 -- What the table of slots is made of: for each slot the number of its arc, and for each number the slot. Which sides are looked for in it.
-use Rattle.std.specs.Prelude.{◌≡◌, ◌<◌, ℕ, ◌==◌, nat_lt, Bool, true, ◌&&◌, ◌||◌, List, Option, Some, IfSome, length, get_or}
+use Rattle.std.specs.Prelude.{◌≡◌, ◌<◌, ℕ, ◌==◌, nat_lt, Bool, true, false, ◌&&◌, List, Option, Some, IfSome, length}
 use Rattle.tgap_model.specs.declared.geometry.Point.{Point}
 use Rattle.tgap_model.specs.declared.base.BaseArc.{BaseArc}
 use Rattle.tgap_model.specs.Base.{same_point}
@@ -14,7 +14,7 @@ use Rattle.arc_places.specs.declared.places.Places.{Places}
 use Rattle.arc_places.specs.declared.sought.Sought.{Sought}
 use Rattle.arc_places.specs.declared.sought.Sought.TheVariants.{Node, Face}
 use Rattle.arc_places.specs.declared.front.Front.{Front}
-use Rattle.arc_places.specs.Slots.{arcs_in, number_of, slot_of, slots_from}
+use Rattle.arc_places.specs.Slots.{arcs_in, slot_of, slots_from}
 use Rattle.arc_places.specs.Places.{Covers, is_among, listed}
 use Rattle.arc_places.specs.Borders.{CoversFaces, bordering}
 use Rattle.arc_places.specs.Numbers.{AreNumbers}

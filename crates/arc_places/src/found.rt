@@ -3,7 +3,7 @@
 ghost use Rattle.std.specs.Prelude.{◌≡◌, ◌≤◌, ◌<◌, ◌==◌, ◌&&◌, ◌||◌, ◌^◌, ◌*◌, ℕ, All, IfOk, OnOk, filter, length};
 ghost use Rattle.ring_walk.specs.Sides.{side_number, sides};
 ghost use Rattle.ring_walk.specs.Spans.{IsSide};
-ghost use Rattle.arc_places.specs.Slots.{arcs_in};
+ghost use Rattle.arc_places.specs.Slots.{arcs_in, slot_of};
 ghost use Rattle.arc_places.specs.Places.{is_among};
 ghost use Rattle.arc_places.specs.SlotTables.{AreListed, is_found, passes, spans_in};
 
@@ -33,6 +33,27 @@ fn push_side(
     Ok(())
 }
 
+/// Puts the numbers of those sides of an arc behind those found that are looked for.
+fn push_arc(
+    table: &SlotTable<'_>,
+    found: &mut Vec<usize>,
+    arc: u32,
+    sought: &Sought,
+) -> Result<(), Memory>
+    requires { arc < length (arcs_in table.now) }
+    ensures found { OnOk result ((i : ℕ) →
+        is_among i found.new.items ≡ (is_among i found.old.items || is_found table.now sought.now i (slot_of table.now arc))) }
+    ensures few { (n : ℕ) → 2 * length (arcs_in table.now) ≤ n → All (λ i. i < n) found.old.items → All (λ i. i < n) found.new.items }
+{
+    let along = Side {
+        span: arc,
+        way: Way::Along,
+    };
+    push_side(table, found, along, sought)?;
+    push_side(table, found, along.turned(), sought)?;
+    Ok(())
+}
+
 /// Puts the numbers of those sides of the arc in a slot behind those found that are looked for.
 fn push_sides(
     table: &SlotTable<'_>,
@@ -44,15 +65,13 @@ fn push_sides(
         is_among i found.new.items ≡ (is_among i found.old.items || is_found table.now sought.now i slot)) }
     ensures few { (n : ℕ) → 2 * length (arcs_in table.now) ≤ n → All (λ i. i < n) found.old.items → All (λ i. i < n) found.new.items }
 {
-    let Some(arc) = table.arc_of(slot) else {
-        return Ok(());
-    };
-    let along = Side {
-        span: arc,
-        way: Way::Along,
-    };
-    push_side(table, found, along, sought)?;
-    push_side(table, found, along.turned(), sought)
+    match table.arc_of(slot) {
+        Some(arc) => {
+            push_arc(table, found, arc, sought)?;
+            Ok(())
+        }
+        None => Ok(()),
+    }
 }
 
 /// The sides that are looked for, in the order of their numbers: found among the slots that are listed, which may be listed twice

@@ -1,6 +1,6 @@
 //! The side in front of another one round its node, found among the slots that are listed for the node.
 
-ghost use Rattle.std.specs.Prelude.{◌≡◌, ◌==◌, ◌||◌, Bool, IfSome, length};
+ghost use Rattle.std.specs.Prelude.{◌≡◌, ◌<◌, ◌==◌, ◌||◌, Bool, IfSome, length};
 ghost use Rattle.ring_walk.specs.declared.side.Side.{Side as OneSide};
 ghost use Rattle.ring_walk.specs.Rings.{in_front};
 ghost use Rattle.ring_walk.specs.Sides.{same_side, sides, spoke_before, spokes_at, start_of, toward_of};
@@ -108,6 +108,24 @@ fn with_side(table: &SlotTable<'_>, front: Front, x: Side, side: Side) -> Front
     }
 }
 
+/// With the two sides of an arc more.
+fn with_arc(table: &SlotTable<'_>, front: Front, x: Side, arc: u32) -> Front
+    requires spans { AreSpans (spans_in table.now) }
+    requires x { IsSide (length (arcs_in table.now)) x }
+    requires arc { arc < length (arcs_in table.now) }
+    requires front { AreSpokesOf (spans_in table.now) (start_of (spans_in table.now) x) front }
+    ensures spokes { AreSpokesOf (spans_in table.now) (start_of (spans_in table.now) x) result }
+    ensures seen { (seen : OneSide → Bool) → AreLast (spans_in table.now) (start_of (spans_in table.now) x) x seen front
+        → AreLast (spans_in table.now) (start_of (spans_in table.now) x) x (λ s. seen s || (slot_of table.now arc == slot_of table.now s.span)) result }
+{
+    let along = Side {
+        span: arc,
+        way: Way::Along,
+    };
+    let first = with_side(table, front, x, along);
+    with_side(table, first, x, along.turned())
+}
+
 /// With the sides of the arc in a slot more.
 fn with_slot(table: &SlotTable<'_>, front: Front, x: Side, slot: usize) -> Front
     requires spans { AreSpans (spans_in table.now) }
@@ -115,17 +133,12 @@ fn with_slot(table: &SlotTable<'_>, front: Front, x: Side, slot: usize) -> Front
     requires front { AreSpokesOf (spans_in table.now) (start_of (spans_in table.now) x) front }
     ensures spokes { AreSpokesOf (spans_in table.now) (start_of (spans_in table.now) x) result }
     ensures seen { (seen : OneSide → Bool) → AreLast (spans_in table.now) (start_of (spans_in table.now) x) x seen front
-        → AreLast (spans_in table.now) (start_of (spans_in table.now) x) x (λ s. seen s || (slot_of table.now s.span == slot)) result }
+        → AreLast (spans_in table.now) (start_of (spans_in table.now) x) x (λ s. seen s || (slot == slot_of table.now s.span)) result }
 {
-    let Some(arc) = table.arc_of(slot) else {
-        return front;
-    };
-    let along = Side {
-        span: arc,
-        way: Way::Along,
-    };
-    let front = with_side(table, front, x, along);
-    with_side(table, front, x, along.turned())
+    match table.arc_of(slot) {
+        Some(arc) => with_arc(table, front, x, arc),
+        None => front,
+    }
 }
 
 /// The spoke in front of x round the node that x leaves, of which the slots are listed: of those before x the last, or else the

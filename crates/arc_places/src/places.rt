@@ -31,12 +31,7 @@ impl Places {
     }
 
     /// Lists an arc for each of its points, and nothing else.
-    pub fn list_points(
-        &mut self,
-        alloc: Global,
-        arc: usize,
-        points: &[Point],
-    ) -> Result<(), Memory>
+    pub fn list_points(&mut self, alloc: Global, arc: usize, points: &[Point]) -> Result<(), Memory>
         ensures { OnOk result ((p : Position) (i : ℕ) →
             is_among i (listed self.new p) ≡ (is_among i (listed self.old p) || ((arc == i) && list_any (same_point p) points.now))) }
     {

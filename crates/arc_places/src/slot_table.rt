@@ -11,7 +11,7 @@ use crate::borders::Borders;
 use crate::found::sides_found;
 use crate::front::{in_front, start_of};
 use crate::places::Places;
-use crate::slots::{is_there, numbers_of, slots_of};
+use crate::slots::{arc_at, number_at, numbers_of, slot_at, slots_of};
 use crate::sought::Sought;
 use face_cuts::{ArcTable, span_of};
 use ring_walk::{Side, Span};
@@ -72,18 +72,15 @@ impl<'a> SlotTable<'a> {
         ensures slot { result ≡ slot_of self.now arc }
         ensures within { result < length self.now }
     {
-        self.there[arc as usize]
+        slot_at(self.slots, &self.there, arc)
     }
     /// The number of the arc in a slot; none where no arc is there.
     pub fn arc_of(&self, slot: usize) -> Option<u32>
-        ensures found { IfSome result (λ k. (k < length (arcs_in self.now)) × (slot_of self.now k ≡ slot)) }
+        ensures within { IfSome result (λ k. k < length (arcs_in self.now)) }
+        ensures found { IfSome result (λ k. slot_of self.now k ≡ slot) }
         ensures none { IfNone result ((k : ℕ) → k < length (arcs_in self.now) → slot_of self.now k ≢ slot) }
     {
-        if slot < self.slots.len() && is_there(&self.slots[slot]) {
-            Some(self.numbers[slot] as u32)
-        } else {
-            None
-        }
+        number_at(self.slots, &self.numbers, slot)
     }
 }
 
@@ -97,11 +94,11 @@ impl<'a> ArcTable for SlotTable<'a> {
     }
 
     fn span(&self, arc: u32) -> Span {
-        span_of(&self.slots[self.slot(arc)])
+        span_of(arc_at(self.slots, &self.there, arc))
     }
 
     fn points(&self, arc: u32) -> &[Point] {
-        self.slots[self.slot(arc)].points.as_slice()
+        arc_at(self.slots, &self.there, arc).points.as_slice()
     }
 
     fn next(&self, side: Side) -> Side {
@@ -120,11 +117,6 @@ impl<'a> ArcTable for SlotTable<'a> {
     }
 
     fn beside(&self, alloc: Global, face: u32) -> Result<Vec<Side>, Memory> {
-        sides_found(
-            alloc,
-            self,
-            self.borders.of_face(face),
-            &Sought::Face(face),
-        )
+        sides_found(alloc, self, self.borders.of_face(face), &Sought::Face(face))
     }
 }

@@ -1,7 +1,8 @@
 //! Slots of arcs: an arc without points is gone.
 
-ghost use Rattle.std.specs.Prelude.{◌≡◌, IfOk};
-ghost use Rattle.arc_places.specs.Slots.{arcs_in, is_there, slots_from};
+ghost use Rattle.std.specs.Prelude.{◌≡◌, ◌≢◌, ◌<◌, ◌≤◌, ◌^◌, ℕ, IfNone, IfOk, IfSome, length};
+ghost use Rattle.tgap_model.specs.Chains.{arc_number};
+ghost use Rattle.arc_places.specs.Slots.{arcs_in, is_there, slot_of, slots_from};
 ghost use Rattle.arc_places.specs.Numbers.{AreNumbers};
 
 use std::alloc::Global;
@@ -48,4 +49,41 @@ pub fn slots_of(alloc: Global, slots: &[BaseArc]) -> Result<Vec<usize>, Memory>
         }
     }
     Ok(there)
+}
+
+/// The slot of an arc, by those of all arcs that are there.
+pub fn slot_at(slots: &[BaseArc], there: &[usize], arc: u32) -> usize
+    requires there { there.now ≡ slots_from 0 slots.now }
+    requires arc { arc < length (arcs_in slots.now) }
+    ensures slot { result ≡ slot_of slots.now arc }
+    ensures within { result < length slots.now }
+{
+    there[arc as usize]
+}
+
+/// An arc, by the slots of all arcs that are there.
+pub fn arc_at<'a>(slots: &'a [BaseArc], there: &[usize], arc: u32) -> &'a BaseArc
+    requires there { there.now ≡ slots_from 0 slots.now }
+    requires arc { arc < length (arcs_in slots.now) }
+    ensures { result.now ≡ arc_number (arcs_in slots.now) arc }
+{
+    &slots[slot_at(slots, there, arc)]
+}
+
+/// The number of the arc in a slot; none where no arc is there.
+pub fn number_at(slots: &[BaseArc], numbers: &[usize], slot: usize) -> Option<u32>
+    requires numbers { AreNumbers slots.now numbers.now }
+    requires few { length (arcs_in slots.now) ≤ 2 ^ 32 }
+    ensures within { IfSome result (λ k. k < length (arcs_in slots.now)) }
+    ensures found { IfSome result (λ k. slot_of slots.now k ≡ slot) }
+    ensures none { IfNone result ((k : ℕ) → k < length (arcs_in slots.now) → slot_of slots.now k ≢ slot) }
+{
+    if slot >= slots.len() {
+        return None;
+    }
+    if is_there(&slots[slot]) {
+        Some(numbers[slot] as u32)
+    } else {
+        None
+    }
 }

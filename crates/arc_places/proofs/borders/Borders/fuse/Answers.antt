@@ -1,4 +1,4 @@
-use Rattle.std.proofs.Common.{◌≡◌, ◌∙◌, ◌<◌, ◌||◌, ℕ, List, [], cond, eqb, sym, ap, ap₂, subst}
+use Rattle.std.proofs.Common.{◌≡◌, ◌∙◌, ◌<◌, ◌||◌, ℕ, List, cond, eqb, sym, ap, ap₂, subst}
 use Rattle.arc_places.specs.Places.{is_among}
 use Rattle.arc_places.specs.Borders.{bordering, face_count}
 use Rattle.arc_places.proofs.FusedLists.{AreFused, are_fused}
@@ -15,7 +15,7 @@ returns c =
     let b3 = bordering c.exchange.new.self in
     let last = bordering c.drop_face.new.self in
     let counted : face_count c.exchange.new.self ≡ n = c.exchange.ensures.count ∙ c.exchange-second.ensures.count ∙ c.exchange-first.ensures.count in
-    let fused : AreFused n kept gone c.in_ok-all.all first b1 last = 
+    let fused : AreFused n kept gone c.in_ok-all.all first b1 last =
     are_fused n kept gone c.in_ok-all.all first b1 b2 b3 last c.requires.apart c.requires.kept c.requires.gone
     (λ f. c.exchange-first.ensures.left f ∙ ap (λ (xs : List ℕ). cond (eqb f kept) xs (first f)) c.new.ensures)
     (λ f. c.exchange-second.ensures.left f ∙ ap (λ (xs : List ℕ). cond (eqb f gone) xs (b1 f)) c.new-2.ensures)

@@ -1,7 +1,6 @@
-use Rattle.std.proofs.Common.{◌∙◌, sym, subst, []}
+use Rattle.std.proofs.Common.{◌∙◌, []}
 use Rattle.std.proofs.lemmas.List.{get_or_default}
-use Rattle.tgap_model.specs.declared.base.BaseArc.{BaseArc}
-use Rattle.arc_places.specs.Borders.{HasFaces, bordering}
+use Rattle.arc_places.specs.Borders.{bordering}
 use Rattle.arc_places.proofs.FusedLists.{faces_more, faces_all}
 use Rattle.arc_places.proofs.borders.Borders.of.Goals as goal
 
