@@ -4,7 +4,7 @@ use Rattle.std.specs.Prelude.{option_map}
 use Rattle.std.specs.Option.{ok_or}
 use Rattle.tgap_model.specs.declared.failure.Or.{Or}
 use Rattle.tgap_model.specs.declared.failure.Or.TheVariants.{Fault, Memory}
-use Rattle.plain_io.specs.Taking.{Refuses}
+use Rattle.plain_io.specs.Taking.{GivesWhole, Refuses}
 use Rattle.tgap_model.specs.declared.geometry.Point.{Point}
 use Rattle.tgap_model.specs.declared.base.BaseArc.{BaseArc}
 use Rattle.tgap_model.specs.declared.limits.TheConstants.{MAX_POINTS}
@@ -12,12 +12,12 @@ use Rattle.tgap_model.specs.Base.{BaseMap, count_points, is_arc}
 use Rattle.tgap_model.specs.Chains.{arc_number}
 use Rattle.line_forms.specs.Json.{ensured}
 use Rattle.line_forms.specs.Lines.{◌>>=◌}
-use Rattle.edit_laws.specs.Edits.{has_point, is_node, put_between, take_out, change_first, turns_back, add_point, drop_point}
+use Rattle.edit_laws.specs.Edits.{has_point, is_node, put_between, take_out, change_first, turns_back, add_point, drop_point, fuse_named, named}
 use Rattle.edit_laws.proofs.Laws.{are_same, turns_back_is}
 use Rattle.map_version.specs.declared.arcs.Place.{Place}
 use Rattle.map_version.specs.Positions.{segment_at, inner_at, turns_at, first_place, changed_at}
 use Rattle.std.specs.List.{list_all}
-use Rattle.std.proofs.lemmas.Bool.{and_parts, false≢true}
+use Rattle.std.proofs.lemmas.Bool.{and_from, and_parts, false≢true, le-leb}
 use Rattle.tgap_model.proofs.BaseFacts.{arc_facts}
 use Rattle.std.proofs.lemmas.List.Elements.{All-weaker}
 use Rattle.std.proofs.lemmas.List.Sums.{AllPass-from_list_all}
@@ -30,6 +30,12 @@ use Rattle.std.specs.Prelude.{option_and_then, IfSome}
 use Rattle.map_version.proofs.InSlots.{next_arc}
 use Rattle.map_version.proofs.Points.{no_position, none_has, position_here, position_there, position_within}
 use Rattle.face_cuts.proofs.NodesKeep.{node_made}
+use Rattle.std.specs.List.{list_any}
+use Rattle.std.specs.Prelude.{◌||◌, ◌≤◌, ◌+◌, ◌-◌, nat_le, set, take, slice_index}
+use Rattle.std.proofs.lemmas.List.{length-set, length-take-le}
+use Rattle.tgap_model.specs.Base.{borders_face}
+use Rattle.face_cuts.specs.Fusions.{classes_without, fuse_faces, is_between, is_face, others}
+use Rattle.face_cuts.proofs.FusionsKeep.{fused_map}
 use Rattle.map_version.specs.Drafts.{drafted}
 use Rattle.map_version.specs.Drops.{goes_on}
 use Rattle.edit_laws.proofs.Cases.{by_test, by_option}
@@ -164,3 +170,41 @@ place_at v slots o s e h = position_within (same_point v) (arc_number slots s.sl
 pub node_of : (m : BaseMap) (v : Point) (s : ℕ × ℕ) → Some s ≡ first_place (position (same_point v)) m.arcs → is_node v m.arcs ≡ false → has_room m 0 1 1 ≡ true
     → add_node m v ≡ Ok (record m { arcs = split_at m.arcs s })
 node_of m v s e inner room = node_made m v s (sym (node_first v m.arcs) ∙ sym e) inner room
+
+-- ---- a fusion, where both are faces
+
+pub fuse_by : (m : BaseMap) (f g : ℕ) → is_face m f ≡ true → is_face m g ≡ true
+    → fuse_faces m f g ≡ (ensured (list_any (is_between f g) m.arcs) 13 >>= λ b. ensured (list_any (λ a. borders_face f a || borders_face g a) (others f g m.arcs)) 14 >>= λ l. Ok (fused_map m f g))
+unfolding fuse_faces
+fuse_by m f g face_f face_g =
+    by_test (list_any (is_between f g) m.arcs)
+    (λ t. by_test (list_any (λ a. borders_face f a || borders_face g a) (others f g m.arcs))
+    (λ u. rw (face_f, face_g, t, u) refl)
+    (λ u. rw (face_f, face_g, t, u) refl))
+    (λ t. rw (face_f, face_g, t) refl)
+
+-- a number in the range is one of a face
+pub in_range : (m : BaseMap) (f : ℕ) → 1 ≤ f → f ≤ length m.classes → is_face m f ≡ true
+in_range m f some few = and_from (nat_le 1 f) (nat_le f (length m.classes)) (le-leb 1 f some) (le-leb f (length m.classes) few)
+
+-- what was read, behind the cause
+pub read_is : {A F : Type 0} (read : Option A) (cause : F) (x : A) → ok_or read cause ≡ Ok x → read ≡ Some x
+read_is (Some y) cause x e = cc
+read_is None cause x e = absurd cc
+
+pub fuse_to : (m : BaseMap) (kept gone : List ℕ) (f g : ℕ) → named 1 (length m.classes) kept ≡ Some f → named 1 (length m.classes) gone ≡ Some g → fuse_named m kept gone ≡ fuse_faces m f g
+unfolding fuse_named
+fuse_to m kept gone f g e h = rw (e, h) refl
+
+-- one class fewer
+pub length-without : (g : ℕ) (classes : List ℕ) → 1 ≤ length classes → length (classes_without g classes) + 1 ≡ length classes
+length-without g classes some =
+    let changed = set classes (g - 1) (slice_index classes (length classes - 1)) in
+    let same : length changed ≡ length classes = length-set classes (g - 1) (slice_index classes (length classes - 1)) in
+    let long : length (take (length classes - 1) changed) ≡ length classes - 1 = length-take-le (length classes - 1) changed (omega arith) in
+    omega arith
+
+-- a test gives what it gives with its cause
+pub gives_ensured : (b : Bool) (cause : ℕ) → GivesWhole (ensured b (Fault cause)) (ensured b cause)
+gives_ensured true cause = refl
+gives_ensured false cause = refl

@@ -8,6 +8,7 @@ ghost use Rattle.tgap_model.specs.Base.{count_points, is_base, in_limits};
 ghost use Rattle.tgap_model.specs.Chains.{arc_number};
 ghost use Rattle.edit_laws.specs.Edits.{named, set_class, move_point, add_point, drop_point, cut_named, fuse_named, apply, apply_line};
 ghost use Rattle.face_cuts.specs.Nodes.{add_node};
+ghost use Rattle.face_cuts.specs.Fusions.{classes_without};
 ghost use Rattle.plain_io.specs.Taking.{GivesWhole};
 ghost use Rattle.edit_laws.specs.EditLaws.{FitsLimits};
 ghost use Rattle.map_version.specs.Indexed.{arcs_of};
@@ -102,8 +103,10 @@ fn goes_on(arcs: &IndexedArcs, place: Place) -> Result<(), Or<u8>>
     requires after { place.at + 1 < length (arc_number arcs.now.slots place.slot).points }
     ensures { GivesWhole result (goes_on (arcs_of arcs.now) (pair_of arcs.now.slots place)) }
 {
-    let turns = turns_back(arcs.points(place.slot), place.at);
-    ensured(!turns, TURNS_BACK)
+    ensured(
+        !turns_back(arcs.points(place.slot), place.at),
+        TURNS_BACK,
+    )
 }
 
 /// Whether a map with so many faces and these arcs may have so many more faces, and an arc more with so many points.
@@ -111,6 +114,17 @@ fn has_room(faces: usize, arcs: &IndexedArcs, more: usize, points: usize) -> boo
     ensures { result ≡ (nat_le (faces + more) MAX_FACES && nat_le (length (arcs_of arcs.now) + 1) MAX_ARCS && nat_le (count_points (arcs_of arcs.now) + points) MAX_POINTS) }
 {
     faces <= MAX_FACES && more <= MAX_FACES - faces && arcs.has_room(1, points)
+}
+
+/// Takes the class of a face out. In its place there is that of the last face.
+fn take_out(classes: &mut Vec<u32>, gone: u32)
+    requires some { 1 ≤ gone }
+    requires within { gone ≤ length classes.old.items }
+    ensures { classes.new.items ≡ classes_without gone classes.old.items }
+{
+    let last = classes.len() - 1;
+    classes[gone as usize - 1] = classes[last];
+    classes.truncate(last);
 }
 
 impl<'a> Draft<'a> {
@@ -279,8 +293,10 @@ impl<'a> Draft<'a> {
         let class = self.class_named(class)?;
         let indexed = self.arcs;
         let arcs = own_arcs(alloc, self.base, &self.classes, indexed)?;
-        let room = has_room(self.classes.len(), &arcs, 1, points.len());
-        ensured(room, PAST_LIMIT)?;
+        ensured(
+            has_room(self.classes.len(), &arcs, 1, points.len()),
+            PAST_LIMIT,
+        )?;
         ensured(arcs.are_free(alloc, points.as_slice())?, NOT_FREE)?;
         let new = self.classes.len() as u32 + 1;
         self.arcs = Some(arcs.cut(alloc, face, new, points)?);
@@ -293,17 +309,19 @@ impl<'a> Draft<'a> {
     fn fuse_faces(mut self, alloc: Global, kept: &[u8], gone: &[u8]) -> Result<Draft<'a>, Or<u8>>
         ensures { GivesWhole result (fuse_named self.entry kept.now gone.now) }
     {
+        let kept = self.face_named(kept)?;
+        let gone = self.face_named(gone)?;
         let fusion = Fusion {
             faces: self.classes.len() as u32,
-            kept: self.face_named(kept)?,
-            gone: self.face_named(gone)?,
+            kept,
+            gone,
         };
         let indexed = self.arcs;
         let arcs = own_arcs(alloc, self.base, &self.classes, indexed)?;
         ensured(arcs.is_any_between(&fusion), NOTHING_BETWEEN)?;
         ensured(arcs.is_any_left(&fusion), NOTHING_LEFT)?;
         self.arcs = Some(arcs.fuse(alloc, &fusion)?);
-        self.classes.swap_remove(fusion.gone as usize - 1);
+        take_out(&mut self.classes, gone);
         Ok(self)
     }
 }

@@ -62,6 +62,46 @@ pub fn squares(alloc: Global, between: &[(i64, i64)]) -> Result<Option<Base>, Me
     Ok(Base::new(transform, equal_rules(alloc)?, classes, arcs))
 }
 
+/// A map of the two classes with these arcs, each by its sides and its points.
+fn map_of(
+    alloc: Global,
+    classes: &[u32],
+    arcs: &[(u32, u32, &[(i64, i64)])],
+) -> Result<Option<Base>, Memory> {
+    let transform = Transform {
+        sx: 1,
+        sy: 1,
+        tx: 0,
+        ty: 0,
+    };
+    let mut list = List::new(alloc);
+    for (left, right, points) in arcs {
+        list.push(arc(alloc, *left, *right, points)?)?;
+    }
+    let classes = List::from(Vec::from_slice(alloc, classes)?);
+    Ok(Base::new(transform, equal_rules(alloc)?, classes, list))
+}
+
+/// Two faces with one arc between them and no other arc.
+pub fn one_arc(alloc: Global) -> Result<Option<Base>, Memory> {
+    map_of(alloc, &[0, 1], &[(1, 2, &[(0, 0), (10, 0)])])
+}
+
+/// A face of two squares apart from each other, each a ring with one node, (0,0) and (20,0).
+pub fn two_rings(alloc: Global) -> Result<Option<Base>, Memory> {
+    let first = [(0, 0), (10, 0), (10, 10), (0, 10), (0, 0)];
+    let second = [(20, 0), (30, 0), (30, 10), (20, 10), (20, 0)];
+    map_of(alloc, &[0], &[(1, 0, &first), (1, 0, &second)])
+}
+
+/// The sides of an arc of a map; 0 and 0 where there is no such arc.
+pub fn sides_of(base: &Base, arc: usize) -> (u32, u32) {
+    match base.arcs().as_slice().get(arc) {
+        Some(arc) => (arc.left, arc.right),
+        None => (0, 0),
+    }
+}
+
 /// The map in a box, so that who holds it holds one part: the proof of its moves is short then.
 pub fn boxed(alloc: Global, base: Base) -> Result<Box<Base>, Memory> {
     Ok(Box::new(alloc, base)?)

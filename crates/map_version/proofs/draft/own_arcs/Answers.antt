@@ -1,4 +1,5 @@
-use Rattle.std.proofs.Common.{◌≡◌, ◌≤◌, ◌∙◌, IsTrue, None, Option, List, ℕ, length, sym, ap, subst, arith}
+use Rattle.std.proofs.Common.{◌≡◌, ◌≤◌, ◌∙◌, IsTrue, Option, List, ℕ, length, sym, ap, subst, arith}
+use Rattle.std.proofs.lemmas.Result.{IfOk-weaker}
 use Rattle.tgap_model.specs.declared.base.BaseArc.{BaseArc}
 use Rattle.tgap_model.specs.declared.limits.TheConstants.{MAX_POINTS}
 use Rattle.tgap_model.specs.Base.{BaseMap, count_points, is_base}
@@ -14,13 +15,13 @@ use Rattle.map_version.proofs.draft.own_arcs.Goals as goal
 pub of-requires-clause-few : goal.of-requires-clause-few
 of-requires-clause-few c =
     let few = (base_facts (drafted c.args.base.now c.args.classes.now (arcs_now c.args.indexed c.args.base.now.arcs)) c.requires.base).few_faces in
-    omega (arith, few, c.len.ensures)
+    omega (arith, few)
 
 pub of-requires-clause-faces : goal.of-requires-clause-faces
 of-requires-clause-faces c =
     let is_map = subst (λ (o : Option Indexed). IsTrue (is_base (drafted c.args.base.now c.args.classes.now (arcs_now o c.args.base.now.arcs)))) c.in-None.is c.requires.base in
     let faces = have_faces (length c.args.classes.now) c.args.base.now.arcs (base_facts (drafted c.args.base.now c.args.classes.now c.args.base.now.arcs) is_map).arcs in
-    subst (λ (n : ℕ). HaveFaces n c.as_slice.result.now) (sym c.len.ensures) (subst (HaveFaces (length c.args.classes.now)) (sym (c.as_slice.ensures ∙ c.arcs.ensures.value)) faces)
+    subst (HaveFaces (length c.args.classes.now)) (sym (c.as_slice.ensures ∙ c.arcs.ensures.value)) faces
 
 pub of-requires-clause-points : goal.of-requires-clause-points
 of-requires-clause-points c =
@@ -29,3 +30,12 @@ of-requires-clause-points c =
 pub of-requires-clause-there : goal.of-requires-clause-there
 of-requires-clause-there c =
     subst (λ (arcs : List BaseArc). arcs_in arcs ≡ arcs) (sym (c.as_slice.ensures ∙ c.arcs.ensures.value)) (all_there (length c.args.base.now.classes) c.args.base.now.arcs (base_facts c.args.base.now c.arcs.ensures.base).arcs)
+
+pub returns-in-None-clause-arcs : goal.returns-in-None-clause-arcs
+returns-in-None-clause-arcs c =
+    IfOk-weaker c.of.result _ _
+    (λ x h.
+    ap arcs_of h
+    ∙ (of-requires-clause-there c
+    ∙ (c.as_slice.ensures ∙ (c.arcs.ensures.value ∙ sym (ap (λ (o : Option Indexed). arcs_now o c.args.base.now.arcs) c.in-None.is)))))
+    c.of.ensures

@@ -25,7 +25,7 @@ invariant_of-result c =
     (record {
       by_point = pushed_places (listed c.self.inside.places) (listed c.list_points.new.self) slots a
           (λ p i. c.in_ok-list_points.ensures p i
-          ∙ (ap (λ (n : ℕ). is_among i (listed c.self.inside.places p) || ((n == i) && list_any (same_point p) c.as_slice.result.now)) long
+          ∙ (ap (λ (n : ℕ). is_among i (listed c.self.inside.places p) || ((n == i) && list_any (same_point p) c.as_slice.result.now)) (c.len-2.ensures ∙ long)
           ∙ ap (λ (points : List Point). is_among i (listed c.self.inside.places p) || ((length slots == i) && list_any (same_point p) points)) c.as_slice.ensures))
           c.self.invariant.by_point;
       by_face = pushed_borders before between after slots a

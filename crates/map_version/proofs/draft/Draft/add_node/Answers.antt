@@ -2,7 +2,7 @@ use Rattle.std.proofs.Common.{◌≡◌, ◌∙◌, ◌<◌, ◌+◌, ℕ, IsTru
 use Rattle.std.specs.Prelude.{option_map}
 use Rattle.std.proofs.lemmas.Bool.{not-true, and_parts, and_from}
 use Rattle.tgap_model.specs.declared.base.BaseArc.{BaseArc}
-use Rattle.tgap_model.specs.declared.limits.TheConstants.{MAX_ARCS, MAX_POINTS}
+use Rattle.tgap_model.specs.declared.limits.TheConstants.{MAX_ARCS, MAX_FACES, MAX_POINTS}
 use Rattle.tgap_model.specs.Base.{BaseMap, count_points, is_base}
 use Rattle.tgap_model.proofs.BaseFacts.{base_facts}
 use Rattle.plain_io.specs.Taking.{GivesWhole}
@@ -54,7 +54,7 @@ pub split-requires-clause-faces : goal.split-requires-clause-faces
 split-requires-clause-faces c =
     let m : BaseMap = drafted c.self.inside.base.now c.self.inside.classes.items (arcs_of c.in_ok-arcs.arcs) in
     let is_map = subst (λ (xs : List BaseArc). IsTrue (is_base (drafted c.self.inside.base.now c.self.inside.classes.items xs))) (sym c.in_ok-arcs.ensures.arcs) c.self.invariant.base in
-    subst (λ (n : ℕ). HaveFaces n (arcs_of c.in_ok-arcs.arcs)) (sym c.in_ok-arcs.ensures.faces) (have_faces (length m.classes) m.arcs (base_facts m is_map).arcs)
+    subst (λ (n : ℕ). HaveFaces n (arcs_of c.in_ok-arcs.arcs)) (sym (c.in_ok-arcs.ensures.faces ∙ ap (length {A = ℕ}) c.deref.ensures.value)) (have_faces (length m.classes) m.arcs (base_facts m is_map).arcs)
 
 pub invariant_of-self : goal.invariant_of-self
 invariant_of-self c =
@@ -63,11 +63,14 @@ invariant_of-self c =
     let is_map = subst (λ (xs : List BaseArc). IsTrue (is_base (drafted c.self.inside.base.now c.self.inside.classes.items xs))) (sym c.in_ok-arcs.ensures.arcs) c.self.invariant.base in
     let first = ap (option_map (pair_of x.slots)) (sym (found_is c.place_of.result _ _ c.in_ok-place.ensures)) ∙ c.place_of.ensures.first in
     let inner : is_node c.args.at (arcs_of x) ≡ false = sym c.is_node.ensures ∙ not-true c.is_node.result (ensured_holds (not c.is_node.result) _ _ c.in_ok-ensured.ensures) in
-    let room : has_room m 0 1 1 ≡ true = ? in
+    let faces : length c.self.inside.classes.items ≡ c.len.result = omega (arith, c.len.ensures, c.self.inside.classes.ok.0) in
+    let room : has_room m 0 1 1 ≡ true =
+    ap (λ (n : ℕ). nat_le (n + 0) MAX_FACES && nat_le (length (arcs_of x) + 1) MAX_ARCS && nat_le (count_points (arcs_of x) + 1) MAX_POINTS) faces
+    ∙ (sym c.has_room.ensures ∙ ensured_holds c.has_room.result _ _ c.in_ok-ensured-2.ensures) in
     let made = node_of m c.args.at (pair_of x.slots c.in_ok-place.place) first inner room in
     record {
       base = subst (λ (xs : List BaseArc). IsTrue (is_base (record m { arcs = xs }))) (sym c.in_ok-split.ensures.arcs) (nodes_keep m _ c.args.at is_map made);
-      faces = c.in_ok-split.ensures.faces ∙ c.in_ok-arcs.ensures.faces;
+      faces = c.in_ok-split.ensures.faces ∙ (c.in_ok-arcs.ensures.faces ∙ ap (length {A = ℕ}) c.deref.ensures.value);
     }
 
 pub returns : goal.returns
@@ -77,7 +80,10 @@ returns c =
     let same : m ≡ c.args.self = ap (drafted c.self.inside.base.now c.self.inside.classes.items) c.in_ok-arcs.ensures.arcs ∙ c.self.view_is in
     let first = ap (option_map (pair_of x.slots)) (sym (found_is c.place_of.result _ _ c.in_ok-place.ensures)) ∙ c.place_of.ensures.first in
     let inner : is_node c.args.at (arcs_of x) ≡ false = sym c.is_node.ensures ∙ not-true c.is_node.result (ensured_holds (not c.is_node.result) _ _ c.in_ok-ensured.ensures) in
-    let room : has_room m 0 1 1 ≡ true = ? in
+    let faces : length c.self.inside.classes.items ≡ c.len.result = omega (arith, c.len.ensures, c.self.inside.classes.ok.0) in
+    let room : has_room m 0 1 1 ≡ true =
+    ap (λ (n : ℕ). nat_le (n + 0) MAX_FACES && nat_le (length (arcs_of x) + 1) MAX_ARCS && nat_le (count_points (arcs_of x) + 1) MAX_POINTS) faces
+    ∙ (sym c.has_room.ensures ∙ ensured_holds c.has_room.result _ _ c.in_ok-ensured-2.ensures) in
     let made = node_of m c.args.at (pair_of x.slots c.in_ok-place.place) first inner room in
     subst (λ (y : BaseMap). add_node y c.args.at ≡ Ok (record m { arcs = arcs_of c.in_ok-split.field-0 })) same
     (made ∙ ap (λ (xs : List BaseArc). Ok (record m { arcs = xs })) (sym c.in_ok-split.ensures.arcs))

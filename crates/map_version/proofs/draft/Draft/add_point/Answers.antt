@@ -59,7 +59,7 @@ invariant_of-self c =
     let room = subst (λ (n : ℕ). n < MAX_POINTS) c.count_points.ensures (ltb-true c.count_points.result MAX_POINTS (ensured_holds (nat_lt c.count_points.result MAX_POINTS) _ _ c.in_ok-ensured-2.ensures)) in
     record {
       base = subst (λ (xs : List BaseArc). IsTrue (is_base (record m { arcs = xs }))) (sym c.in_ok-insert.ensures.arcs) (add_again m c.args.a c.args.b c.args.new _ is_map c.requires free changes room);
-      faces = c.in_ok-insert.ensures.faces ∙ c.in_ok-arcs.ensures.faces;
+      faces = c.in_ok-insert.ensures.faces ∙ (c.in_ok-arcs.ensures.faces ∙ ap (length {A = ℕ}) c.deref.ensures.value);
     }
 
 pub returns : goal.returns

@@ -1,4 +1,4 @@
-use Rattle.std.proofs.Common.{◌≡◌, ◌∙◌, ◌≤◌, IsTrue, List, length, not, true, false, Some, Ok, sym, ap, subst, arith, rules}
+use Rattle.std.proofs.Common.{◌≡◌, ◌∙◌, ◌≤◌, ℕ, IsTrue, List, length, not, true, false, Some, Ok, sym, ap, subst, arith, rules}
 use Rattle.std.specs.Prelude.{option_map}
 use Rattle.std.proofs.lemmas.Bool.{not-true}
 use Rattle.tgap_model.specs.declared.base.BaseArc.{BaseArc}
@@ -60,7 +60,7 @@ invariant_of-self c =
     let made = drop_made m c.args.old (pair_of x.slots c.in_ok-place.place) _ first there inner c.in_ok-goes_on.ensures in
     record {
       base = subst (λ (xs : List BaseArc). IsTrue (is_base (record m { arcs = xs }))) (sym c.remove.ensures.arcs) (drops_keep m _ c.args.old is_map made);
-      faces = c.remove.ensures.faces ∙ c.in_ok-arcs.ensures.faces;
+      faces = c.remove.ensures.faces ∙ (c.in_ok-arcs.ensures.faces ∙ ap (length {A = ℕ}) c.deref.ensures.value);
     }
 
 pub returns : goal.returns

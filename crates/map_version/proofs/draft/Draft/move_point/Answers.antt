@@ -1,4 +1,4 @@
-use Rattle.std.proofs.Common.{◌≡◌, ◌∙◌, IsTrue, List, not, false, true, Ok, sym, ap, subst}
+use Rattle.std.proofs.Common.{◌≡◌, ◌∙◌, ℕ, IsTrue, List, length, not, false, true, Ok, sym, ap, subst}
 use Rattle.std.proofs.lemmas.Bool.{not-true}
 use Rattle.tgap_model.specs.declared.base.BaseArc.{BaseArc}
 use Rattle.tgap_model.specs.Base.{BaseMap, is_base}
@@ -17,5 +17,5 @@ invariant_of-self c =
     let free : has_point c.args.new arcs ≡ false = sym c.has_point-2.ensures ∙ not-true c.has_point-2.result (ensured_holds (not c.has_point-2.result) _ _ c.in_ok-ensured-2.ensures) in
     record {
       base = subst (λ (xs : List BaseArc). IsTrue (is_base (record m { arcs = xs }))) (sym c.in_ok-move_all.ensures.arcs) (move_again m c.args.old.now c.args.new is_map c.requires free);
-      faces = c.in_ok-move_all.ensures.faces ∙ c.in_ok-arcs.ensures.faces;
+      faces = c.in_ok-move_all.ensures.faces ∙ (c.in_ok-arcs.ensures.faces ∙ ap (length {A = ℕ}) c.deref.ensures.value);
     }
