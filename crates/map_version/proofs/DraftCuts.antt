@@ -1,11 +1,13 @@
 -- A face that is cut, by the sides that go over.
-use Rattle.std.proofs.Common.{◌≡◌, ◌∙◌, ℕ, ◌+◌, ◌<◌, Bool, true, false, ◌&&◌, nat_lt, IsTrue, List, [], ◌∷◌, ◌++◌, length, Result, Ok, Err, refl, sym, ap}
-use Rattle.std.proofs.lemmas.Bool.{and_from}
+use Rattle.std.proofs.Common.{◌≡◌, ◌∙◌, ℕ, ◌+◌, ◌<◌, Bool, true, false, ◌&&◌, ◌-◌, nat_lt, IsTrue, List, [], ◌∷◌, ◌++◌, length, Some, Result, Ok, Err, refl, sym, ap}
 use Rattle.tgap_model.specs.declared.geometry.Point.{Point}
 use Rattle.tgap_model.specs.declared.base.BaseArc.{BaseArc}
 use Rattle.tgap_model.specs.Base.{BaseMap}
 use Rattle.ring_walk.specs.declared.side.Side.{Side}
+use Rattle.line_forms.specs.Json.{ensured}
 use Rattle.line_forms.specs.Lines.{◌>>=◌}
+use Rattle.edit_laws.specs.Edits.{cut_named, named}
+use Rattle.edit_laws.proofs.Cases.{by_test}
 use Rattle.face_cuts.specs.Outcomes.{◌>>=◌ as ◌then◌, has_room}
 use Rattle.face_cuts.specs.Fusions.{is_face}
 use Rattle.face_cuts.specs.Cuts.{are_free, cut_face}
@@ -38,3 +40,27 @@ cut_by m f k points face class room free = cuts_move m f k points face class roo
         ≡ ((r >>= λ moved. Ok (divided_arcs m.arcs f (length m.classes + 1) points moved)) >>= λ arcs. Ok (cut_map m k arcs))
     by (Ok moved) = refl
     by (Err cause) = refl
+
+-- what is left of a cut of a face that there is, where these tests tell whether there is room and whether the points are free
+abbrev pub cut_chain : BaseMap → ℕ → ℕ → List Point → Bool → Bool → Result BaseMap ℕ
+cut_chain m f k points room free =
+    ensured room 11 >>= λ r. ensured free 10 >>= λ u. cut_arcs m.arcs f (length m.classes + 1) points >>= λ arcs. Ok (cut_map m k arcs)
+
+pub cut_is : (m : BaseMap) (f k : ℕ) (points : List Point) → is_face m f ≡ true → nat_lt k (length m.rules.weights) ≡ true
+    → cut_face m f k points ≡ cut_chain m f k points (has_room m 1 1 (length points)) (are_free m.arcs points)
+cut_is m f k points face class =
+    by_test (has_room m 1 1 (length points))
+    (λ room. by_test (are_free m.arcs points)
+    (λ free.
+    cut_by m f k points face class room free
+    ∙ sym (ap (λ (b : Bool). cut_chain m f k points b (are_free m.arcs points)) room ∙ ap (λ (b : Bool). cut_chain m f k points true b) free))
+    (λ taken.
+    cut_taken m f k points face class room taken
+    ∙ sym (ap (λ (b : Bool). cut_chain m f k points b (are_free m.arcs points)) room ∙ ap (λ (b : Bool). cut_chain m f k points true b) taken)))
+    (λ full. cut_full m f k points face class full ∙ sym (ap (λ (b : Bool). cut_chain m f k points b (are_free m.arcs points)) full))
+
+-- by the words of the line
+pub cut_to : (m : BaseMap) (face class : List ℕ) (points : List Point) (f k : ℕ) → named 1 (length m.classes) face ≡ Some f → named 0 (length m.rules.weights - 1) class ≡ Some k
+    → cut_named m face class points ≡ cut_face m f k points
+unfolding cut_named
+cut_to m face class points f k e h = rw (e, h) refl

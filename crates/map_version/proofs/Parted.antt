@@ -1,26 +1,39 @@
 -- Sides that go over to a new face, by the numbers of their arcs and by their slots.
-use Rattle.std.proofs.Common.{◌≡◌, ◌≢◌, ◌∙◌, ℕ, zero, suc, ◌+◌, ◌≤◌, ◌<◌, nat_lt, eqb, Bool, true, false, ◌&&◌, ◌||◌, cond, All, List, [], ◌∷◌, ◌++◌, length, map, filter, set, get_or, refl, sym, ap, subst, arith}
+use Rattle.std.proofs.Common.{◌≡◌, ◌≢◌, ◌∙◌, ℕ, zero, suc, ◌+◌, ◌≤◌, ◌<◌, nat_lt, eqb, nat_le, IsTrue, Bool, true, false, ◌&&◌, ◌||◌, cond, All, Option, Some, None, Result, Ok, Err, List, [], ◌∷◌, ◌++◌, length, map, filter, set, get_or, refl, sym, ap, subst, arith}
 use Rattle.std.specs.List.{list_any}
+use Rattle.std.specs.Option.{ok_or}
 use Rattle.std.proofs.lemmas.Bool.{and_parts, cond-true, cond-false, eqb-true, eq-eqb, false≢true}
 use Rattle.std.proofs.lemmas.List.{length-set}
-use Rattle.std.proofs.lemmas.List.Elements.{All-head, All-tail, filter-append}
+use Rattle.std.proofs.lemmas.List.Elements.{All-cons, All-filter, All-head, All-nil, All-tail, filter-append}
+use Rattle.tgap_model.specs.declared.limits.TheConstants.{MAX_ARCS, MAX_POINTS}
 use Rattle.tgap_model.specs.declared.geometry.Point.{Point}
 use Rattle.tgap_model.specs.declared.base.BaseArc.{BaseArc}
+use Rattle.tgap_model.specs.Base.{count_points}
 use Rattle.tgap_model.specs.Chains.{arc_number}
+use Rattle.ring_walk.specs.declared.span.Span.{Span}
 use Rattle.ring_walk.specs.declared.side.Side.{Side}
 use Rattle.ring_walk.specs.declared.side.Way.{Way}
 use Rattle.ring_walk.specs.declared.side.Way.TheVariants.{Along, Against}
-use Rattle.ring_walk.specs.Sides.{face_of, same_side}
+use Rattle.ring_walk.specs.Sides.{face_of, same_side, sides}
 use Rattle.ring_walk.specs.Spans.{IsSide}
 use Rattle.ring_walk.proofs.SideNumbers.{same_side-true, same_side-itself}
+use Rattle.line_forms.specs.Lines.{◌>>=◌}
 use Rattle.edit_laws.proofs.Cases.{by_test, not_held}
+use Rattle.face_cuts.specs.Outcomes.{◌>>=◌ as ◌then◌}
 use Rattle.face_cuts.specs.Sectors.{spans_of}
-use Rattle.face_cuts.specs.Cuts.{with_faces}
-use Rattle.face_cuts.specs.Moves.{divided_arcs, face_with}
-use Rattle.face_cuts.proofs.CutsKeep.{cut_length, number_of}
+use Rattle.face_cuts.specs.Cuts.{sectors_of, with_faces}
+use Rattle.face_cuts.specs.Walks.{walk_between}
+use Rattle.face_cuts.specs.Tables.{sides_beside}
+use Rattle.face_cuts.specs.Moves.{cut_off_sides, divided_arcs, face_with, is_moved, moved_sides}
+use Rattle.face_cuts.proofs.CutsKeep.{number_of}
+use Rattle.face_cuts.proofs.SpansOfArcs.{beside_within}
 use Rattle.arc_places.specs.Slots.{arcs_in, is_there, slot_of, slots_from}
 use Rattle.arc_places.proofs.SlotNumbers.{IsSlotOf, arc_in_slot, length-slots_from, set_there, slot_there}
-use Rattle.map_version.specs.Labels.{passed_over, slot_side, with_side}
+use Rattle.map_version.specs.declared.labels.Counts.{Counts}
+use Rattle.map_version.specs.declared.labels.SlotSide.{SlotSide}
+use Rattle.map_version.specs.Indexed.{cut_arcs, has_more}
+use Rattle.map_version.specs.Labels.{moved_slots, passed_over, slot_side, with_side}
+use Rattle.map_version.proofs.Relisting.{passed_counted}
 use Rattle.map_version.proofs.InSlots.{there}
 
 -- ---- by number
@@ -195,3 +208,62 @@ parted_in slots f new points moved some within beside =
     filter-append is_there (passed_over new (map (slot_side slots) moved) slots) (arc ∷ [])
     ∙ (ap (λ (b : Bool). arcs_in (passed_over new (map (slot_side slots) moved) slots) ++ cond b (arc ∷ []) []) (there arc some)
     ∙ ap (λ (arcs : List BaseArc). arcs ++ arc ∷ []) (passed_in new moved slots slots refl within ∙ sides_over (arcs_in slots) f new moved within beside))
+
+-- ---- the sides that a cut takes over
+
+-- what a filter keeps passes
+kept_pass : (spans : List Span) (f : ℕ) (row : List Side) → All (λ s. face_of spans s ≡ f) (filter (λ s. eqb (face_of spans s) f) row)
+kept_pass spans f [] = All-nil (λ (s : Side). face_of spans s ≡ f)
+kept_pass spans f (s ∷ row) =
+    let P = λ (t : Side). face_of spans t ≡ f in
+    let rest = filter (λ (t : Side). eqb (face_of spans t) f) row in
+    by_test (eqb (face_of spans s) f)
+    (λ t. subst (λ (b : Bool). All P (cond b (s ∷ rest) rest)) (sym t) (All-cons P s rest (eqb-true (face_of spans s) f t) (kept_pass spans f row)))
+    (λ u. subst (λ (b : Bool). All P (cond b (s ∷ rest) rest)) (sym u) (kept_pass spans f row))
+
+-- they are sides of the arcs that have the face
+pub record AreOver (arcs : List BaseArc) (f : ℕ) (moved : List Side) : Type 0 where
+  pub within : All (IsSide (length arcs)) moved
+  pub beside : All (λ s. face_of (spans_of arcs) s ≡ f) moved
+
+moved_are : (arcs : List BaseArc) (f : ℕ) (points : List Point) (walk : List Side) → AreOver arcs f (moved_sides arcs f points walk)
+moved_are arcs f points walk =
+    record {
+      within = All-filter (is_moved arcs points walk) (IsSide (length arcs)) (sides_beside (spans_of arcs) f) (beside_within arcs f);
+      beside = All-filter (is_moved arcs points walk) (λ s. face_of (spans_of arcs) s ≡ f) (sides_beside (spans_of arcs) f) (kept_pass (spans_of arcs) f (sides (length (spans_of arcs))));
+    }
+
+pub over_are : (arcs : List BaseArc) (f : ℕ) (points : List Point) (moved : List Side) → cut_off_sides arcs f points ≡ Ok moved → AreOver arcs f moved
+over_are arcs f points moved e = by_sectors (sectors_of (spans_of arcs) f points) e
+  where
+    by_walk : (o : Option (List Side)) → (let r : Result (List Side) ℕ = ok_or o 12 then λ walk. Ok (moved_sides arcs f points walk) in r ≡ Ok moved) → AreOver arcs f moved
+    by_walk None h = absurd cc
+    by_walk (Some walk) h = (let same : moved_sides arcs f points walk ≡ moved = cc in subst (AreOver arcs f) same (moved_are arcs f points walk))
+    by_sectors : (o : Option (Side × Side)) → (let r : Result (List Side) ℕ = ok_or o 9 then λ s. ok_or (walk_between (spans_of arcs) f s.0 s.1) 12 then λ walk. Ok (moved_sides arcs f points walk) in r ≡ Ok moved)
+        → AreOver arcs f moved
+    by_sectors None h = absurd cc
+    by_sectors (Some s) h = by_walk (walk_between (spans_of arcs) f s.0 s.1) h
+
+-- by their slots, and the arcs that are made of them
+pub cut_made : (slots : List BaseArc) (f new : ℕ) (points : List Point) (moved : List SlotSide) → 1 ≤ length points → moved_slots slots f points ≡ Ok moved
+    → cut_arcs (arcs_in slots) f new points ≡ Ok (arcs_in (passed_over new moved slots ++ record { left = new; right = f; points = points } ∷ []))
+cut_made slots f new points moved some e = by (cut_off_sides (arcs_in slots) f points) refl e
+  where
+    arc : BaseArc
+    arc = record { left = new; right = f; points = points }
+    by : (r : Result (List Side) ℕ) → cut_off_sides (arcs_in slots) f points ≡ r → (let s : Result (List SlotSide) ℕ = r >>= λ sides. Ok (map (slot_side slots) sides) in s ≡ Ok moved)
+        → (r >>= λ sides. Ok (divided_arcs (arcs_in slots) f new points sides)) ≡ Ok (arcs_in (passed_over new moved slots ++ arc ∷ []))
+    by (Ok sides) is h =
+        let same : map (slot_side slots) sides ≡ moved = cc in
+        let over = over_are (arcs_in slots) f points sides is in
+        ap (λ (arcs : List BaseArc). Ok arcs) (sym (ap (λ (ms : List SlotSide). arcs_in (passed_over new ms slots ++ arc ∷ [])) (sym same) ∙ parted_in slots f new points sides some over.within over.beside))
+    by (Err cause) is h = absurd cc
+
+-- room stays where only sides change
+pub room_over : (f n : ℕ) (moved : List SlotSide) (slots : List BaseArc) → IsTrue (has_more 1 n (arcs_in slots)) → IsTrue (has_more 1 n (arcs_in (passed_over f moved slots)))
+room_over f n moved slots h =
+    let before : Counts = record { arcs = length (arcs_in slots); points = count_points (arcs_in slots) } in
+    let after = passed_counted f moved slots before (record { arcs_are = refl; points_are = refl }) in
+    subst (λ (b : Bool). IsTrue b)
+    (ap (λ (k : ℕ). nat_le (k + 1) MAX_ARCS && nat_le (count_points (arcs_in slots) + n) MAX_POINTS) after.arcs_are
+    ∙ ap (λ (k : ℕ). nat_le (length (arcs_in (passed_over f moved slots)) + 1) MAX_ARCS && nat_le (k + n) MAX_POINTS) after.points_are) h

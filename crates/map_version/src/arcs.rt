@@ -445,7 +445,7 @@ impl IndexedArcs {
         requires spans { AreSpans (spans_of (arcs_of self)) }
         requires line { IsNewLine points }
         requires room { IsTrue (has_more 1 (length points) (arcs_of self)) }
-        ensures arcs { GivesArcs result (cut_arcs (arcs_of self) face new points.entry) }
+        ensures arcs { GivesArcs result (cut_arcs (arcs_of self) face new points) }
         ensures faces { IfOk result (λ arcs. arcs.faces ≡ self.faces + 1) }
     {
         let moved = self.moved_sides(alloc, face, points.as_slice())?;

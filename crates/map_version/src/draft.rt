@@ -1,6 +1,6 @@
 //! A base map to which the lines of a batch are applied.
 
-ghost use Rattle.std.specs.Prelude.{◌≡◌, ◌≤◌, ◌<◌, ◌+◌, ◌-◌, ◌^◌, ◌&&◌, length, nat_le, IfSome, IfOk, IsTrue};
+ghost use Rattle.std.specs.Prelude.{◌≡◌, ◌≤◌, ◌<◌, ◌+◌, ◌-◌, ◌^◌, ◌&&◌, ◌++◌, ◌∷◌, [], length, nat_le, IfSome, IfOk, OnOk, IsTrue};
 ghost use Rattle.std.specs.List.{list_all};
 ghost use Rattle.std.specs.Option.{ok_or};
 ghost use Rattle.tgap_model.specs.declared.failure.Or.TheVariants.{Fault};
@@ -114,6 +114,14 @@ fn has_room(faces: usize, arcs: &IndexedArcs, more: usize, points: usize) -> boo
     ensures { result ≡ (nat_le (faces + more) MAX_FACES && nat_le (length (arcs_of arcs.now) + 1) MAX_ARCS && nat_le (count_points (arcs_of arcs.now) + points) MAX_POINTS) }
 {
     faces <= MAX_FACES && more <= MAX_FACES - faces && arcs.has_room(1, points)
+}
+
+/// Puts the class of a new last face after the others.
+fn put_class(classes: &mut Vec<u32>, class: u32) -> Result<(), Memory>
+    ensures { OnOk result (classes.new.items ≡ classes.old.items ++ class ∷ []) }
+{
+    classes.push(class)?;
+    Ok(())
 }
 
 /// Takes the class of a face out. In its place there is that of the last face.
@@ -287,7 +295,7 @@ impl<'a> Draft<'a> {
     ) -> Result<Draft<'a>, Or<u8>>
         requires long { 2 ≤ length points }
         requires limits { IsTrue (list_all in_limits points) }
-        ensures { GivesWhole result (cut_named self.entry face.now class.now points.entry) }
+        ensures { GivesWhole result (cut_named self.entry face.now class.now points) }
     {
         let face = self.face_named(face)?;
         let class = self.class_named(class)?;
@@ -300,7 +308,7 @@ impl<'a> Draft<'a> {
         ensured(arcs.are_free(alloc, points.as_slice())?, NOT_FREE)?;
         let new = self.classes.len() as u32 + 1;
         self.arcs = Some(arcs.cut(alloc, face, new, points)?);
-        self.classes.push(class)?;
+        put_class(&mut self.classes, class)?;
         Ok(self)
     }
 

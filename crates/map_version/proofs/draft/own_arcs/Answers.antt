@@ -36,6 +36,6 @@ returns-in-None-clause-arcs c =
     IfOk-weaker c.of.result _ _
     (λ x h.
     ap arcs_of h
-    ∙ (of-requires-clause-there c
+    ∙ (subst (λ (arcs : List BaseArc). arcs_in arcs ≡ arcs) (sym (c.as_slice.ensures ∙ c.arcs.ensures.value)) (all_there (length c.args.base.now.classes) c.args.base.now.arcs (base_facts c.args.base.now c.arcs.ensures.base).arcs)
     ∙ (c.as_slice.ensures ∙ (c.arcs.ensures.value ∙ sym (ap (λ (o : Option Indexed). arcs_now o c.args.base.now.arcs) c.in-None.is)))))
     c.of.ensures
