@@ -136,6 +136,7 @@ node_first v (a ∷ arcs) =
     inside : (i : ℕ) (o : Option ℕ) → option_map next_arc (option_map (λ k. (i, k)) o) ≡ option_map (λ k. (suc i, k)) o
     inside i None = refl
     inside i (Some k) = refl
+
     next : (o : Option ℕ) → option_map next_arc (option_and_then (λ i. option_map (λ k. (i, k)) (position (same_point v) (arc_number arcs i).points)) o)
         ≡ option_and_then (λ i. option_map (λ k. (i, k)) (position (same_point v) (arc_number (a ∷ arcs) i).points)) (option_map (λ k. suc k) o)
     next None = refl

@@ -111,6 +111,7 @@ first_in find none (a ∷ slots) =
         ≡ option_map (numbered (a ∷ slots)) (option_map next_arc o)
     next None h = refl
     next (Some s) h = ap (λ (n : ℕ). let x : ℕ × ℕ = (n, s.1) in Some x) (sym (h s.0))
+
     same : (o : Option (ℕ × ℕ)) → ((i : ℕ) → number_of (a ∷ slots) (suc i) ≡ number_of slots i)
         → option_map (numbered slots) o
         ≡ option_map (numbered (a ∷ slots)) (option_map next_arc o)
@@ -148,6 +149,7 @@ changed_in (b ∷ slots) (suc i) change lt e f = by (is_there b) (changed_in slo
   where
     front : List BaseArc
     front = filter is_there (take i slots)
+
     by : (t : Bool) → arcs_in (changed_at i change slots) ≡ changed_at (length front) change (arcs_in slots)
         → cond t (b ∷ arcs_in (changed_at i change slots)) (arcs_in (changed_at i change slots))
         ≡ changed_at (length (cond t (b ∷ front) front)) change (cond t (b ∷ arcs_in slots) (arcs_in slots))

@@ -60,6 +60,7 @@ other_way i j = not_held (same_side (side_at i Along) (side_at j Against)) (λ e
     is_along : Way → Bool
     is_along Along = true
     is_along Against = false
+
     along_against : Along ≡ Against → ⊥
     along_against e = false≢true (sym (ap is_along e))
 
@@ -86,6 +87,7 @@ one_side f face w i zero (a ∷ arcs) lt =
   where
     none : i + 0 ≡ i
     none = omega arith
+
     by : (v : Way) → with_side v f (record a { left = face (side_at i Along); right = face (side_at i Against) }) ∷ with_faces (one_more f (side_at (i + 0) v) face) (i + 1) arcs
         ≡ with_faces (one_more f (side_at (i + 0) v) face) i (a ∷ arcs)
     by Along =
@@ -161,6 +163,7 @@ sides_over arcs f new moved within beside =
     never : (b : Bool) → (b && false) ≡ false
     never true = refl
     never false = refl
+
     told : (s : Side) (row : List Side) → All (λ t. face_of (spans_of arcs) t ≡ f) row → list_any (same_side s) row ≡ true → eqb (face_of (spans_of arcs) s) f ≡ true
     told s [] all e = absurd (false≢true e)
     told s (t ∷ row) all e =
@@ -239,6 +242,7 @@ over_are arcs f points moved e = by_sectors (sectors_of (spans_of arcs) f points
     by_walk : (o : Option (List Side)) → (let r : Result (List Side) ℕ = ok_or o 12 then λ walk. Ok (moved_sides arcs f points walk) in r ≡ Ok moved) → AreOver arcs f moved
     by_walk None h = absurd cc
     by_walk (Some walk) h = (let same : moved_sides arcs f points walk ≡ moved = cc in subst (AreOver arcs f) same (moved_are arcs f points walk))
+
     by_sectors : (o : Option (Side × Side)) → (let r : Result (List Side) ℕ = ok_or o 9 then λ s. ok_or (walk_between (spans_of arcs) f s.0 s.1) 12 then λ walk. Ok (moved_sides arcs f points walk) in r ≡ Ok moved)
         → AreOver arcs f moved
     by_sectors None h = absurd cc
@@ -251,6 +255,7 @@ cut_made slots f new points moved some e = by (cut_off_sides (arcs_in slots) f p
   where
     arc : BaseArc
     arc = record { left = new; right = f; points = points }
+
     by : (r : Result (List Side) ℕ) → cut_off_sides (arcs_in slots) f points ≡ r → (let s : Result (List SlotSide) ℕ = r >>= λ sides. Ok (map (slot_side slots) sides) in s ≡ Ok moved)
         → (r >>= λ sides. Ok (divided_arcs (arcs_in slots) f new points sides)) ≡ Ok (arcs_in (passed_over new moved slots ++ arc ∷ []))
     by (Ok sides) is h =

@@ -273,14 +273,18 @@ others_left f g (a ∷ slots) =
   where
     other_gone : (k : ℕ) → is_there a ≡ false → is_other f g k a ≡ false
     other_gone k h = ap (λ (b : Bool). (b && borders_face k a) && not (is_taken f g a)) h
+
     none_left : (s : Bool) → (s && not true) ≡ false
     none_left true = refl
     none_left false = refl
+
     other_taken : (k : ℕ) → is_taken f g a ≡ true → is_other f g k a ≡ false
     other_taken k e = ap (λ (b : Bool). (is_there a && borders_face k a) && not b) e ∙ none_left (is_there a && borders_face k a)
+
     all_left : (s : Bool) → (s && not false) ≡ s
     all_left true = refl
     all_left false = refl
+
     other_kept : (k : ℕ) → is_there a ≡ true → is_taken f g a ≡ false → is_other f g k a ≡ borders_face k a
     other_kept k t e =
         ap (λ (b : Bool). (is_there a && borders_face k a) && not b) e

@@ -28,9 +28,7 @@ use face_cuts::{are_different, cut_along, inner_points};
 use ring_walk::Side;
 use std::alloc::Global;
 use std::marker::Model;
-use tgap_model::{
-    BaseArc, List, MAX_ARCS, MAX_POINTS, Memory, Or, Point, copied_arcs,
-};
+use tgap_model::{BaseArc, List, MAX_ARCS, MAX_POINTS, Memory, Or, Point, copied_arcs};
 
 /// The place of a point: the slot of its arc, and its position there.
 #[derive(Clone, Copy)]

@@ -103,10 +103,7 @@ fn goes_on(arcs: &IndexedArcs, place: Place) -> Result<(), Or<u8>>
     requires after { place.at + 1 < length (arc_number arcs.now.slots place.slot).points }
     ensures { GivesWhole result (goes_on (arcs_of arcs.now) (pair_of arcs.now.slots place)) }
 {
-    ensured(
-        !turns_back(arcs.points(place.slot), place.at),
-        TURNS_BACK,
-    )
+    ensured(!turns_back(arcs.points(place.slot), place.at), TURNS_BACK)
 }
 
 /// Whether a map with so many faces and these arcs may have so many more faces, and an arc more with so many points.

@@ -224,6 +224,7 @@ const UPPER_LEFT: [Point; 3] = [
     Point { x: 0, y: 10 },
     Point { x: 0, y: 0 },
 ];
+
 const LOWER: [Point; 2] = [Point { x: 0, y: 0 }, Point { x: 10, y: 0 }];
 
 /// Cuts the left square from its lower left corner to its upper right one.
@@ -231,7 +232,13 @@ fn assert_cut(rt: &impl Abort, alloc: Global, base: &Base) -> Result<(), Or<Edit
     let cut = after(alloc, base, b"node 0 0\ncut 1 1 2 0 0 10 10\n")?;
     assert_arc(rt, &cut, 0, (3, 0), &UPPER_LEFT);
     assert_arc(rt, &cut, 3, (1, 0), &LOWER);
-    assert_arc(rt, &cut, 4, (3, 1), &[Point { x: 0, y: 0 }, Point { x: 10, y: 10 }]);
+    assert_arc(
+        rt,
+        &cut,
+        4,
+        (3, 1),
+        &[Point { x: 0, y: 0 }, Point { x: 10, y: 10 }],
+    );
     assert_map(rt, &cut, 1, &RIGHT, &[0, 1, 1]);
     Ok(())
 }
@@ -273,8 +280,20 @@ fn assert_all_lines(rt: &impl Abort, alloc: Global, base: &Base) -> Result<(), O
         Point { x: 6, y: 7 },
         Point { x: 10, y: 10 },
     ];
-    assert_arc(rt, &made, 0, (1, 0), &[Point { x: 10, y: 10 }, Point { x: -1, y: 0 }]);
-    assert_arc(rt, &made, 2, (2, 0), &[Point { x: -1, y: 0 }, Point { x: 10, y: 0 }]);
+    assert_arc(
+        rt,
+        &made,
+        0,
+        (1, 0),
+        &[Point { x: 10, y: 10 }, Point { x: -1, y: 0 }],
+    );
+    assert_arc(
+        rt,
+        &made,
+        2,
+        (2, 0),
+        &[Point { x: -1, y: 0 }, Point { x: 10, y: 0 }],
+    );
     assert_arc(rt, &made, 3, (1, 2), &new);
     assert_map(rt, &made, 1, &RIGHT, &[0, 1]);
     Ok(())

@@ -257,4 +257,3 @@ returns c =
     subst (λ (y : BaseMap). cut_named y c.args.face.now c.args.class.now points ≡ Ok (record m { classes = c.put_class.new.classes.items; arcs = arcs_of c.in_ok-cut.field-0 })) same
     (cut_to m c.args.face.now c.args.class.now points f k nf nk
     ∙ (made ∙ ap (λ (ks : List ℕ). Ok (record m { classes = ks; arcs = arcs_of c.in_ok-cut.field-0 })) (sym c.in_ok-put_class.ensures)))
-

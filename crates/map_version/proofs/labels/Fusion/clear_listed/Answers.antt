@@ -46,16 +46,15 @@ loop-slot-preserved c =
       | then-slot-slots w ↦
           let here = get_or_default slots j w.index-slots-slot.result (record { left = 0; right = 0; points = [] }) w.if-slot-slots.true in
           let set_there = w.slots-is ∙ ap (set slots j) (w.clear.ensures.arc ∙ ap (cleared f g) here) in
-          let counts_there = w.counts-is ∙ (w.clear.ensures.counts ∙ ap (λ (a : BaseArc). counted_without f g a counts) here) in
-          (
+          let counts_there = w.counts-is ∙ (w.clear.ensures.counts ∙ ap (λ (a : BaseArc). counted_without f g a counts) here) in (
             subst (λ (xs : List BaseArc). IsChanging (cleared f g) (is_taken f g) first xs left) (sym set_there) (changing_on (clearing f g) first slots j left w.if-slot-slots.true changing),
             subst (λ (xs : List BaseArc). AreCounted xs c.if-slot-slots.counts) (sym set_there)
-            (subst (AreCounted (set slots j (cleared f g (arc_number slots j)))) (sym counts_there) (counted_cleared f g slots j counts w.if-slot-slots.true c.loop-slot.invariant.1)),
+                (subst (AreCounted (set slots j (cleared f g (arc_number slots j)))) (sym counts_there) (counted_cleared f g slots j counts w.if-slot-slots.true c.loop-slot.invariant.1)),
           )
       | else-slot-slots w ↦ (
-          subst (λ (xs : List BaseArc). IsChanging (cleared f g) (is_taken f g) first xs left) (sym w.slots-is) (changing_past first slots j left w.if-slot-slots.false changing),
-          subst (λ (xs : List BaseArc). AreCounted xs c.if-slot-slots.counts) (sym w.slots-is) (subst (AreCounted slots) (sym w.counts-is) c.loop-slot.invariant.1),
-        )
+        subst (λ (xs : List BaseArc). IsChanging (cleared f g) (is_taken f g) first xs left) (sym w.slots-is) (changing_past first slots j left w.if-slot-slots.false changing),
+        subst (λ (xs : List BaseArc). AreCounted xs c.if-slot-slots.counts) (sym w.slots-is) (subst (AreCounted slots) (sym w.counts-is) c.loop-slot.invariant.1),
+      )
     ]
 
 pub returns-clause-slots : goal.returns-clause-slots
