@@ -76,7 +76,7 @@ fn map_of(
     };
     let mut list = List::new(alloc);
     for (left, right, points) in arcs {
-        list.push(arc(alloc, *left, *right, points)?)?;
+        list.push(arc(alloc, *left, *right, *points)?)?;
     }
     let classes = List::from(Vec::from_slice(alloc, classes)?);
     Ok(Base::new(transform, equal_rules(alloc)?, classes, list))
@@ -84,14 +84,18 @@ fn map_of(
 
 /// Two faces with one arc between them and no other arc.
 pub fn one_arc(alloc: Global) -> Result<Option<Base>, Memory> {
-    map_of(alloc, &[0, 1], &[(1, 2, &[(0, 0), (10, 0)])])
+    map_of(alloc, &[0, 1], &[(1, 2, [(0, 0), (10, 0)].as_slice())])
 }
 
 /// A face of two squares apart from each other, each a ring with one node, (0,0) and (20,0).
 pub fn two_rings(alloc: Global) -> Result<Option<Base>, Memory> {
     let first = [(0, 0), (10, 0), (10, 10), (0, 10), (0, 0)];
     let second = [(20, 0), (30, 0), (30, 10), (20, 10), (20, 0)];
-    map_of(alloc, &[0], &[(1, 0, &first), (1, 0, &second)])
+    map_of(
+        alloc,
+        &[0],
+        &[(1, 0, first.as_slice()), (1, 0, second.as_slice())],
+    )
 }
 
 /// The sides of an arc of a map; 0 and 0 where there is no such arc.
