@@ -1,7 +1,6 @@
 -- How many arcs are there in slots, and how many points they have, as one of them changes.
-use Rattle.std.proofs.Common.{◌≡◌, ◌∙◌, ℕ, zero, suc, ◌+◌, ◌-◌, ◌≤◌, ◌<◌, nat_le, nat_lt, IsTrue, Bool, true, false, ◌&&◌, cond, List, [], ◌∷◌, ◌++◌, length, filter, map, take, set, refl, sym, ap, subst, arith}
-use Rattle.std.specs.List.{sum_by}
-use Rattle.std.proofs.lemmas.Bool.{and_parts, cond-true, cond-false, false≢true}
+use Rattle.std.proofs.Common.{◌≡◌, ◌∙◌, ℕ, zero, suc, ◌+◌, ◌-◌, ◌≤◌, ◌<◌, nat_le, nat_lt, IsTrue, Bool, true, false, ◌&&◌, cond, List, [], ◌∷◌, ◌++◌, length, map, set, refl, sym, ap, subst, arith}
+use Rattle.std.proofs.lemmas.Bool.{and_parts}
 use Rattle.std.proofs.lemmas.List.{length-append, length-map}
 use Rattle.std.proofs.lemmas.List.Elements.{filter-append}
 use Rattle.std.proofs.lemmas.List.Sums.{sum_by-set, sum_by-cons, sum_by-append}
@@ -14,7 +13,7 @@ use Rattle.edit_laws.specs.Edits.{move_all, moved, with_points}
 use Rattle.edit_laws.proofs.Laws.{moved_count}
 use Rattle.edit_laws.proofs.Cases.{by_test}
 use Rattle.face_cuts.specs.Fusions.{is_between, relabelled}
-use Rattle.arc_places.specs.Slots.{arcs_in, is_there, number_of}
+use Rattle.arc_places.specs.Slots.{arcs_in, is_there}
 use Rattle.map_version.specs.declared.labels.Counts.{Counts}
 use Rattle.map_version.specs.Indexed.{AreCounted, has_more}
 use Rattle.map_version.specs.Labels.{cleared, counted_without, is_taken, renamed}

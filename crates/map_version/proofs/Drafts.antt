@@ -1,5 +1,5 @@
 -- What the tests of an edit let pass.
-use Rattle.std.proofs.Common.{◌≡◌, ◌∙◌, ℕ, zero, suc, ◌<◌, length, pos, arith, [], ◌∷◌, Bool, true, false, not, nat_lt, List, insert, remove, Option, Some, None, Result, Ok, Err, refl, sym, ap, subst}
+use Rattle.std.proofs.Common.{◌≡◌, ◌∙◌, ℕ, suc, ◌<◌, length, pos, arith, [], ◌∷◌, Bool, true, false, not, nat_lt, List, insert, remove, Option, Some, None, Result, Ok, Err, refl, sym, ap, subst}
 use Rattle.std.specs.Prelude.{option_map}
 use Rattle.std.specs.Option.{ok_or}
 use Rattle.tgap_model.specs.declared.failure.Or.{Or}
@@ -17,7 +17,7 @@ use Rattle.edit_laws.proofs.Laws.{are_same, turns_back_is}
 use Rattle.map_version.specs.declared.arcs.Place.{Place}
 use Rattle.map_version.specs.Positions.{segment_at, inner_at, turns_at, first_place, changed_at}
 use Rattle.std.specs.List.{list_all}
-use Rattle.std.proofs.lemmas.Bool.{and_from, and_parts, false≢true, le-leb}
+use Rattle.std.proofs.lemmas.Bool.{and_from, false≢true, le-leb}
 use Rattle.tgap_model.proofs.BaseFacts.{arc_facts}
 use Rattle.std.proofs.lemmas.List.Elements.{All-weaker}
 use Rattle.std.proofs.lemmas.List.Sums.{AllPass-from_list_all}

@@ -1,5 +1,5 @@
 -- What is found in slots, and what is changed there, is so in the arcs that are there.
-use Rattle.std.proofs.Common.{◌≡◌, ◌∙◌, ℕ, zero, suc, ◌<◌, ◌≤◌, nat_lt, Bool, true, false, ◌&&◌, ◌||◌, cond, List, [], ◌∷◌, ◌++◌, length, filter, map, take, drop, set, ◌+◌, ◌-◌, Option, Some, None, refl, sym, ap, subst, arith}
+use Rattle.std.proofs.Common.{◌≡◌, ◌∙◌, ℕ, zero, suc, ◌<◌, ◌≤◌, nat_lt, Bool, true, false, ◌&&◌, ◌||◌, cond, List, [], ◌∷◌, ◌++◌, length, filter, map, take, drop, set, ◌+◌, ◌-◌, Option, Some, None, refl, sym, ap, arith}
 use Rattle.std.specs.Prelude.{option_map}
 use Rattle.std.specs.List.{list_any, list_all}
 use Rattle.std.proofs.lemmas.Bool.{and_from, and_parts, or_left, or_right, false≢true, lt-ltb, ltb-true, ltb-false}
@@ -14,7 +14,7 @@ use Rattle.edit_laws.specs.Edits.{has_point, is_node, with_points, move_all, mov
 use Rattle.edit_laws.proofs.Cases.{by_test, by_option}
 use Rattle.face_cuts.specs.Nodes.{passes, split_at}
 use Rattle.arc_places.specs.Slots.{arcs_in, is_there, number_of}
-use Rattle.arc_places.specs.Places.{arc_passes, is_among, Covers}
+use Rattle.arc_places.specs.Places.{arc_passes, Covers}
 use Rattle.arc_places.specs.Borders.{CoversFaces, is_beside}
 use Rattle.arc_places.proofs.SlotNumbers.{arc_there}
 use Rattle.map_version.specs.Indexed.{ends_there}

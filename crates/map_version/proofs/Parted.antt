@@ -1,9 +1,8 @@
 -- Sides that go over to a new face, by the numbers of their arcs and by their slots.
-use Rattle.std.proofs.Common.{◌≡◌, ◌≢◌, ◌∙◌, ℕ, zero, suc, ◌+◌, ◌≤◌, ◌<◌, nat_lt, eqb, nat_le, IsTrue, Bool, true, false, ◌&&◌, ◌||◌, cond, All, Option, Some, None, Result, Ok, Err, List, [], ◌∷◌, ◌++◌, length, map, filter, set, get_or, refl, sym, ap, subst, arith}
+use Rattle.std.proofs.Common.{◌≡◌, ◌≢◌, ◌∙◌, ℕ, zero, suc, ◌+◌, ◌≤◌, ◌<◌, eqb, nat_le, IsTrue, Bool, true, false, ◌&&◌, ◌||◌, cond, All, Option, Some, None, Result, Ok, Err, List, [], ◌∷◌, ◌++◌, length, map, filter, set, get_or, refl, sym, ap, subst, arith}
 use Rattle.std.specs.List.{list_any}
 use Rattle.std.specs.Option.{ok_or}
-use Rattle.std.proofs.lemmas.Bool.{and_parts, cond-true, cond-false, eqb-true, eq-eqb, false≢true}
-use Rattle.std.proofs.lemmas.List.{length-set}
+use Rattle.std.proofs.lemmas.Bool.{cond-true, cond-false, eqb-true, eq-eqb, false≢true}
 use Rattle.std.proofs.lemmas.List.Elements.{All-cons, All-filter, All-head, All-nil, All-tail, filter-append}
 use Rattle.tgap_model.specs.declared.limits.TheConstants.{MAX_ARCS, MAX_POINTS}
 use Rattle.tgap_model.specs.declared.geometry.Point.{Point}
@@ -28,7 +27,7 @@ use Rattle.face_cuts.specs.Moves.{cut_off_sides, divided_arcs, face_with, is_mov
 use Rattle.face_cuts.proofs.CutsKeep.{number_of}
 use Rattle.face_cuts.proofs.SpansOfArcs.{beside_within}
 use Rattle.arc_places.specs.Slots.{arcs_in, is_there, slot_of, slots_from}
-use Rattle.arc_places.proofs.SlotNumbers.{IsSlotOf, arc_in_slot, length-slots_from, set_there, slot_there}
+use Rattle.arc_places.proofs.SlotNumbers.{arc_in_slot, length-slots_from, set_there, slot_there}
 use Rattle.map_version.specs.declared.labels.Counts.{Counts}
 use Rattle.map_version.specs.declared.labels.SlotSide.{SlotSide}
 use Rattle.map_version.specs.Indexed.{cut_arcs, has_more}

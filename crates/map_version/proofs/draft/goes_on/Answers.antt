@@ -1,5 +1,4 @@
-use Rattle.std.proofs.Common.{◌≡◌, ◌∙◌, ◌≤◌, Bool, true, not, List, length, sym, ap, subst, arith}
-use Rattle.tgap_model.specs.declared.failure.Or.{Or}
+use Rattle.std.proofs.Common.{◌≡◌, ◌∙◌, Bool, not, List, sym, ap, subst, arith}
 use Rattle.tgap_model.specs.declared.failure.Or.TheVariants.{Fault}
 use Rattle.tgap_model.specs.declared.geometry.Point.{Point}
 use Rattle.tgap_model.specs.declared.base.BaseArc.{BaseArc}

@@ -1,8 +1,8 @@
-use Rattle.std.proofs.Common.{◌≡◌, ◌≤◌, ◌∙◌, IsTrue, Option, List, ℕ, length, sym, ap, subst, arith}
+use Rattle.std.proofs.Common.{◌≡◌, ◌≤◌, ◌∙◌, IsTrue, Option, List, length, sym, ap, subst, arith}
 use Rattle.std.proofs.lemmas.Result.{IfOk-weaker}
 use Rattle.tgap_model.specs.declared.base.BaseArc.{BaseArc}
 use Rattle.tgap_model.specs.declared.limits.TheConstants.{MAX_POINTS}
-use Rattle.tgap_model.specs.Base.{BaseMap, count_points, is_base}
+use Rattle.tgap_model.specs.Base.{count_points, is_base}
 use Rattle.tgap_model.proofs.BaseFacts.{base_facts}
 use Rattle.arc_places.specs.Slots.{arcs_in}
 use Rattle.arc_places.specs.Borders.{HaveFaces}

@@ -1,8 +1,8 @@
-use Rattle.std.proofs.Common.{◌≡◌, ◌∙◌, ◌≤◌, ℕ, true, List, length, map, sym, ap, subst, arith}
+use Rattle.std.proofs.Common.{◌≡◌, ◌∙◌, ℕ, List, length, map, sym, ap, subst, arith}
 use Rattle.tgap_model.specs.declared.base.BaseArc.{BaseArc}
 use Rattle.face_cuts.specs.Fusions.{relabelled, renumbered}
 use Rattle.arc_places.specs.Slots.{arcs_in}
-use Rattle.arc_places.specs.Places.{arc_passes, listed}
+use Rattle.arc_places.specs.Places.{listed}
 use Rattle.arc_places.specs.Borders.{HaveFaces, bordering, face_count}
 use Rattle.arc_places.proofs.FusedLists.{fused_covers}
 use Rattle.map_version.specs.Indexed.{AreCounted, AreIndexed, Indexed, arcs_of, fused_arcs}

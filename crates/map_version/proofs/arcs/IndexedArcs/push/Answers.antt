@@ -6,7 +6,6 @@ use Rattle.tgap_model.specs.declared.base.BaseArc.{BaseArc}
 use Rattle.tgap_model.specs.Base.{same_point}
 use Rattle.arc_places.specs.Places.{is_among, listed}
 use Rattle.arc_places.specs.Borders.{bordering}
-use Rattle.map_version.specs.declared.labels.Counts.{Counts}
 use Rattle.map_version.specs.Indexed.{AreCounted, AreIndexed}
 use Rattle.map_version.proofs.Counting.{counted_more}
 use Rattle.map_version.proofs.Relisting.{pushed_borders, pushed_places}

@@ -1,7 +1,6 @@
-use Rattle.std.proofs.Common.{◌≡◌, ◌<◌, ◌≤◌, ◌+◌, ◌-◌, ◌∙◌, ◌++◌, ◌∷◌, ℕ, IsTrue, List, [], length, take, drop, set, sym, ap, subst, arith}
+use Rattle.std.proofs.Common.{◌≡◌, ◌<◌, ◌≤◌, ◌+◌, ◌-◌, ◌∙◌, ◌++◌, ◌∷◌, IsTrue, List, [], length, take, drop, set, sym, ap, subst, arith}
 use Rattle.std.proofs.lemmas.List.{get_or_default, length-drop, length-take-le}
 use Rattle.std.proofs.lemmas.Result.{IfOk-weaker}
-use Rattle.tgap_model.specs.declared.geometry.Point.{Point}
 use Rattle.tgap_model.specs.declared.base.BaseArc.{BaseArc}
 use Rattle.tgap_model.specs.Base.{same_point}
 use Rattle.tgap_model.specs.Chains.{arc_number}
@@ -10,7 +9,7 @@ use Rattle.face_cuts.specs.Nodes.{split_at}
 use Rattle.arc_places.specs.Slots.{arcs_in}
 use Rattle.arc_places.specs.Places.{listed}
 use Rattle.arc_places.specs.Borders.{HaveFaces, bordering, face_count}
-use Rattle.map_version.specs.Indexed.{AreCounted, AreIndexed, Indexed, arcs_of, has_more}
+use Rattle.map_version.specs.Indexed.{AreIndexed, Indexed, arcs_of, has_more}
 use Rattle.map_version.specs.Firsts.{pair_of}
 use Rattle.map_version.specs.Positions.{changed_at}
 use Rattle.map_version.proofs.Firsts.{written_is_changed}

@@ -1,4 +1,4 @@
-use Rattle.std.proofs.Common.{◌≡◌, ◌∙◌, ◌<◌, ◌+◌, ℕ, IsTrue, nat_le, ◌&&◌, Bool, true, List, not, false, length, Some, Ok, sym, ap, subst, arith, rules}
+use Rattle.std.proofs.Common.{◌≡◌, ◌∙◌, ◌+◌, ℕ, IsTrue, nat_le, ◌&&◌, true, List, not, false, length, Ok, sym, ap, subst, arith, rules}
 use Rattle.std.specs.Prelude.{option_map}
 use Rattle.std.proofs.lemmas.Bool.{not-true, and_parts, and_from}
 use Rattle.tgap_model.specs.declared.base.BaseArc.{BaseArc}
@@ -10,7 +10,7 @@ use Rattle.face_cuts.specs.Outcomes.{has_room}
 use Rattle.face_cuts.specs.Nodes.{add_node, is_node}
 use Rattle.face_cuts.proofs.NodesKeep.{nodes_keep}
 use Rattle.arc_places.specs.Borders.{HaveFaces}
-use Rattle.map_version.specs.Indexed.{arcs_of, has_more}
+use Rattle.map_version.specs.Indexed.{arcs_of}
 use Rattle.map_version.specs.Firsts.{pair_of}
 use Rattle.map_version.specs.Drafts.{drafted}
 use Rattle.map_version.proofs.Drafts.{ensured_holds, found_is, have_faces, node_by, node_of, place_at}

@@ -1,9 +1,9 @@
-use Rattle.std.proofs.Common.{◌≡◌, ◌∙◌, ◌+◌, ◌<◌, ℕ, IsTrue, List, not, false, nat_lt, length, Some, Ok, sym, ap, subst, arith, rules}
+use Rattle.std.proofs.Common.{◌≡◌, ◌∙◌, ◌<◌, ℕ, IsTrue, List, not, false, nat_lt, length, Ok, sym, ap, subst, rules}
 use Rattle.std.specs.Prelude.{option_map}
 use Rattle.std.proofs.lemmas.Bool.{not-true, ltb-true}
 use Rattle.tgap_model.specs.declared.base.BaseArc.{BaseArc}
 use Rattle.tgap_model.specs.declared.limits.TheConstants.{MAX_POINTS}
-use Rattle.tgap_model.specs.Base.{BaseMap, is_base, count_points}
+use Rattle.tgap_model.specs.Base.{BaseMap, is_base}
 use Rattle.edit_laws.specs.Edits.{has_point, add_point}
 use Rattle.edit_laws.proofs.Laws.{add_again}
 use Rattle.plain_io.specs.Taking.{GivesWhole}

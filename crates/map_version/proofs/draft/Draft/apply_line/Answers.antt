@@ -1,4 +1,3 @@
-use Rattle.std.proofs.Common.{◌≡◌, ◌∙◌, Some, Ok, sym}
 use Rattle.edit_laws.specs.Edits.{read_edit}
 use Rattle.edit_laws.proofs.Batches.{edit_fits}
 use Rattle.map_version.specs.Lines.{told}

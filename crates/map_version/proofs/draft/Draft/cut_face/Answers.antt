@@ -1,4 +1,4 @@
-use Rattle.std.proofs.Common.{◌≡◌, ◌∙◌, ◌≤◌, ◌<◌, ◌+◌, ◌-◌, ◌++◌, ◌∷◌, ◌&&◌, nat_le, ℕ, IsTrue, true, Bool, List, [], Ok, length, sym, ap, subst, arith, rules}
+use Rattle.std.proofs.Common.{◌≡◌, ◌∙◌, ◌≤◌, ◌<◌, ◌+◌, ◌-◌, ◌∷◌, ◌&&◌, nat_le, ℕ, IsTrue, Bool, List, [], Ok, length, sym, ap, subst, arith, rules}
 use Rattle.std.specs.Option.{ok_or}
 use Rattle.std.proofs.lemmas.Bool.{and_from, and_parts, lt-ltb}
 use Rattle.std.proofs.lemmas.List.{length-append}
@@ -15,7 +15,7 @@ use Rattle.face_cuts.specs.Cuts.{are_free, cut_face}
 use Rattle.face_cuts.proofs.CutsKeep.{cuts_keep}
 use Rattle.face_cuts.proofs.NewLines.{are_lines, are_spans, new_line}
 use Rattle.map_version.specs.Indexed.{arcs_of, cut_arcs}
-use Rattle.map_version.specs.Drafts.{arcs_now, drafted}
+use Rattle.map_version.specs.Drafts.{drafted}
 use Rattle.map_version.proofs.Drafts.{ensured_holds, found_is, in_range, refused_then}
 use Rattle.map_version.proofs.DraftCuts.{cut_by, cut_chain, cut_is, cut_map, cut_to}
 use Rattle.map_version.proofs.draft.Draft.cut_face.Goals as goal

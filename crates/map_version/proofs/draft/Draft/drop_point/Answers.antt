@@ -1,10 +1,9 @@
-use Rattle.std.proofs.Common.{◌≡◌, ◌∙◌, ◌≤◌, ℕ, IsTrue, List, length, not, true, false, Some, Ok, sym, ap, subst, arith, rules}
+use Rattle.std.proofs.Common.{◌≡◌, ◌∙◌, ℕ, IsTrue, List, length, not, true, false, Ok, sym, ap, subst, arith, rules}
 use Rattle.std.specs.Prelude.{option_map}
 use Rattle.std.proofs.lemmas.Bool.{not-true}
 use Rattle.tgap_model.specs.declared.base.BaseArc.{BaseArc}
 use Rattle.tgap_model.specs.Base.{BaseMap, is_base}
 use Rattle.plain_io.specs.Taking.{GivesWhole}
-use Rattle.line_forms.specs.Lines.{◌>>=◌}
 use Rattle.edit_laws.specs.Edits.{has_point, is_node, drop_point}
 use Rattle.edit_laws.proofs.EditsKeep.{drops_keep}
 use Rattle.map_version.specs.Indexed.{arcs_of}

@@ -1,4 +1,4 @@
-use Rattle.std.proofs.Common.{◌∙◌, length, sym, arith}
+use Rattle.std.proofs.Common.{◌∙◌, sym, arith}
 use Rattle.tgap_model.specs.Base.{BaseMap}
 use Rattle.tgap_model.proofs.BaseFacts.{base_facts}
 use Rattle.edit_laws.proofs.Numbers.{named_most}

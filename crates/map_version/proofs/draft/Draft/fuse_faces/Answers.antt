@@ -1,4 +1,4 @@
-use Rattle.std.proofs.Common.{◌≡◌, ◌≢◌, ◌∙◌, ◌≤◌, ◌+◌, ◌||◌, ℕ, IsTrue, true, Bool, List, map, Some, Ok, length, sym, ap, subst, arith, rules}
+use Rattle.std.proofs.Common.{◌≡◌, ◌∙◌, ◌≤◌, ◌||◌, ℕ, IsTrue, true, List, map, Ok, length, sym, ap, subst, arith, rules}
 use Rattle.std.specs.List.{list_any}
 use Rattle.std.specs.Option.{ok_or}
 use Rattle.tgap_model.specs.declared.failure.Or.TheVariants.{Fault}
@@ -7,7 +7,7 @@ use Rattle.tgap_model.specs.Base.{BaseMap, borders_face, is_base}
 use Rattle.tgap_model.proofs.BaseFacts.{base_facts}
 use Rattle.plain_io.specs.Taking.{GivesWhole}
 use Rattle.edit_laws.specs.Edits.{fuse_named, named}
-use Rattle.face_cuts.specs.Fusions.{classes_without, is_between, is_face, others, relabelled, renumbered}
+use Rattle.face_cuts.specs.Fusions.{classes_without, is_between, others, relabelled, renumbered}
 use Rattle.face_cuts.proofs.FusionsKeep.{fusion_is_base, fusion_made, two_faces}
 use Rattle.arc_places.specs.Borders.{HaveFaces}
 use Rattle.map_version.specs.Indexed.{arcs_of, fused_arcs}

@@ -1,8 +1,8 @@
-use Rattle.std.proofs.Common.{◌≡◌, ◌∙◌, ℕ, IsTrue, List, length, not, false, true, Ok, sym, ap, subst}
+use Rattle.std.proofs.Common.{◌≡◌, ◌∙◌, ℕ, IsTrue, List, length, not, false, sym, ap, subst}
 use Rattle.std.proofs.lemmas.Bool.{not-true}
 use Rattle.tgap_model.specs.declared.base.BaseArc.{BaseArc}
 use Rattle.tgap_model.specs.Base.{BaseMap, is_base}
-use Rattle.edit_laws.specs.Edits.{has_point, move_point}
+use Rattle.edit_laws.specs.Edits.{has_point}
 use Rattle.edit_laws.proofs.Laws.{move_again}
 use Rattle.map_version.specs.Indexed.{arcs_of}
 use Rattle.map_version.specs.Drafts.{drafted}

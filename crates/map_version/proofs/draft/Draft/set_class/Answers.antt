@@ -1,4 +1,4 @@
-use Rattle.std.proofs.Common.{◌≡◌, ◌∙◌, ◌-◌, ◌<◌, ℕ, List, Option, IfSome, length, set, arith, sym, ap, subst}
+use Rattle.std.proofs.Common.{◌≡◌, ◌-◌, ◌<◌, ℕ, IfSome, length, sym, subst}
 use Rattle.std.proofs.lemmas.List.{length-set}
 use Rattle.tgap_model.specs.Base.{BaseMap}
 use Rattle.edit_laws.proofs.Laws.{classes_again}

@@ -1,9 +1,8 @@
-use Rattle.std.proofs.Common.{◌∙◌, ◌+◌, ◌≤◌, ◌≡◌, true, List, [], length, drop, get_or, set, sym, ap, subst, arith}
+use Rattle.std.proofs.Common.{◌∙◌, ◌+◌, List, [], length, drop, get_or, set, sym, ap, subst, arith}
 use Rattle.std.proofs.lemmas.List.{drop_more, drop_all, get_or_default}
 use Rattle.tgap_model.specs.declared.base.BaseArc.{BaseArc}
 use Rattle.tgap_model.specs.Chains.{arc_number}
 use Rattle.arc_places.specs.Slots.{is_there}
-use Rattle.map_version.specs.declared.labels.Counts.{Counts}
 use Rattle.map_version.specs.Indexed.{AreCounted}
 use Rattle.map_version.specs.Labels.{cleared, counted_without, is_taken}
 use Rattle.map_version.proofs.Changing.{IsChanging, changing_on, changing_past, changing_done}

@@ -1,6 +1,6 @@
-use Rattle.std.proofs.Common.{◌≡◌, ◌≢◌, ◌∙◌, ℕ, true, List, map, sym, ap, subst}
+use Rattle.std.proofs.Common.{◌≡◌, ◌∙◌, ℕ, true, List, map, sym, ap, subst}
 use Rattle.tgap_model.specs.declared.base.BaseArc.{BaseArc}
-use Rattle.face_cuts.specs.Fusions.{joined, renumbered}
+use Rattle.face_cuts.specs.Fusions.{joined}
 use Rattle.arc_places.specs.Places.{arc_passes, is_among}
 use Rattle.arc_places.specs.Borders.{is_beside}
 use Rattle.map_version.specs.Labels.{renamed}
