@@ -1,21 +1,21 @@
 -- How many arcs are there in slots, and how many points they have, as one of them changes.
-use Rattle.std.proofs.Common.{◌≡◌, ◌∙◌, ℕ, zero, suc, ◌+◌, ◌-◌, ◌≤◌, ◌<◌, nat_lt, Bool, true, false, ◌&&◌, cond, List, [], ◌∷◌, ◌++◌, length, filter, map, take, set, refl, sym, ap, subst, arith}
-use Rattle.std.specs.List.{sum_by}
-use Rattle.std.proofs.lemmas.Bool.{and_parts, cond-true, cond-false, false≢true}
+use Rattle.std.proofs.Common.{◌≡◌, ◌∙◌, ℕ, zero, suc, ◌+◌, ◌-◌, ◌≤◌, ◌<◌, nat_le, nat_lt, IsTrue, Bool, true, false, ◌&&◌, cond, List, [], ◌∷◌, ◌++◌, length, map, set, refl, sym, ap, subst, arith}
+use Rattle.std.proofs.lemmas.Bool.{and_parts}
 use Rattle.std.proofs.lemmas.List.{length-append, length-map}
 use Rattle.std.proofs.lemmas.List.Elements.{filter-append}
 use Rattle.std.proofs.lemmas.List.Sums.{sum_by-set, sum_by-cons, sum_by-append}
 use Rattle.tgap_model.specs.declared.geometry.Point.{Point}
 use Rattle.tgap_model.specs.declared.base.BaseArc.{BaseArc}
+use Rattle.tgap_model.specs.declared.limits.TheConstants.{MAX_ARCS, MAX_POINTS}
 use Rattle.tgap_model.specs.Base.{count_points}
 use Rattle.tgap_model.specs.Chains.{arc_number}
 use Rattle.edit_laws.specs.Edits.{move_all, moved, with_points}
 use Rattle.edit_laws.proofs.Laws.{moved_count}
 use Rattle.edit_laws.proofs.Cases.{by_test}
 use Rattle.face_cuts.specs.Fusions.{is_between, relabelled}
-use Rattle.arc_places.specs.Slots.{arcs_in, is_there, number_of}
+use Rattle.arc_places.specs.Slots.{arcs_in, is_there}
 use Rattle.map_version.specs.declared.labels.Counts.{Counts}
-use Rattle.map_version.specs.Indexed.{AreCounted}
+use Rattle.map_version.specs.Indexed.{AreCounted, has_more}
 use Rattle.map_version.specs.Labels.{cleared, counted_without, is_taken, renamed}
 use Rattle.map_version.specs.Positions.{changed_at}
 use Rattle.map_version.proofs.InSlots.{move_in, no_points, there}
@@ -177,3 +177,9 @@ counted_more slots a counts some counted =
     let n = counted.arcs_are in
     let p = counted.points_are in
     record { arcs_are = omega arith; points_are = omega arith }
+
+-- room for an arc more, by the counts
+pub more_room : (xs ys : List BaseArc) (n : ℕ) → length xs ≡ length ys → count_points xs + n ≡ count_points ys + 1 → IsTrue (has_more 1 1 ys) → IsTrue (has_more 1 n xs)
+more_room xs ys n e f h =
+    subst (λ (b : Bool). IsTrue b)
+    (ap (λ (k : ℕ). nat_le (k + 1) MAX_ARCS && nat_le (count_points ys + 1) MAX_POINTS) (sym e) ∙ ap (λ (k : ℕ). nat_le (length xs + 1) MAX_ARCS && nat_le k MAX_POINTS) (sym f)) h

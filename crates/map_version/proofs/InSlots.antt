@@ -1,5 +1,5 @@
 -- What is found in slots, and what is changed there, is so in the arcs that are there.
-use Rattle.std.proofs.Common.{◌≡◌, ◌∙◌, ℕ, zero, suc, ◌<◌, ◌≤◌, nat_lt, Bool, true, false, ◌&&◌, ◌||◌, cond, List, [], ◌∷◌, ◌++◌, length, filter, map, take, drop, set, ◌+◌, ◌-◌, Option, Some, None, refl, sym, ap, subst, arith}
+use Rattle.std.proofs.Common.{◌≡◌, ◌∙◌, ℕ, zero, suc, ◌<◌, ◌≤◌, nat_lt, Bool, true, false, ◌&&◌, ◌||◌, cond, List, [], ◌∷◌, ◌++◌, length, filter, map, take, drop, set, ◌+◌, ◌-◌, Option, Some, None, refl, sym, ap, arith}
 use Rattle.std.specs.Prelude.{option_map}
 use Rattle.std.specs.List.{list_any, list_all}
 use Rattle.std.proofs.lemmas.Bool.{and_from, and_parts, or_left, or_right, false≢true, lt-ltb, ltb-true, ltb-false}
@@ -14,7 +14,7 @@ use Rattle.edit_laws.specs.Edits.{has_point, is_node, with_points, move_all, mov
 use Rattle.edit_laws.proofs.Cases.{by_test, by_option}
 use Rattle.face_cuts.specs.Nodes.{passes, split_at}
 use Rattle.arc_places.specs.Slots.{arcs_in, is_there, number_of}
-use Rattle.arc_places.specs.Places.{arc_passes, is_among, Covers}
+use Rattle.arc_places.specs.Places.{arc_passes, Covers}
 use Rattle.arc_places.specs.Borders.{CoversFaces, is_beside}
 use Rattle.arc_places.proofs.SlotNumbers.{arc_there}
 use Rattle.map_version.specs.Indexed.{ends_there}
@@ -111,6 +111,7 @@ first_in find none (a ∷ slots) =
         ≡ option_map (numbered (a ∷ slots)) (option_map next_arc o)
     next None h = refl
     next (Some s) h = ap (λ (n : ℕ). let x : ℕ × ℕ = (n, s.1) in Some x) (sym (h s.0))
+
     same : (o : Option (ℕ × ℕ)) → ((i : ℕ) → number_of (a ∷ slots) (suc i) ≡ number_of slots i)
         → option_map (numbered slots) o
         ≡ option_map (numbered (a ∷ slots)) (option_map next_arc o)
@@ -148,6 +149,7 @@ changed_in (b ∷ slots) (suc i) change lt e f = by (is_there b) (changed_in slo
   where
     front : List BaseArc
     front = filter is_there (take i slots)
+
     by : (t : Bool) → arcs_in (changed_at i change slots) ≡ changed_at (length front) change (arcs_in slots)
         → cond t (b ∷ arcs_in (changed_at i change slots)) (arcs_in (changed_at i change slots))
         ≡ changed_at (length (cond t (b ∷ front) front)) change (cond t (b ∷ arcs_in slots) (arcs_in slots))
@@ -173,7 +175,7 @@ changed_borders lists i change slots here covers f j e =
     (λ h. and_from (is_there (arc_number slots i)) (borders_face f (arc_number slots i)) here
     (and_parts (is_there (with_points (arc_number slots i) (change (arc_number slots i).points))) (borders_face f (arc_number slots i)) h).1) j e)
 
-passes_all : (test : BaseArc → Bool) (f : BaseArc → BaseArc) → ((a : BaseArc) → test (f a) ≡ true → test a ≡ true) → (slots : List BaseArc) (i : ℕ)
+pub passes_all : (test : BaseArc → Bool) (f : BaseArc → BaseArc) → ((a : BaseArc) → test (f a) ≡ true → test a ≡ true) → (slots : List BaseArc) (i : ℕ)
     → arc_passes test (map f slots) i ≡ true → arc_passes test slots i ≡ true
 passes_all test f back [] i e = e
 passes_all test f back (a ∷ slots) zero e = back a e

@@ -9,5 +9,8 @@ pub mod Counting
 pub mod Relisting
 pub mod Least
 pub mod Moves
+pub mod PointRows
+pub mod Parted
+pub mod DraftCuts
 pub mod Drafts
 pub mod Batches

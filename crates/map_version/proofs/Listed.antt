@@ -63,6 +63,12 @@ listed_tell test arcs numbers covers =
     (λ e. some_listed (arc_passes test arcs) numbers e (λ i h. passes_any test arcs i h))
     (λ e. any_passes test arcs e (λ i h. listed_passes (arc_passes test arcs) numbers i (covers i h) h))
 
+-- the arc of a number, where one without points does not pass
+pub passes_number : (test : BaseArc → Bool) → test (record { left = 0; right = 0; points = [] }) ≡ false → (arcs : List BaseArc) (i : ℕ) → arc_passes test arcs i ≡ test (arc_number arcs i)
+passes_number test none [] i = sym none
+passes_number test none (a ∷ arcs) zero = refl
+passes_number test none (a ∷ arcs) (suc i) = passes_number test none arcs i
+
 -- ---- a search of the listed arcs
 
 pub one_found : (test : BaseArc → Bool) (arcs : List BaseArc) (i : ℕ) → arc_passes test arcs i ≡ true → true ≡ list_any test arcs

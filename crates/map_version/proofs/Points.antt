@@ -1,8 +1,8 @@
 -- The first position of a point that passes a test.
-use Rattle.std.proofs.Common.{◌≡◌, ◌∙◌, ℕ, zero, suc, ◌+◌, ◌<◌, nat_lt, Bool, true, false, cond, List, [], ◌∷◌, length, Option, Some, None, refl, sym, ap, arith}
+use Rattle.std.proofs.Common.{◌≡◌, ◌∙◌, ℕ, suc, ◌+◌, ◌<◌, nat_lt, Bool, true, false, ◌||◌, cond, List, [], ◌∷◌, length, Option, Some, None, refl, sym, ap, arith}
 use Rattle.std.specs.Prelude.{option_map}
 use Rattle.std.specs.List.{list_any, position, position_or_len}
-use Rattle.std.proofs.lemmas.Bool.{or_left, or_right, ltb-true, lt-ltb}
+use Rattle.std.proofs.lemmas.Bool.{false≢true, or_left, or_right, ltb-true, lt-ltb}
 use Rattle.edit_laws.proofs.Cases.{by_test, by_option, same_test}
 
 next_before : (j i : ℕ) → nat_lt (suc j) (suc i) ≡ nat_lt j i
@@ -38,3 +38,31 @@ position_has test (x ∷ xs) k e =
     (λ f. by_option (position test xs)
     (λ none. absurd (let g : position test (x ∷ xs) ≡ None = position_there test x xs f ∙ ap (option_map (λ (n : ℕ). suc n)) none in cc))
     (λ n some. or_right (test x) (list_any test xs) (position_has test xs n some)))
+
+-- and one that has none does not
+pub none_has : {X : Type 0} (test : X → Bool) (xs : List X) → position test xs ≡ None → list_any test xs ≡ false
+none_has test [] e = refl
+none_has test (x ∷ xs) e =
+    by_test (test x)
+    (λ t. absurd (let f = position_here test x xs t in cc))
+    (λ f. by_option (position test xs)
+    (λ none. ap (λ (b : Bool). b || list_any test xs) f ∙ none_has test xs none)
+    (λ k some. absurd (let g : position test (x ∷ xs) ≡ Some (suc k) = position_there test x xs f ∙ ap (option_map (λ (n : ℕ). suc n)) some in cc)))
+
+pub no_position : {X : Type 0} (test : X → Bool) (xs : List X) → list_any test xs ≡ false → position test xs ≡ None
+no_position test xs e =
+    by_option (position test xs) (λ none. none) (λ k some. absurd (false≢true (sym e ∙ position_has test xs k some)))
+
+-- a position is one in the list
+pub position_within : {X : Type 0} (test : X → Bool) (xs : List X) (k : ℕ) → position test xs ≡ Some k → k < length xs
+position_within test [] k e = absurd cc
+position_within test (x ∷ xs) k e =
+    by_test (test x)
+    (λ t. let f = position_here test x xs t in let here : 0 ≡ k = cc in omega arith)
+    (λ f. by_option (position test xs)
+    (λ none. absurd (let g : position test (x ∷ xs) ≡ None = position_there test x xs f ∙ ap (option_map (λ (n : ℕ). suc n)) none in cc))
+    (λ n some.
+    let g : position test (x ∷ xs) ≡ Some (suc n) = position_there test x xs f ∙ ap (option_map (λ (n : ℕ). suc n)) some in
+    let here : suc n ≡ k = cc in
+    let lt = position_within test xs n some in
+    omega arith))

@@ -1,7 +1,7 @@
 -- Faces of arcs in slots: the arcs between two faces are taken out, and those that are there get other faces.
-use Rattle.std.proofs.Common.{◌≡◌, ◌≢◌, ◌∙◌, ℕ, zero, suc, ◌+◌, ◌≤◌, ◌<◌, eqb, nat_lt, Bool, true, false, ◌&&◌, ◌||◌, not, cond, List, [], ◌∷◌, ◌++◌, length, filter, map, set, refl, sym, ap, subst, arith}
+use Rattle.std.proofs.Common.{◌≡◌, ◌≢◌, ◌∙◌, ℕ, zero, suc, ◌≤◌, ◌<◌, eqb, Bool, true, false, ◌&&◌, ◌||◌, not, cond, List, [], ◌∷◌, length, map, refl, sym, ap, subst, arith}
 use Rattle.std.specs.List.{list_any}
-use Rattle.std.proofs.lemmas.Bool.{and_parts, or_parts, and_from, or_left, or_right, cond-true, cond-false, eqb-true, eqb-false, eq-eqb, false≢true}
+use Rattle.std.proofs.lemmas.Bool.{and_parts, or_parts, and_from, or_left, or_right, cond-true, cond-false, eqb-true, eq-eqb, false≢true}
 use Rattle.std.proofs.lemmas.List.Elements.{All-head, All-tail}
 use Rattle.tgap_model.specs.declared.geometry.Point.{Point}
 use Rattle.tgap_model.specs.declared.base.BaseArc.{BaseArc}
@@ -273,14 +273,18 @@ others_left f g (a ∷ slots) =
   where
     other_gone : (k : ℕ) → is_there a ≡ false → is_other f g k a ≡ false
     other_gone k h = ap (λ (b : Bool). (b && borders_face k a) && not (is_taken f g a)) h
+
     none_left : (s : Bool) → (s && not true) ≡ false
     none_left true = refl
     none_left false = refl
+
     other_taken : (k : ℕ) → is_taken f g a ≡ true → is_other f g k a ≡ false
     other_taken k e = ap (λ (b : Bool). (is_there a && borders_face k a) && not b) e ∙ none_left (is_there a && borders_face k a)
+
     all_left : (s : Bool) → (s && not false) ≡ s
     all_left true = refl
     all_left false = refl
+
     other_kept : (k : ℕ) → is_there a ≡ true → is_taken f g a ≡ false → is_other f g k a ≡ borders_face k a
     other_kept k t e =
         ap (λ (b : Bool). (is_there a && borders_face k a) && not b) e
@@ -327,29 +331,27 @@ fused_places lists f g label slots covers p i e = covers p i (back slots i e)
     back (a ∷ xs) zero h = fused_has f g label p a h
     back (a ∷ xs) (suc k) h = back xs k h
 
--- the faces of the arcs that are there are among so many
+-- a face of an arc is among so many
+face_within : (n h : ℕ) (a : BaseArc) → HasFaces n a → borders_face h a ≡ true → h ≤ n
+face_within n h a faces b =
+    by_test (eqb a.left h)
+    (λ l. let same = eqb-true a.left h l in let le = faces.left in omega arith)
+    (λ l.
+    let r : eqb a.right h ≡ true = sym (ap (λ (c : Bool). c || eqb a.right h) l) ∙ b in
+    let same = eqb-true a.right h r in
+    let le = faces.right in
+    omega arith)
+
+-- the faces of the arcs that are there are
 pub within_faces : (n : ℕ) (slots : List BaseArc) → HaveFaces n (arcs_in slots) → (h i : ℕ) → arc_passes (is_beside h) slots i ≡ true → h ≤ n
 within_faces n [] have h i e = absurd (false≢true e)
-within_faces n (a ∷ slots) have h i e =
-    by_test (is_there a)
-    (λ t. with_it i e (subst (λ (b : Bool). HaveFaces n (cond b (a ∷ arcs_in slots) (arcs_in slots))) t have))
-    (λ f. without i f e (subst (λ (b : Bool). HaveFaces n (cond b (a ∷ arcs_in slots) (arcs_in slots))) f have))
-  where
-    here : HasFaces n a → borders_face h a ≡ true → h ≤ n
-    here faces b =
-        by_test (eqb a.left h)
-        (λ l. let same = eqb-true a.left h l in let le = faces.left in omega arith)
-        (λ l.
-        let r : eqb a.right h ≡ true = sym (ap (λ (c : Bool). c || eqb a.right h) l) ∙ b in
-        let same = eqb-true a.right h r in
-        let le = faces.right in
-        omega arith)
-    with_it : (k : ℕ) → arc_passes (is_beside h) (a ∷ slots) k ≡ true → HaveFaces n (a ∷ arcs_in slots) → h ≤ n
-    with_it zero x all = here (All-head (HasFaces n) a (arcs_in slots) all) (and_parts (is_there a) (borders_face h a) x).1
-    with_it (suc k) x all = within_faces n slots (All-tail (HasFaces n) a (arcs_in slots) all) h k x
-    without : (k : ℕ) → is_there a ≡ false → arc_passes (is_beside h) (a ∷ slots) k ≡ true → HaveFaces n (arcs_in slots) → h ≤ n
-    without zero f x all = absurd (false≢true (sym f ∙ (and_parts (is_there a) (borders_face h a) x).0))
-    without (suc k) f x all = within_faces n slots all h k x
+within_faces n (a ∷ slots) have h zero e =
+    let parts = and_parts (is_there a) (borders_face h a) e in
+    face_within n h a (All-head (HasFaces n) a (arcs_in slots) (subst (λ (b : Bool). HaveFaces n (cond b (a ∷ arcs_in slots) (arcs_in slots))) parts.0 have)) parts.1
+within_faces n (a ∷ slots) have h (suc i) e =
+    within_faces n slots (by_test (is_there a)
+    (λ t. All-tail (HasFaces n) a (arcs_in slots) (subst (λ (b : Bool). HaveFaces n (cond b (a ∷ arcs_in slots) (arcs_in slots))) t have))
+    (λ f. subst (λ (b : Bool). HaveFaces n (cond b (a ∷ arcs_in slots) (arcs_in slots))) f have)) h i e
 
 -- so are those of one
 pub faces_of_slot : (n : ℕ) (slots : List BaseArc) (i : ℕ) → i < length slots → is_there (arc_number slots i) ≡ true → HaveFaces n (arcs_in slots) → HasFaces n (arc_number slots i)

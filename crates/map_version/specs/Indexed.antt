@@ -11,7 +11,6 @@ use Rattle.plain_io.specs.Taking.{Refuses}
 use Rattle.face_cuts.specs.Fusions.{others, relabelled, renumbered}
 use Rattle.face_cuts.specs.Moves.{cut_off_sides, divided_arcs}
 use Rattle.arc_places.specs.declared.places.Places.{Places}
-use Rattle.arc_places.specs.declared.borders.Borders.{Borders}
 use Rattle.arc_places.specs.Slots.{arcs_in, is_there}
 use Rattle.arc_places.specs.Places.{Covers, listed}
 use Rattle.arc_places.specs.Borders.{CoversFaces, bordering}
@@ -32,7 +31,7 @@ pub record AreCounted (slots : List BaseArc) (counts : Counts) : Type 0 where
   pub points_are : counts.points ≡ count_points (arcs_in slots)
 
 -- each arc that is there is listed for its points and for its faces, and is counted
-pub record AreIndexed (slots : List BaseArc) (places : Places) (borders : Borders) (counts : Counts) : Type 0 where
+pub record AreIndexed (slots : List BaseArc) (places : Places) (borders : List (List ℕ)) (counts : Counts) : Type 0 where
   pub by_point : Covers (listed places) slots
   pub by_face : CoversFaces (bordering borders) slots
   pub counted : AreCounted slots counts

@@ -28,9 +28,7 @@ use face_cuts::{are_different, cut_along, inner_points};
 use ring_walk::Side;
 use std::alloc::Global;
 use std::marker::Model;
-use tgap_model::{
-    BaseArc, List, MAX_ARCS, MAX_POINTS, Memory, Or, Point, copied_arcs,
-};
+use tgap_model::{BaseArc, List, MAX_ARCS, MAX_POINTS, Memory, Or, Point, copied_arcs};
 
 /// The place of a point: the slot of its arc, and its position there.
 #[derive(Clone, Copy)]
@@ -234,7 +232,7 @@ impl IndexedArcs {
 
     /// Whether the arc in this slot is there and between the two faces.
     fn is_between_at(&self, slot: usize, fusion: &Fusion) -> bool
-        ensures { result ≡ arc_passes (is_taken fusion.now.kept fusion.now.gone) self.now.slots slot }
+        ensures { result ≡ is_taken fusion.now.kept fusion.now.gone (arc_number self.now.slots slot) }
     {
         match self.slots.get(slot) {
             Some(arc) => fusion.is_between(arc),
@@ -244,7 +242,7 @@ impl IndexedArcs {
 
     /// Whether the arc in this slot is there, has this face as a side, and is not between the two faces.
     fn is_other_at(&self, slot: usize, fusion: &Fusion, face: u32) -> bool
-        ensures { result ≡ arc_passes (is_other fusion.now.kept fusion.now.gone face) self.now.slots slot }
+        ensures { result ≡ is_other fusion.now.kept fusion.now.gone face (arc_number self.now.slots slot) }
     {
         match self.slots.get(slot) {
             Some(arc) => fusion.is_other(arc, face),
@@ -277,7 +275,6 @@ impl IndexedArcs {
     }
 
     /// Whether some other arc has one of the two faces as a side.
-    #[tactic(auto, using(crate::proofs::Renaming::others_left))]
     pub fn is_any_left(&self, fusion: &Fusion) -> bool
         ensures { result ≡ list_any (λ a. borders_face fusion.now.kept a || borders_face fusion.now.gone a) (others fusion.now.kept fusion.now.gone (arcs_of self.now)) }
     {
@@ -446,7 +443,7 @@ impl IndexedArcs {
         requires spans { AreSpans (spans_of (arcs_of self)) }
         requires line { IsNewLine points }
         requires room { IsTrue (has_more 1 (length points) (arcs_of self)) }
-        ensures arcs { GivesArcs result (cut_arcs (arcs_of self) face new points.entry) }
+        ensures arcs { GivesArcs result (cut_arcs (arcs_of self) face new points) }
         ensures faces { IfOk result (λ arcs. arcs.faces ≡ self.faces + 1) }
     {
         let moved = self.moved_sides(alloc, face, points.as_slice())?;

@@ -1,21 +1,20 @@
 //! A base map to which the lines of a batch are applied.
 
-ghost use Rattle.std.specs.Prelude.{◌≡◌, ◌≤◌, ◌<◌, ◌+◌, ◌-◌, ◌^◌, ◌&&◌, length, nat_le, IfSome, IfOk, IsTrue};
+ghost use Rattle.std.specs.Prelude.{◌≡◌, ◌≤◌, ◌<◌, ◌+◌, ◌-◌, ◌^◌, ◌&&◌, ◌++◌, ◌∷◌, [], length, nat_le, IfSome, IfOk, OnOk, IsTrue};
 ghost use Rattle.std.specs.List.{list_all};
 ghost use Rattle.std.specs.Option.{ok_or};
 ghost use Rattle.tgap_model.specs.declared.failure.Or.TheVariants.{Fault};
-ghost use Rattle.tgap_model.specs.Base.{is_base, in_limits};
+ghost use Rattle.tgap_model.specs.Base.{count_points, is_base, in_limits};
 ghost use Rattle.tgap_model.specs.Chains.{arc_number};
 ghost use Rattle.edit_laws.specs.Edits.{named, set_class, move_point, add_point, drop_point, cut_named, fuse_named, apply, apply_line};
 ghost use Rattle.face_cuts.specs.Nodes.{add_node};
+ghost use Rattle.face_cuts.specs.Fusions.{classes_without};
 ghost use Rattle.plain_io.specs.Taking.{GivesWhole};
 ghost use Rattle.edit_laws.specs.EditLaws.{FitsLimits};
-ghost use Rattle.arc_places.specs.Slots.{arcs_in};
-ghost use Rattle.arc_places.specs.Borders.{HaveFaces};
-ghost use Rattle.map_version.specs.Indexed.{arcs_of, has_more};
+ghost use Rattle.map_version.specs.Indexed.{arcs_of};
 ghost use Rattle.map_version.specs.Firsts.{pair_of};
 ghost use Rattle.map_version.specs.Lines.{told};
-ghost use Rattle.map_version.specs.Drafts.{arcs_now, drafted};
+ghost use Rattle.map_version.specs.Drafts.{IsDraft, arcs_now, drafted};
 ghost use Rattle.map_version.specs.Drops.{goes_on};
 
 use crate::arcs::{IndexedArcs, Place};
@@ -30,7 +29,7 @@ use plain_io::{Pieces, read_number};
 use std::alloc::Global;
 use std::marker::Model;
 use tgap_model::{
-    Base, BaseArc, List, MAX_FACES, MAX_POINTS, Memory, Or, Point, copied_rules,
+    Base, BaseArc, List, MAX_ARCS, MAX_FACES, MAX_POINTS, Memory, Or, Point, copied_rules,
 };
 
 /// A base map with other classes, and from the first line on that does more than set a class with other arcs, which are a copy with
@@ -63,22 +62,20 @@ fn named(word: &[u8], least: u32, most: usize) -> Option<usize>
     Some(number as usize)
 }
 
-/// The arcs that were indexed, or else those of the base map, of which there are so many faces.
+/// The arcs that were indexed, or else those of the base map, of which there are so many faces as classes.
 fn own_arcs(
     alloc: Global,
     base: &Base,
-    faces: usize,
+    classes: &[u32],
     indexed: Option<IndexedArcs>,
 ) -> Result<IndexedArcs, Memory>
-    requires few { faces < 2 ^ 32 }
-    requires faces { HaveFaces faces (arcs_now indexed base.now.arcs) }
-    requires indexed { IfSome indexed (λ x. x.faces ≡ faces) }
+    requires { IsDraft (drafted base.now classes.now (arcs_now indexed base.now.arcs)) indexed }
     ensures arcs { IfOk result (λ arcs. arcs_of arcs ≡ arcs_now indexed base.now.arcs) }
-    ensures faces { IfOk result (λ arcs. arcs.faces ≡ faces) }
+    ensures faces { IfOk result (λ arcs. arcs.faces ≡ length classes.now) }
 {
     match indexed {
         Some(arcs) => Ok(arcs),
-        None => IndexedArcs::of(alloc, base.arcs().as_slice(), faces),
+        None => IndexedArcs::of(alloc, base.arcs().as_slice(), classes.len()),
     }
 }
 
@@ -106,15 +103,33 @@ fn goes_on(arcs: &IndexedArcs, place: Place) -> Result<(), Or<u8>>
     requires after { place.at + 1 < length (arc_number arcs.now.slots place.slot).points }
     ensures { GivesWhole result (goes_on (arcs_of arcs.now) (pair_of arcs.now.slots place)) }
 {
-    let turns = turns_back(arcs.points(place.slot), place.at);
-    ensured(!turns, TURNS_BACK)
+    ensured(!turns_back(arcs.points(place.slot), place.at), TURNS_BACK)
 }
 
 /// Whether a map with so many faces and these arcs may have so many more faces, and an arc more with so many points.
 fn has_room(faces: usize, arcs: &IndexedArcs, more: usize, points: usize) -> bool
-    ensures { result ≡ (nat_le (faces + more) MAX_FACES && has_more 1 points (arcs_of arcs.now)) }
+    ensures { result ≡ (nat_le (faces + more) MAX_FACES && nat_le (length (arcs_of arcs.now) + 1) MAX_ARCS && nat_le (count_points (arcs_of arcs.now) + points) MAX_POINTS) }
 {
     faces <= MAX_FACES && more <= MAX_FACES - faces && arcs.has_room(1, points)
+}
+
+/// Puts the class of a new last face after the others.
+fn put_class(classes: &mut Vec<u32>, class: u32) -> Result<(), Memory>
+    ensures { OnOk result (classes.new.items ≡ classes.old.items ++ class ∷ []) }
+{
+    classes.push(class)?;
+    Ok(())
+}
+
+/// Takes the class of a face out. In its place there is that of the last face.
+fn take_out(classes: &mut Vec<u32>, gone: u32)
+    requires some { 1 ≤ gone }
+    requires within { gone ≤ length classes.old.items }
+    ensures { classes.new.items ≡ classes_without gone classes.old.items }
+{
+    let last = classes.len() - 1;
+    classes[gone as usize - 1] = classes[last];
+    classes.truncate(last);
 }
 
 impl<'a> Draft<'a> {
@@ -209,7 +224,8 @@ impl<'a> Draft<'a> {
         requires { IsTrue (in_limits new) }
         ensures { GivesWhole result (move_point self.entry old.now new) }
     {
-        let arcs = own_arcs(alloc, self.base, self.classes.len(), self.arcs)?;
+        let indexed = self.arcs;
+        let arcs = own_arcs(alloc, self.base, &self.classes, indexed)?;
         ensured(arcs.has_point(old), NO_SUCH_POINT)?;
         ensured(!arcs.has_point(&new), POINT_TAKEN)?;
         self.arcs = Some(arcs.move_all(alloc, old, new)?);
@@ -227,7 +243,8 @@ impl<'a> Draft<'a> {
         requires { IsTrue (in_limits new) }
         ensures { GivesWhole result (add_point self.entry a b new) }
     {
-        let arcs = own_arcs(alloc, self.base, self.classes.len(), self.arcs)?;
+        let indexed = self.arcs;
+        let arcs = own_arcs(alloc, self.base, &self.classes, indexed)?;
         let place = found(arcs.place_of(&Sought::Segment(a, b)), NO_SUCH_SEGMENT)?;
         ensured(!arcs.has_point(&new), POINT_TAKEN)?;
         ensured(arcs.count_points() < MAX_POINTS, NO_ROOM)?;
@@ -240,7 +257,8 @@ impl<'a> Draft<'a> {
     fn drop_point(mut self, alloc: Global, old: Point) -> Result<Draft<'a>, Or<u8>>
         ensures { GivesWhole result (drop_point self.entry old) }
     {
-        let arcs = own_arcs(alloc, self.base, self.classes.len(), self.arcs)?;
+        let indexed = self.arcs;
+        let arcs = own_arcs(alloc, self.base, &self.classes, indexed)?;
         ensured(arcs.has_point(&old), NO_SUCH_POINT)?;
         ensured(!arcs.is_node(&old), IS_NODE)?;
         let place = found(arcs.place_of(&Sought::Inner(old)), NO_SUCH_POINT)?;
@@ -254,7 +272,8 @@ impl<'a> Draft<'a> {
     fn add_node(mut self, alloc: Global, at: Point) -> Result<Draft<'a>, Or<u8>>
         ensures { GivesWhole result (add_node self.entry at) }
     {
-        let arcs = own_arcs(alloc, self.base, self.classes.len(), self.arcs)?;
+        let indexed = self.arcs;
+        let arcs = own_arcs(alloc, self.base, &self.classes, indexed)?;
         let place = found(arcs.place_of(&Sought::Any(at)), NO_SUCH_POINT)?;
         ensured(!arcs.is_node(&at), IS_NODE)?;
         ensured(has_room(self.classes.len(), &arcs, 0, 1), PAST_LIMIT)?;
@@ -273,17 +292,20 @@ impl<'a> Draft<'a> {
     ) -> Result<Draft<'a>, Or<u8>>
         requires long { 2 ≤ length points }
         requires limits { IsTrue (list_all in_limits points) }
-        ensures { GivesWhole result (cut_named self.entry face.now class.now points.entry) }
+        ensures { GivesWhole result (cut_named self.entry face.now class.now points) }
     {
         let face = self.face_named(face)?;
         let class = self.class_named(class)?;
-        let arcs = own_arcs(alloc, self.base, self.classes.len(), self.arcs)?;
-        let room = has_room(self.classes.len(), &arcs, 1, points.len());
-        ensured(room, PAST_LIMIT)?;
+        let indexed = self.arcs;
+        let arcs = own_arcs(alloc, self.base, &self.classes, indexed)?;
+        ensured(
+            has_room(self.classes.len(), &arcs, 1, points.len()),
+            PAST_LIMIT,
+        )?;
         ensured(arcs.are_free(alloc, points.as_slice())?, NOT_FREE)?;
         let new = self.classes.len() as u32 + 1;
         self.arcs = Some(arcs.cut(alloc, face, new, points)?);
-        self.classes.push(class)?;
+        put_class(&mut self.classes, class)?;
         Ok(self)
     }
 
@@ -292,16 +314,19 @@ impl<'a> Draft<'a> {
     fn fuse_faces(mut self, alloc: Global, kept: &[u8], gone: &[u8]) -> Result<Draft<'a>, Or<u8>>
         ensures { GivesWhole result (fuse_named self.entry kept.now gone.now) }
     {
+        let kept = self.face_named(kept)?;
+        let gone = self.face_named(gone)?;
         let fusion = Fusion {
             faces: self.classes.len() as u32,
-            kept: self.face_named(kept)?,
-            gone: self.face_named(gone)?,
+            kept,
+            gone,
         };
-        let arcs = own_arcs(alloc, self.base, self.classes.len(), self.arcs)?;
+        let indexed = self.arcs;
+        let arcs = own_arcs(alloc, self.base, &self.classes, indexed)?;
         ensured(arcs.is_any_between(&fusion), NOTHING_BETWEEN)?;
         ensured(arcs.is_any_left(&fusion), NOTHING_LEFT)?;
         self.arcs = Some(arcs.fuse(alloc, &fusion)?);
-        self.classes.swap_remove(fusion.gone as usize - 1);
+        take_out(&mut self.classes, gone);
         Ok(self)
     }
 }

@@ -17,13 +17,34 @@ use tgap_model::{List, MAX_COORDINATE, Or, Point};
 /// An edit, as a line tells it. Of faces and a class there are the words that name them.
 #[derive(Drop)]
 pub enum Edit<'a> {
-    Class { face: &'a [u8], class: &'a [u8] },
-    Move { old: Point, new: Point },
-    Add { a: Point, b: Point, new: Point },
-    Remove { old: Point },
-    Node { at: Point },
-    Cut { face: &'a [u8], class: &'a [u8], points: List<Point> },
-    Fuse { kept: &'a [u8], gone: &'a [u8] },
+    Class {
+        face: &'a [u8],
+        class: &'a [u8],
+    },
+    Move {
+        old: Point,
+        new: Point,
+    },
+    Add {
+        a: Point,
+        b: Point,
+        new: Point,
+    },
+    Remove {
+        old: Point,
+    },
+    Node {
+        at: Point,
+    },
+    Cut {
+        face: &'a [u8],
+        class: &'a [u8],
+        points: List<Point>,
+    },
+    Fuse {
+        kept: &'a [u8],
+        gone: &'a [u8],
+    },
 }
 
 /// How many points a new arc may have.
@@ -158,12 +179,19 @@ fn read_cut<'a>(alloc: Global, words: &mut Pieces<'a>) -> Result<Edit<'a>, Or<u8
     let face = found(decimal_at(words), NO_EDIT)?;
     let class = found(decimal_at(words), NO_EDIT)?;
     let points = arc_at(alloc, words)?;
-    edit_or(ended(words, Edit::Cut { face, class, points }))
+    edit_or(ended(
+        words,
+        Edit::Cut {
+            face,
+            class,
+            points,
+        },
+    ))
 }
 
 /// The edit, where there is one.
 fn edit_or<'a>(edit: Option<Edit<'a>>) -> Result<Edit<'a>, Or<u8>>
-    ensures { GivesTold result (ok_or (option_map told edit) 1) }
+    ensures { GivesTold result (ok_or (option_map told edit.entry) 1) }
 {
     found(edit, NO_EDIT)
 }

@@ -3,7 +3,6 @@ use Rattle.std.proofs.lemmas.List.{drop_more, get_or_default, set_past}
 use Rattle.tgap_model.specs.declared.base.BaseArc.{BaseArc}
 use Rattle.tgap_model.specs.Chains.{arc_number}
 use Rattle.ring_walk.specs.declared.side.Way.TheVariants.{Along}
-use Rattle.arc_places.specs.declared.borders.Borders.{Borders}
 use Rattle.arc_places.specs.Borders.{CoversFaces, bordering, face_count}
 use Rattle.map_version.specs.declared.labels.SlotSide.{SlotSide}
 use Rattle.map_version.specs.Labels.{passed_over, with_side}
@@ -26,18 +25,17 @@ loop-side-preserved c =
     elim c.if-side-slots.branch [
       | then-side-slots+in_ok-list w ↦
           let here = get_or_default slots m.slot w.index-slots-side.result (record { left = 0; right = 0; points = [] }) w.if-side-slots.true in
-          let set_there : c.if-side-slots.slots ≡ set slots m.slot b = w.slots-is ∙ ap (set slots m.slot) (w.set_side.ensures ∙ ap (with_side m.way face) here) in
-          (
+          let set_there : c.if-side-slots.slots ≡ set slots m.slot b = w.slots-is ∙ ap (set slots m.slot) (w.set_side.ensures ∙ ap (with_side m.way face) here) in (
             ap (passed_over face left) set_there ∙ whole,
             subst (λ (xs : List BaseArc). CoversFaces (bordering c.if-side-slots.borders) xs) (sym set_there)
-            (subst (λ (bs : Borders). CoversFaces (bordering bs) (set slots m.slot b)) (sym w.borders-is)
-            (covers_passed (bordering borders) (bordering w.list.new.self) slots face m w.if-side-slots.true w.in_ok-list.ensures.listed c.loop-side.invariant.1.0)),
-            ap face_count w.borders-is ∙ (w.in_ok-list.ensures.count ∙ c.loop-side.invariant.1.1),
+                (subst (λ (bs : List (List ℕ)). CoversFaces (bordering bs) (set slots m.slot b)) (sym w.borders-is)
+                (covers_passed (bordering borders) (bordering w.list.new.self) slots face m w.if-side-slots.true w.in_ok-list.ensures.listed c.loop-side.invariant.1)),
+            ap face_count w.borders-is ∙ (w.in_ok-list.ensures.count ∙ c.loop-side.invariant.2),
           )
       | else-side-slots w ↦ (
-          ap (passed_over face left) (w.slots-is ∙ sym (set_past slots m.slot b w.if-side-slots.false)) ∙ whole,
-          subst (λ (xs : List BaseArc). CoversFaces (bordering c.if-side-slots.borders) xs) (sym w.slots-is)
-          (subst (λ (bs : Borders). CoversFaces (bordering bs) slots) (sym w.borders-is) c.loop-side.invariant.1.0),
-          ap face_count w.borders-is ∙ c.loop-side.invariant.1.1,
-        )
+        ap (passed_over face left) (w.slots-is ∙ sym (set_past slots m.slot b w.if-side-slots.false)) ∙ whole,
+        subst (λ (xs : List BaseArc). CoversFaces (bordering c.if-side-slots.borders) xs) (sym w.slots-is)
+            (subst (λ (bs : List (List ℕ)). CoversFaces (bordering bs) slots) (sym w.borders-is) c.loop-side.invariant.1),
+        ap face_count w.borders-is ∙ c.loop-side.invariant.2,
+      )
     ]

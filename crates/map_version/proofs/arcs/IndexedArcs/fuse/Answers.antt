@@ -1,8 +1,8 @@
-use Rattle.std.proofs.Common.{◌≡◌, ◌∙◌, ◌≤◌, ℕ, true, List, length, map, sym, ap, subst, arith}
+use Rattle.std.proofs.Common.{◌≡◌, ◌∙◌, ℕ, List, length, map, sym, ap, subst, arith}
 use Rattle.tgap_model.specs.declared.base.BaseArc.{BaseArc}
 use Rattle.face_cuts.specs.Fusions.{relabelled, renumbered}
 use Rattle.arc_places.specs.Slots.{arcs_in}
-use Rattle.arc_places.specs.Places.{arc_passes, listed}
+use Rattle.arc_places.specs.Places.{listed}
 use Rattle.arc_places.specs.Borders.{HaveFaces, bordering, face_count}
 use Rattle.arc_places.proofs.FusedLists.{fused_covers}
 use Rattle.map_version.specs.Indexed.{AreCounted, AreIndexed, Indexed, arcs_of, fused_arcs}
@@ -29,7 +29,7 @@ invariant_of-result c =
     (record {
       by_point = fused_places (listed c.self.inside.places) f g label slots c.self.invariant.by_point;
       by_face = fused_covers n f g (bordering c.self.inside.borders) (bordering c.fuse.new.self) slots after c.in_ok-fuse.ensures.both c.in_ok-fuse.ensures.others
-          (λ h i e. let came = all_came_from h f g label slots i e in (came.0, within_faces n slots faces came.0 i came.1.0, came.1.0, came.1.1))
+          (λ h i e. let came = all_came_from h f g label slots i e in (came.0, within_faces n slots faces came.0 i came.1, came.1, came.2))
           c.self.invariant.by_face;
       counted = subst (λ (xs : List BaseArc). AreCounted xs c.apply.new.counts) there c.apply.ensures.counted;
     })

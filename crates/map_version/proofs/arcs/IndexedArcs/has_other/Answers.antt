@@ -1,4 +1,4 @@
-use Rattle.std.proofs.Common.{◌≡◌, ◌∙◌, ℕ, true, ◌&&◌, not, List, get_or, sym, subst}
+use Rattle.std.proofs.Common.{◌≡◌, ◌∙◌, ℕ, true, ◌&&◌, not, List, get_or, refl, sym, subst}
 use Rattle.std.proofs.lemmas.Bool.{and_parts}
 use Rattle.tgap_model.specs.Base.{borders_face}
 use Rattle.arc_places.specs.Slots.{is_there}
@@ -6,19 +6,21 @@ use Rattle.arc_places.specs.Places.{arc_passes, is_among}
 use Rattle.arc_places.specs.Borders.{CoversFaces, bordering, is_beside}
 use Rattle.map_version.specs.Indexed.{Indexed}
 use Rattle.map_version.specs.Labels.{is_other, is_taken}
-use Rattle.map_version.proofs.Listed.{none_more, one_found, none_found, passes_more}
+use Rattle.map_version.proofs.Listed.{none_more, one_found, none_found, passes_more, passes_number}
 use Rattle.map_version.proofs.arcs.IndexedArcs.has_other.Goals as goal
 
 pub loop-slot-preserved : goal.loop-slot-preserved
 loop-slot-preserved c =
     let test = is_other c.args.fusion.now.kept c.args.fusion.now.gone c.args.face in
-    none_more (arc_passes test c.args.self.now.slots) c.of_face-slot-items.result.now c.loop-slot.slot-index 0 c.loop-slot-test.true c.loop-slot.invariant
-    (sym c.is_other_at.ensures ∙ c.if-is_other_at.false)
+    let numbers = c.of_face-slot-items.result.now in
+    none_more (arc_passes test c.args.self.now.slots) numbers c.loop-slot.slot-index 0 c.loop-slot-test.true c.loop-slot.invariant
+    (passes_number test refl c.args.self.now.slots (get_or numbers c.loop-slot.slot-index 0) ∙ (sym c.is_other_at.ensures ∙ c.if-is_other_at.false))
 
 pub returns-then-is_other_at : goal.returns-then-is_other_at
 returns-then-is_other_at c =
     let test = is_other c.args.fusion.now.kept c.args.fusion.now.gone c.args.face in
-    one_found test c.args.self.now.slots (get_or c.of_face-slot-items.result.now c.loop-slot.slot-index 0) (sym c.is_other_at.ensures ∙ c.if-is_other_at.true)
+    let i = get_or c.of_face-slot-items.result.now c.loop-slot.slot-index 0 in
+    one_found test c.args.self.now.slots i (passes_number test refl c.args.self.now.slots i ∙ (sym c.is_other_at.ensures ∙ c.if-is_other_at.true))
 
 pub returns : goal.returns
 returns c =

@@ -1,4 +1,4 @@
-use Rattle.std.proofs.Common.{◌≡◌, ◌<◌, ◌≤◌, ◌+◌, ◌∙◌, false, List, length, insert, sym, ap, subst, arith}
+use Rattle.std.proofs.Common.{◌<◌, ◌+◌, ◌∙◌, List, length, insert, sym, ap, subst, arith}
 use Rattle.std.proofs.lemmas.List.Edits.{length-insert}
 use Rattle.tgap_model.specs.declared.geometry.Point.{Point}
 use Rattle.tgap_model.specs.declared.base.BaseArc.{BaseArc}

@@ -1,10 +1,10 @@
-use Rattle.std.proofs.Common.{◌≡◌, ◌∙◌, ℕ, true, List, get_or, sym, subst}
+use Rattle.std.proofs.Common.{◌≡◌, ◌∙◌, ℕ, true, List, get_or, refl, sym, subst}
 use Rattle.face_cuts.specs.Fusions.{is_between}
 use Rattle.arc_places.specs.Places.{arc_passes, is_among}
 use Rattle.arc_places.specs.Borders.{CoversFaces, bordering, is_beside}
 use Rattle.map_version.specs.Indexed.{Indexed}
 use Rattle.map_version.specs.Labels.{is_taken}
-use Rattle.map_version.proofs.Listed.{none_more, one_found, none_found, passes_more}
+use Rattle.map_version.proofs.Listed.{none_more, one_found, none_found, passes_more, passes_number}
 use Rattle.map_version.proofs.InSlots.{any_in}
 use Rattle.map_version.proofs.Renaming.{taken_beside}
 use Rattle.map_version.proofs.arcs.IndexedArcs.is_any_between.Goals as goal
@@ -12,8 +12,9 @@ use Rattle.map_version.proofs.arcs.IndexedArcs.is_any_between.Goals as goal
 pub loop-slot-preserved : goal.loop-slot-preserved
 loop-slot-preserved c =
     let test = is_taken c.args.fusion.now.kept c.args.fusion.now.gone in
-    none_more (arc_passes test c.args.self.now.slots) c.of_face-slot-items.result.now c.loop-slot.slot-index 0 c.loop-slot-test.true c.loop-slot.invariant
-    (sym c.is_between_at.ensures ∙ c.if-is_between_at.false)
+    let numbers = c.of_face-slot-items.result.now in
+    none_more (arc_passes test c.args.self.now.slots) numbers c.loop-slot.slot-index 0 c.loop-slot-test.true c.loop-slot.invariant
+    (passes_number test refl c.args.self.now.slots (get_or numbers c.loop-slot.slot-index 0) ∙ (sym c.is_between_at.ensures ∙ c.if-is_between_at.false))
 
 pub returns-then-is_between_at : goal.returns-then-is_between_at
 returns-then-is_between_at c =
@@ -21,7 +22,7 @@ returns-then-is_between_at c =
     let g = c.args.fusion.now.gone in
     let slots = c.args.self.now.slots in
     let i = get_or c.of_face-slot-items.result.now c.loop-slot.slot-index 0 in
-    one_found (is_taken f g) slots i (sym c.is_between_at.ensures ∙ c.if-is_between_at.true) ∙ sym (any_in (is_between f g) slots)
+    one_found (is_taken f g) slots i (passes_number (is_taken f g) refl slots i ∙ (sym c.is_between_at.ensures ∙ c.if-is_between_at.true)) ∙ sym (any_in (is_between f g) slots)
 
 pub returns : goal.returns
 returns c =

@@ -1,4 +1,4 @@
-use Rattle.std.proofs.Common.{◌≡◌, ◌∙◌, true, false, List, length, sym, ap, subst, arith}
+use Rattle.std.proofs.Common.{◌≡◌, ◌∙◌, false, List, length, sym, ap, subst, arith}
 use Rattle.tgap_model.specs.declared.base.BaseArc.{BaseArc}
 use Rattle.edit_laws.specs.Edits.{has_point, move_all}
 use Rattle.arc_places.specs.Slots.{arcs_in}

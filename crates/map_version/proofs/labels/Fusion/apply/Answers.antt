@@ -1,8 +1,7 @@
 use Rattle.std.proofs.Common.{◌≡◌, ◌∙◌, ℕ, true, List, map, sym, ap, subst}
-use Rattle.std.proofs.lemmas.Bool.{and_from, and_parts, or_left, or_right, eqb-true}
 use Rattle.tgap_model.specs.declared.base.BaseArc.{BaseArc}
 use Rattle.face_cuts.specs.Fusions.{renumbered}
-use Rattle.arc_places.specs.Places.{arc_passes, is_among}
+use Rattle.arc_places.specs.Places.{is_among}
 use Rattle.arc_places.specs.Borders.{CoversFaces, bordering, is_beside}
 use Rattle.map_version.specs.Indexed.{AreCounted}
 use Rattle.map_version.specs.Labels.{cleared, is_taken, renamed}

@@ -1,9 +1,8 @@
-use Rattle.std.proofs.Common.{◌∙◌, ◌+◌, ◌≤◌, ◌≡◌, true, List, [], length, drop, get_or, set, sym, ap, subst, arith}
+use Rattle.std.proofs.Common.{◌∙◌, ◌+◌, List, [], length, drop, get_or, set, sym, ap, subst, arith}
 use Rattle.std.proofs.lemmas.List.{drop_more, drop_all, get_or_default}
 use Rattle.tgap_model.specs.declared.base.BaseArc.{BaseArc}
 use Rattle.tgap_model.specs.Chains.{arc_number}
 use Rattle.arc_places.specs.Slots.{is_there}
-use Rattle.map_version.specs.declared.labels.Counts.{Counts}
 use Rattle.map_version.specs.Indexed.{AreCounted}
 use Rattle.map_version.specs.Labels.{cleared, counted_without, is_taken}
 use Rattle.map_version.proofs.Changing.{IsChanging, changing_on, changing_past, changing_done}
@@ -46,16 +45,15 @@ loop-slot-preserved c =
       | then-slot-slots w ↦
           let here = get_or_default slots j w.index-slots-slot.result (record { left = 0; right = 0; points = [] }) w.if-slot-slots.true in
           let set_there = w.slots-is ∙ ap (set slots j) (w.clear.ensures.arc ∙ ap (cleared f g) here) in
-          let counts_there = w.counts-is ∙ (w.clear.ensures.counts ∙ ap (λ (a : BaseArc). counted_without f g a counts) here) in
-          (
+          let counts_there = w.counts-is ∙ (w.clear.ensures.counts ∙ ap (λ (a : BaseArc). counted_without f g a counts) here) in (
             subst (λ (xs : List BaseArc). IsChanging (cleared f g) (is_taken f g) first xs left) (sym set_there) (changing_on (clearing f g) first slots j left w.if-slot-slots.true changing),
             subst (λ (xs : List BaseArc). AreCounted xs c.if-slot-slots.counts) (sym set_there)
-            (subst (AreCounted (set slots j (cleared f g (arc_number slots j)))) (sym counts_there) (counted_cleared f g slots j counts w.if-slot-slots.true c.loop-slot.invariant.1)),
+                (subst (AreCounted (set slots j (cleared f g (arc_number slots j)))) (sym counts_there) (counted_cleared f g slots j counts w.if-slot-slots.true c.loop-slot.invariant.1)),
           )
       | else-slot-slots w ↦ (
-          subst (λ (xs : List BaseArc). IsChanging (cleared f g) (is_taken f g) first xs left) (sym w.slots-is) (changing_past first slots j left w.if-slot-slots.false changing),
-          subst (λ (xs : List BaseArc). AreCounted xs c.if-slot-slots.counts) (sym w.slots-is) (subst (AreCounted slots) (sym w.counts-is) c.loop-slot.invariant.1),
-        )
+        subst (λ (xs : List BaseArc). IsChanging (cleared f g) (is_taken f g) first xs left) (sym w.slots-is) (changing_past first slots j left w.if-slot-slots.false changing),
+        subst (λ (xs : List BaseArc). AreCounted xs c.if-slot-slots.counts) (sym w.slots-is) (subst (AreCounted slots) (sym w.counts-is) c.loop-slot.invariant.1),
+      )
     ]
 
 pub returns-clause-slots : goal.returns-clause-slots
