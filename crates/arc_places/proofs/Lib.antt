@@ -1,4 +1,5 @@
 pub mod SlotNumbers
+pub mod Images
 pub mod Listed
 pub mod FusedLists
 pub mod Rising
