@@ -6,3 +6,4 @@ pub mod Rising
 pub mod LastOf
 pub mod FoundSides
 pub mod SeenSlots
+pub mod Parts

@@ -58,14 +58,25 @@ impl Places {
         }
     }
 
+    /// Lists a body for a point behind those that are listed there.
+    fn push(&mut self, alloc: Global, body: usize, point: Point) -> Result<(), Memory>
+        ensures lists { OnOk result ((p : Position) →
+            bodies_at self.new p ≡ (if same_point p point then bodies_at self.old point ++ body ∷ [] else bodies_at self.old p)) }
+        ensures bodies { self.new.bodies ≡ self.old.bodies }
+    {
+        let mut bodies = self.take(alloc, &point);
+        bodies.push(body)?;
+        self.lists.insert(point, bodies)?;
+        Ok(())
+    }
+
     /// Lists an arc for a point beside those that are listed there, and nothing else.
     pub fn list(&mut self, alloc: Global, arc: usize, point: Point) -> Result<(), Memory>
         ensures { OnOk result ((p : Position) →
             listed self.new p ≡ (if same_point p point then listed self.old point ++ arc ∷ [] else listed self.old p)) }
     {
-        let mut bodies = self.take(alloc, &point);
-        bodies.push(self.bodies.body(arc))?;
-        self.lists.insert(point, bodies)?;
+        let body = self.bodies.body(arc);
+        self.push(alloc, body, point)?;
         Ok(())
     }
 
@@ -104,7 +115,8 @@ impl Places {
         ensures { OnOk result ((p : Position) (i : ℕ) →
             is_among (exchanged first second i) (listed self.new p) ≡ is_among i (listed self.old p)) }
     {
-        self.bodies.exchange(first, second)
+        self.bodies.exchange(first, second)?;
+        Ok(())
     }
 
     /// Lists the parts of an arc that is split: it keeps the points of the front, and an arc in a new slot has those of the rest.
@@ -126,9 +138,11 @@ impl Places {
             is_among i (listed self.new p) ≡ is_among i (listed self.old p)) }
     {
         if rest.len() <= front.len() {
-            return self.list_points(alloc, new, rest);
+            self.list_points(alloc, new, rest)?;
+        } else {
+            self.exchange(arc, new)?;
+            self.list_points(alloc, arc, front)?;
         }
-        self.exchange(arc, new)?;
-        self.list_points(alloc, arc, front)
+        Ok(())
     }
 }
