@@ -1,11 +1,10 @@
 -- Images of numbers by lists, and of a list and its inverse.
-use Rattle.std.proofs.Common.{◌≡◌, ◌≢◌, ◌∙◌, ℕ, zero, suc, ◌+◌, ◌<◌, ◌≤◌, nat_lt, eqb, cond, Bool, true, false, ◌||◌, List, [], ◌∷◌, ◌++◌, length, get_or, set, map, refl, sym, ap, subst, subst₂, arith}
+use Rattle.std.proofs.Common.{◌≡◌, ◌≢◌, ◌∙◌, ℕ, zero, suc, ◌<◌, ◌≤◌, nat_lt, eqb, cond, List, [], ◌∷◌, ◌++◌, length, get_or, set, map, refl, sym, ap, subst, subst₂, arith}
 use Rattle.std.proofs.lemmas.Bool.{eqb-true, eqb-false, eq-eqb, ltb-true, ltb-false, cond-true, cond-false}
 use Rattle.std.proofs.lemmas.List.{get_or_default, get_or_past, get_or-set_same, get_or-set_other}
 use Rattle.std.proofs.Math.Seq.{lt-length-set}
 use Rattle.face_cuts.proofs.Cases.{by_test, not_held}
 use Rattle.arc_places.specs.Bodies.{AreInverse, exchanged, image}
-use Rattle.arc_places.specs.Places.{is_among}
 
 -- past the end of a list
 pub image_past : (numbers : List ℕ) (i : ℕ) → length numbers ≤ i → image numbers i ≡ i

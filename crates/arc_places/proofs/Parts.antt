@@ -1,14 +1,16 @@
 -- What is listed for the parts of an arc that is split.
-use Rattle.std.proofs.Common.{◌≡◌, ◌≢◌, ◌∙◌, ℕ, eqb, cond, if◌then◌else◌, Bool, true, false, ◌&&◌, ◌||◌, List, [], ◌∷◌, ◌++◌, map, refl, sym, ap}
-use Rattle.std.specs.List.{list_any}
-use Rattle.std.proofs.lemmas.Bool.{false≢true, eqb-true, eqb-false, eq-eqb, cond-true, cond-false, and_from}
-use Rattle.std.proofs.lemmas.List.{map-append}
+use Rattle.std.proofs.Common.{◌≡◌, ◌≢◌, ◌∙◌, ℕ, zero, suc, ◌<◌, eqb, cond, if◌then◌else◌, Bool, true, false, ◌||◌, List, [], ◌∷◌, ◌++◌, length, map, set, refl, sym, ap, subst, arith}
+use Rattle.std.proofs.lemmas.Bool.{false≢true, eqb-true, eqb-false, eq-eqb, cond-true, cond-false}
+use Rattle.std.proofs.lemmas.List.{length-set, map-append}
 use Rattle.tgap_model.specs.declared.geometry.Point.{Point}
-use Rattle.tgap_model.specs.Base.{same_point}
-use Rattle.face_cuts.proofs.Cases.{by_test, not_held, or_left, or_right}
+use Rattle.tgap_model.specs.declared.base.BaseArc.{BaseArc}
+use Rattle.tgap_model.specs.Chains.{arc_number}
+use Rattle.face_cuts.specs.Nodes.{passes}
+use Rattle.face_cuts.proofs.Cases.{by_test, not_held}
 use Rattle.arc_places.specs.Bodies.{exchanged, image}
-use Rattle.arc_places.specs.Places.{is_among}
+use Rattle.arc_places.specs.Places.{Covers, arc_passes, is_among}
 use Rattle.arc_places.proofs.FoundSides.{same_test}
+use Rattle.arc_places.proofs.Listed.{passes_at}
 
 -- one body more in a list, or another list, and the slots of the bodies
 pub slots_more : (slots before others after : List ℕ) (body arc : ℕ) (here : Bool) → image slots body ≡ arc → after ≡ cond here (before ++ body ∷ []) others
@@ -58,23 +60,59 @@ among_exchanged slots slots_then i j k (b ∷ bodies) images =
     (λ t. eq-eqb (image slots_then b) (exchanged i j k) (images b ∙ ap (exchanged i j) (eqb-true (image slots b) k t))))
     ∙ ap (λ (t : Bool). eqb (image slots b) k || t) (among_exchanged slots slots_then i j k bodies images)
 
--- ---- an arc that is listed for points
+-- ---- slots of which one is split
 
-module _ (n : ℕ) (points : List Point) (before after : Point → List ℕ)
-    (listed : (p : Point) (i : ℕ) → is_among i (after p) ≡ (is_among i (before p) || (eqb n i && list_any (same_point p) points))) where
-  pub stays_listed : (p : Point) (i : ℕ) → is_among i (before p) ≡ true → is_among i (after p) ≡ true
-  stays_listed p i e = listed p i ∙ or_left (is_among i (before p)) (eqb n i && list_any (same_point p) points) e
+-- the arc of another slot than this one, and one behind all
+passes_other : (test : BaseArc → Bool) (slots : List BaseArc) (i k : ℕ) (a : BaseArc) → k ≢ i → arc_passes test (set slots i a) k ≡ arc_passes test slots k
+passes_other test [] i k a ne = refl
+passes_other test (b ∷ slots) zero zero a ne = absurd (ne refl)
+passes_other test (b ∷ slots) zero (suc k) a ne = refl
+passes_other test (b ∷ slots) (suc i) zero a ne = refl
+passes_other test (b ∷ slots) (suc i) (suc k) a ne = passes_other test slots i k a (λ e. ne (ap suc e))
 
-  pub comes_listed : (p : Point) → list_any (same_point p) points ≡ true → is_among n (after p) ≡ true
-  comes_listed p e =
-      listed p n
-      ∙ or_right (is_among n (before p)) (eqb n n && list_any (same_point p) points) (and_from (eqb n n) (list_any (same_point p) points) (eq-eqb n n refl) e)
+passes_here : (test : BaseArc → Bool) (slots : List BaseArc) (i : ℕ) (a : BaseArc) → arc_passes test (set slots i a) i ≡ true → test a ≡ true
+passes_here test [] i a e = absurd (false≢true e)
+passes_here test (b ∷ slots) zero a e = e
+passes_here test (b ∷ slots) (suc i) a e = passes_here test slots i a e
 
-  pub other_listed : (p : Point) (i : ℕ) → i ≢ n → is_among i (after p) ≡ is_among i (before p)
-  other_listed p i ne =
-      listed p i
-      ∙ ap (λ (b : Bool). is_among i (before p) || (b && list_any (same_point p) points)) (unequal n i (λ e. ne (sym e))) ∙ none (is_among i (before p))
-    where
-      none : (a : Bool) → (a || false) ≡ a
-      none true = refl
-      none false = refl
+passes_behind : (test : BaseArc → Bool) (slots : List BaseArc) (k : ℕ) (a : BaseArc) → k ≢ length slots → arc_passes test (slots ++ a ∷ []) k ≡ arc_passes test slots k
+passes_behind test [] zero a ne = absurd (ne refl)
+passes_behind test [] (suc k) a ne = refl
+passes_behind test (b ∷ slots) zero a ne = refl
+passes_behind test (b ∷ slots) (suc k) a ne = passes_behind test slots k a (λ e. ne (ap suc e))
+
+passes_last : (test : BaseArc → Bool) (slots : List BaseArc) (k : ℕ) (a : BaseArc) → k ≡ length slots → arc_passes test (slots ++ a ∷ []) k ≡ true → test a ≡ true
+passes_last test [] zero a e h = h
+passes_last test [] (suc k) a e h = absurd (omega (arith, e))
+passes_last test (b ∷ slots) zero a e h = absurd (omega (arith, e))
+passes_last test (b ∷ slots) (suc k) a e h = passes_last test slots k a (omega (arith, e)) h
+
+-- Where an arc keeps some of its points and another arc in a new slot has some of them, the lists still miss no arc.
+pub parts_covered : (before after : Point → List ℕ) (slots : List BaseArc) (i j : ℕ) (front rest : BaseArc) → i < length slots → j ≡ length slots
+    → ((p : Point) → passes p front ≡ true → passes p (arc_number slots i) ≡ true) → ((p : Point) → passes p rest ≡ true → passes p (arc_number slots i) ≡ true)
+    → ((p : Point) → is_among i (before p) ≡ true → passes p front ≡ true → is_among i (after p) ≡ true)
+    → ((p : Point) → is_among i (before p) ≡ true → passes p rest ≡ true → is_among j (after p) ≡ true)
+    → ((p : Point) (k : ℕ) → k ≢ i → k ≢ j → is_among k (after p) ≡ is_among k (before p))
+    → Covers before slots → Covers after (set slots i front ++ rest ∷ [])
+parts_covered before after slots i j front rest within last of_front of_rest front_is rest_is others covers p k e =
+    by_test (eqb k j)
+    (λ t.
+    let at = eqb-true k j t in
+    subst (λ (m : ℕ). is_among m (after p) ≡ true) (sym at)
+    (let passed : passes p rest ≡ true = passes_last (passes p) (set slots i front) k rest (at ∙ end) e in rest_is p (was p (of_rest p passed)) passed))
+    (λ f.
+    let behind : arc_passes (passes p) (set slots i front) k ≡ true =
+    sym (passes_behind (passes p) (set slots i front) k rest (λ h. eqb-false k j f (h ∙ sym end))) ∙ e in
+    by_test (eqb k i)
+    (λ t.
+    let at = eqb-true k i t in
+    subst (λ (m : ℕ). is_among m (after p) ≡ true) (sym at)
+    (let passed : passes p front ≡ true = passes_here (passes p) slots i front (subst (λ (m : ℕ). arc_passes (passes p) (set slots i front) m ≡ true) at behind) in
+    front_is p (was p (of_front p passed)) passed))
+    (λ g. others p k (eqb-false k i g) (eqb-false k j f) ∙ covers p k (sym (passes_other (passes p) slots i k front (eqb-false k i g)) ∙ behind)))
+  where
+    end : j ≡ length (set slots i front)
+    end = last ∙ sym (length-set slots i front)
+
+    was : (q : Point) → passes q (arc_number slots i) ≡ true → is_among i (before q) ≡ true
+    was q h = covers q i (passes_at (passes q) slots i within ∙ h)

@@ -1,4 +1,4 @@
-use Rattle.std.proofs.Common.{◌≡◌, ◌<◌, ◌∙◌, ℕ, List, set, subst, arith}
+use Rattle.std.proofs.Common.{◌≡◌, ℕ, List, set, subst, arith}
 use Rattle.arc_places.specs.Bodies.{exchanged, image}
 use Rattle.arc_places.proofs.Images.{are_exchanged, one_within}
 use Rattle.arc_places.proofs.bodies.Bodies.exchange.Goals as goal
@@ -22,7 +22,7 @@ index_mut-requires-3 c =
     let bodies_long = c.in_ok-reach-2.ensures.long in
     let len = c.reach.new.numbers.ok.0 in
     let within = one_within c.self.inside.slots.items c.self.inside.bodies.items c.reach.new.numbers.items c.reach-2.new.numbers.items c.args.second c.index-other.result.now c.self.invariant
-        c.in_ok-reach.ensures.same c.in_ok-reach-2.ensures.same (omega (arith, max, bodies_long)) (omega (arith, max, slots_long)) c.index-other.ensures in
+    c.in_ok-reach.ensures.same c.in_ok-reach-2.ensures.same (omega (arith, max, bodies_long)) (omega (arith, max, slots_long)) c.index-other.ensures in
     omega (arith, within, len)
 
 pub index_mut-requires-4 : goal.index_mut-requires-4
@@ -32,7 +32,7 @@ index_mut-requires-4 c =
     let bodies_long = c.in_ok-reach-2.ensures.long in
     let len = c.reach.new.numbers.ok.0 in
     let within = one_within c.self.inside.slots.items c.self.inside.bodies.items c.reach.new.numbers.items c.reach-2.new.numbers.items c.args.first c.index-one.result.now c.self.invariant
-        c.in_ok-reach.ensures.same c.in_ok-reach-2.ensures.same (omega (arith, max, bodies_long)) (omega (arith, max, slots_long)) c.index-one.ensures in
+    c.in_ok-reach.ensures.same c.in_ok-reach-2.ensures.same (omega (arith, max, bodies_long)) (omega (arith, max, slots_long)) c.index-one.ensures in
     omega (arith, within, len)
 
 pub invariant_of-self-2 : goal.invariant_of-self-2
