@@ -1,4 +1,5 @@
 pub mod Slots
+pub mod Bodies
 pub mod Places
 pub mod Borders
 pub mod Numbers

@@ -1,5 +1,5 @@
 -- The arcs that are listed for a point.
-use Rattle.std.specs.Prelude.{◌≡◌, ℕ, zero, suc, ◌==◌, Bool, true, false, List, [], ◌∷◌, unwrap_or, option_map}
+use Rattle.std.specs.Prelude.{◌≡◌, ℕ, zero, suc, ◌==◌, Bool, true, false, List, [], ◌∷◌, map, unwrap_or, option_map}
 use Rattle.std.specs.List.{list_any}
 use Rattle.std.specs.BTreeMap.{get}
 use Rattle.tgap_model.specs.declared.geometry.Point.{Point}
@@ -7,10 +7,15 @@ use Rattle.tgap_model.specs.declared.base.BaseArc.{BaseArc}
 use Rattle.face_cuts.specs.Nodes.{passes}
 use Rattle.face_cuts.specs.PointSets.{point_cmp}
 use Rattle.arc_places.specs.declared.places.Places.{Places}
+use Rattle.arc_places.specs.Bodies.{image}
 
--- the arcs that are listed for a point
+-- the bodies that are listed for a point
+abbrev pub bodies_at : Places → Point → List ℕ
+bodies_at places p = unwrap_or (option_map (λ bodies. bodies.items) (get point_cmp places.lists p)) []
+
+-- the slots of the arcs that are listed for a point
 abbrev pub listed : Places → Point → List ℕ
-listed places p = unwrap_or (option_map (λ numbers. numbers.items) (get point_cmp places.arcs p)) []
+listed places p = map (image places.bodies) (bodies_at places p)
 
 -- the arc of this number passes the test
 abbrev pub arc_passes : (BaseArc → Bool) → List BaseArc → ℕ → Bool

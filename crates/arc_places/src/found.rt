@@ -8,6 +8,7 @@ ghost use Rattle.arc_places.specs.Slots.{arcs_in, slot_of};
 ghost use Rattle.arc_places.specs.Places.{is_among};
 ghost use Rattle.arc_places.specs.SlotTables.{AreListed, is_found, passes, spans_in};
 
+use crate::bodies::ListedSlots;
 use crate::ordered::sides_in_order;
 use crate::slot_table::SlotTable;
 use crate::sought::Sought;
@@ -80,16 +81,16 @@ fn push_sides(
 pub fn sides_found(
     alloc: Global,
     table: &SlotTable<'_>,
-    listed: &[usize],
+    listed: ListedSlots<'_>,
     sought: &Sought,
 ) -> Result<Vec<Side>, Memory>
     requires few { length (arcs_in table.now) ≤ 2 ^ 32 }
-    requires listed { AreListed table.now listed.now sought.now }
+    requires listed { AreListed table.now listed sought.now }
     ensures { IfOk result (λ found. found.items ≡ filter (passes table.now sought.now) (sides (length (spans_in table.now)))) }
 {
     let mut found = Vec::new(alloc);
-    for slot in listed {
-        push_sides(table, &mut found, *slot, sought)?;
+    for at in 0..listed.count() {
+        push_sides(table, &mut found, listed.slot(at), sought)?;
     }
     sides_in_order(alloc, found)
 }

@@ -10,6 +10,7 @@ ghost use Rattle.arc_places.specs.declared.sought.Sought.TheVariants.{Node};
 ghost use Rattle.arc_places.specs.Slots.{arcs_in, slot_of};
 ghost use Rattle.arc_places.specs.SlotTables.{AreLast, AreListed, AreSpokesOf, spans_in};
 
+use crate::bodies::ListedSlots;
 use crate::slot_table::SlotTable;
 use face_cuts::ArcTable;
 use grid_geo::turn_before;
@@ -144,18 +145,18 @@ fn with_slot(table: &SlotTable<'_>, front: Front, x: Side, slot: usize) -> Front
 
 /// The spoke in front of x round the node that x leaves, of which the slots are listed: of those before x the last, or else the
 /// last of all.
-pub fn in_front(table: &SlotTable<'_>, listed: &[usize], x: Side) -> Side
+pub fn in_front(table: &SlotTable<'_>, listed: ListedSlots<'_>, x: Side) -> Side
     requires spans { AreSpans (spans_in table.now) }
     requires x { IsSide (length (arcs_in table.now)) x }
-    requires listed { AreListed table.now listed.now (Node (start_of (spans_in table.now) x)) }
+    requires listed { AreListed table.now listed (Node (start_of (spans_in table.now) x)) }
     ensures { result ≡ in_front x (spokes_at (spans_in table.now) (sides (length (spans_in table.now))) (start_of (spans_in table.now) x)) }
 {
     let mut front = Front {
         before: None,
         last: None,
     };
-    for slot in listed {
-        front = with_slot(table, front, x, *slot);
+    for at in 0..listed.count() {
+        front = with_slot(table, front, x, listed.slot(at));
     }
     front.before.or(front.last).unwrap_or(x)
 }

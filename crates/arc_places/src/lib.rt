@@ -2,6 +2,7 @@
 //! a slot for as long as the batch lasts, and an arc without points is gone. It stands on `face_cuts`, whose cuts look into the table.
 #![tactic(auto)]
 
+mod bodies;
 mod borders;
 mod found;
 mod front;
@@ -11,6 +12,7 @@ mod slot_table;
 mod slots;
 mod sought;
 
+pub use bodies::ListedSlots;
 pub use borders::Borders;
 pub use places::Places;
 pub use slot_table::SlotTable;

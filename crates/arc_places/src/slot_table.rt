@@ -7,6 +7,7 @@ ghost use Rattle.arc_places.specs.Slots.{arcs_in, slot_of};
 ghost use Rattle.arc_places.specs.Places.{Covers, listed};
 ghost use Rattle.arc_places.specs.Borders.{CoversFaces, bordering};
 
+use crate::bodies::ListedSlots;
 use crate::borders::Borders;
 use crate::found::sides_found;
 use crate::front::{in_front, start_of};
@@ -117,6 +118,11 @@ impl<'a> ArcTable for SlotTable<'a> {
     }
 
     fn beside(&self, alloc: Global, face: u32) -> Result<Vec<Side>, Memory> {
-        sides_found(alloc, self, self.borders.of_face(face), &Sought::Face(face))
+        sides_found(
+            alloc,
+            self,
+            ListedSlots::plain(self.borders.of_face(face)),
+            &Sought::Face(face),
+        )
     }
 }

@@ -1,4 +1,4 @@
-use Rattle.std.proofs.Common.{◌≡◌, ◌∙◌, ◌*◌, ◌&&◌, ℕ, nat_lt, List, filter, length, sym, ap, subst}
+use Rattle.std.proofs.Common.{◌≡◌, ◌∙◌, ◌*◌, ◌&&◌, ℕ, nat_lt, List, filter, length, sym, ap, subst, arith}
 use Rattle.std.specs.List.{list_any}
 use Rattle.std.proofs.lemmas.List.{take_all}
 use Rattle.std.proofs.lemmas.Result.{IfOk-weaker}
@@ -14,10 +14,10 @@ pub returns : goal.returns
 returns c =
     let slots = c.args.table.now in
     let sought = c.args.sought.now in
-    let numbers = c.args.listed.now in
+    let numbers = c.args.listed in
     IfOk-weaker c.sides_in_order.result _ (λ found. found.items ≡ filter (passes slots sought) (sides (length (spans_in slots))))
     (λ found e. e (length (spans_in slots)) (passes slots sought) (λ i.
-    subst (λ (m : ℕ). is_among i c.loop-slot.found.items ≡ (nat_lt i (2 * m) && passes slots sought (numbered i))) (sym (count_spans (arcs_in slots)))
-    (c.loop-slot.invariant.found i ∙ ap (λ (xs : List ℕ). list_any (is_found slots sought i) xs) (take_all c.loop-slot.slot-index numbers c.loop-slot-test.false)
+    subst (λ (m : ℕ). is_among i c.loop-at.found.items ≡ (nat_lt i (2 * m) && passes slots sought (numbered i))) (sym (count_spans (arcs_in slots)))
+    (c.loop-at.invariant.found i ∙ ap (λ (xs : List ℕ). list_any (is_found slots sought i) xs) (take_all c.loop-at.at numbers (omega (arith, c.count-at-end.ensures, c.loop-at-test.false)))
     ∙ all_found slots sought numbers c.requires.listed i)))
     c.sides_in_order.ensures
