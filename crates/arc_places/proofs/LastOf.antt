@@ -1,29 +1,23 @@
 -- The last one of the spokes of a node that pass a test, and the one in front of a spoke round the node.
 use Rattle.std.proofs.Common.{◌≡◌, ◌≢◌, ◌∙◌, ℕ, nat_lt, zero, suc, ◌-◌, ◌<◌, ◌≤◌, Bool, true, false, ◌&&◌, ◌||◌, Option, Some, None, List, length, filter, get_or, All, AllPairs, refl, sym, ap, ap₂, subst, arith}
-use Rattle.std.specs.Prelude.{cond, IsTrue, IfSome, unwrap_or}
+use Rattle.std.specs.Prelude.{cond, IfSome, unwrap_or}
 use Rattle.std.specs.Option.{option_or}
 use Rattle.std.proofs.lemmas.Bool.{false≢true, and_from, and_parts, ltb-true, ltb-false}
 use Rattle.std.proofs.lemmas.List.{get_or_default}
 use Rattle.std.proofs.lemmas.List.Kept.{AllPairs-filter}
-use Rattle.lemmas.specs.Sorting.{IsStrictOrderOn}
 use Rattle.lemmas.proofs.Members.{All-from_members}
 use Rattle.lemmas.proofs.Sorting.{All-from_sort_by, sort_by-is_sorted, sorted_pairs, all_pairs_decided}
 use Rattle.tgap_model.specs.declared.geometry.Point.{Point}
-use Rattle.tgap_model.specs.Base.{in_limits, same_point}
-use Rattle.tgap_model.specs.Segment.{point_before}
-use Rattle.grid_geo.proofs.PointOrder.{points}
+use Rattle.tgap_model.specs.Base.{same_point}
 use Rattle.ring_walk.specs.declared.span.Span.{Span}
 use Rattle.ring_walk.specs.declared.side.Side.{Side}
-use Rattle.ring_walk.specs.declared.side.Way.{Way}
-use Rattle.ring_walk.specs.declared.side.Way.TheVariants.{Along, Against}
-use Rattle.ring_walk.specs.declared.spoke.Spoke.{Spoke}
 use Rattle.ring_walk.specs.Rings.{in_front}
-use Rattle.ring_walk.specs.Sides.{start_by, toward_by, start_of, toward_of, span_number, sides, same_side, spoke_before, spokes_at}
-use Rattle.ring_walk.specs.Spans.{AreSpans, before}
+use Rattle.ring_walk.specs.Sides.{start_of, sides, same_side, spoke_before, spokes_at}
+use Rattle.ring_walk.specs.Spans.{AreSpans}
 use Rattle.ring_walk.proofs.NextSides.{from_round, in_front-at, place_before, round_differs, round_has}
-use Rattle.ring_walk.proofs.Order.{before_strict, before_tied}
-use Rattle.ring_walk.proofs.SideNumbers.{same_side-itself, same_side-true, side_number-inj, sides_differ}
+use Rattle.ring_walk.proofs.SideNumbers.{same_side-itself, same_side-true, sides_differ}
 use Rattle.face_cuts.specs.Spokes.{IsSpoke, later}
+use Rattle.face_cuts.proofs.LastSpokes.{decided, order}
 use Rattle.face_cuts.proofs.Cases.{by_test, by_option, not_held, or_left, or_right}
 use Rattle.arc_places.specs.declared.front.Front.{Front}
 use Rattle.arc_places.specs.SlotTables.{AreLast, IsLastOf}
@@ -31,49 +25,16 @@ use Rattle.arc_places.specs.SlotTables.{AreLast, IsLastOf}
 module _ (spans : List Span) (h : AreSpans spans) (v : Point) where
   -- ---- the order of the spokes
 
-  -- within the limits, toward another point
-  limits : (w : Way) (i : ℕ) → i < length spans
-      → (IsTrue (in_limits (start_by w (span_number spans i))) × IsTrue (in_limits (toward_by w (span_number spans i)))) × (start_by w (span_number spans i) ≢ toward_by w (span_number spans i))
-  limits Along i l = ((h.each i _ l).first, (h.each i _ l).leaves_first)
-  limits Against i l = ((h.each i _ l).last, (h.each i _ l).leaves_last)
-
-  abbrev spoke : (s : Side) → IsSpoke spans v s → Spoke
-  spoke s p = record {
-    node = start_of spans s;
-    toward = toward_of spans s;
-    side = s;
-    near = (limits s.way s.span p.side).0;
-    apart = (limits s.way s.span p.side).1;
-  }
-
-  -- at one node the order of all spokes is that by direction
-  as_spokes : (s t : Side) (p : IsSpoke spans v s) (q : IsSpoke spans v t) → before (spoke s p) (spoke t q) ≡ spoke_before spans s t
-  as_spokes s t p q =
-      let node : start_of spans s ≡ start_of spans t = p.node ∙ sym q.node in
-      ap₂ (λ (a b : Bool). a || (b && spoke_before spans s t))
-      (subst (λ (u : Point). point_before (start_of spans s) u ≡ false) node (points.order.itself (start_of spans s) tt))
-      (subst (λ (u : Point). same_point (start_of spans s) u ≡ true) node (points.itself (start_of spans s)))
-
-  pub spoke_order : IsStrictOrderOn (IsSpoke spans v) (spoke_before spans)
-  spoke_order = record {
-    itself = λ s p. sym (as_spokes s s p p) ∙ before_strict.itself (spoke s p) tt;
-    passes = λ s t u p q r e f.
-        sym (as_spokes s u p r) ∙ before_strict.passes (spoke s p) (spoke t q) (spoke u r) tt tt tt (as_spokes s t p q ∙ e) (as_spokes t u q r ∙ f);
-  }
-
-  tied : (s t : Side) → IsSpoke spans v s → IsSpoke spans v t → spoke_before spans s t ≡ false → spoke_before spans t s ≡ false → s ≡ t
-  tied s t p q e f = side_number-inj s t (before_tied (spoke s p) (spoke t q) (as_spokes s t p q ∙ e) (as_spokes t s q p ∙ f))
-
   one_way : (s t : Side) → IsSpoke spans v s → IsSpoke spans v t → spoke_before spans s t ≡ true → spoke_before spans t s ≡ false
-  one_way s t p q e = not_held (spoke_before spans t s) (λ f. false≢true (sym (spoke_order.itself s p) ∙ spoke_order.passes s t s p q p e f))
+  one_way s t p q e = not_held (spoke_before spans t s) (λ f. false≢true (sym ((order spans h v).itself s p) ∙ (order spans h v).passes s t s p q p e f))
 
   -- a spoke that does not come before another comes before nothing that this does not come before
   not_past : (s t u : Side) → IsSpoke spans v s → IsSpoke spans v t → IsSpoke spans v u → spoke_before spans s t ≡ false → spoke_before spans t u ≡ false → spoke_before spans s u ≡ false
   not_past s t u p q r e f =
       not_held (spoke_before spans s u) (λ g.
       by_test (spoke_before spans t s)
-      (λ k. false≢true (sym f ∙ spoke_order.passes t s u q p r k g))
-      (λ k. false≢true (sym f ∙ subst (λ (z : Side). spoke_before spans z u ≡ true) (tied s t p q e k) g)))
+      (λ k. false≢true (sym f ∙ (order spans h v).passes t s u q p r k g))
+      (λ k. false≢true (sym f ∙ subst (λ (z : Side). spoke_before spans z u ≡ true) (decided spans h v s t p q e k) g)))
 
   -- ---- the last one
 
@@ -105,7 +66,7 @@ module _ (spans : List Span) (h : AreSpans spans) (v : Point) where
     is = (p, itself_passes test s);
     greatest = λ u q e. by_either test s u e
         (λ t. absurd (none_some (l.greatest u q t).0 (l.greatest u q t).1))
-        (λ same. (s, refl, subst (λ (z : Side). spoke_before spans s z ≡ false) (sym same) (spoke_order.itself s p)));
+        (λ same. (s, refl, subst (λ (z : Side). spoke_before spans s z ≡ false) (sym same) ((order spans h v).itself s p)));
   }
     where
       none_some : (t : Side) → None ≡ Some t → ⊥
@@ -129,7 +90,7 @@ module _ (spans : List Span) (h : AreSpans spans) (v : Point) where
           refl,
           by_either test s u f
               (λ k. not_past s t u p l.is.0 q e (of_last u q k))
-              (λ same. subst (λ (z : Side). spoke_before spans s z ≡ false) (sym same) (spoke_order.itself s p)),
+              (λ same. subst (λ (z : Side). spoke_before spans s z ≡ false) (sym same) ((order spans h v).itself s p)),
         );
       }))
     where
@@ -220,9 +181,9 @@ module _ (spans : List Span) (h : AreSpans spans) (v : Point) where
   pairs_rise : AllPairs (λ s t. spoke_before spans s t ≡ true) round
   unfolding spokes_at
   pairs_rise =
-      sorted_pairs spoke_order round all_spokes
+      sorted_pairs (order spans h v) round all_spokes
       (sort_by-is_sorted (spoke_before spans) all
-      (all_pairs_decided (IsSpoke spans v) (spoke_before spans) tied all
+      (all_pairs_decided (IsSpoke spans v) (spoke_before spans) (decided spans h v) all
       (All-from_sort_by (spoke_before spans) (IsSpoke spans v) all all_spokes)
       (AllPairs-filter (λ s t. s ≢ t) (λ s. same_point (start_of spans s) v) (sides (length spans)) (sides_differ (length spans)))))
 
@@ -238,7 +199,7 @@ module _ (spans : List Span) (h : AreSpans spans) (v : Point) where
       by_test (nat_lt i j)
       (λ t. absurd (false≢true (sym (one_way (get_or round i d) (get_or round j d) (spoke_at i d l) (spoke_at j d m) (pairs_rise i j d (ltb-true i j t) m)) ∙ e)))
       (λ g. let other = ltb-false i j g in let same : i ≡ j = omega arith in
-      absurd (false≢true (sym (spoke_order.itself (get_or round i d) (spoke_at i d l)) ∙ subst (λ (k : ℕ). spoke_before spans (get_or round k d) (get_or round i d) ≡ true) (sym same) e))))
+      absurd (false≢true (sym ((order spans h v).itself (get_or round i d) (spoke_at i d l)) ∙ subst (λ (k : ℕ). spoke_before spans (get_or round k d) (get_or round i d) ≡ true) (sym same) e))))
 
   -- the last place of those up to one, where none of these comes after it
   last_place : (k j : ℕ) (d : Side) → k < length round → j ≤ k → spoke_before spans (get_or round j d) (get_or round k d) ≡ false → j ≡ k

@@ -121,7 +121,7 @@ impl Places {
 
     /// Lists the parts of an arc that is split: it keeps the points of the front, and an arc in a new slot has those of the rest.
     /// Only the shorter part is listed anew, and the other one has what was listed for both. So a point is listed anew only
-    /// where its arc has half as many points afterwards. For what was a point of the arc more may be listed than has it.
+    /// where its arc has at most half as many segments afterwards. The other part stays listed for all points of the arc.
     pub fn split(
         &mut self,
         alloc: Global,

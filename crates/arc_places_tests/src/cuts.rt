@@ -66,7 +66,8 @@ fn slots_of(alloc: Global, arcs: &[BaseArc]) -> Result<Vec<BaseArc>, Memory>
 {
     let all = copied_arcs(alloc, arcs)?.into_vec();
     let later = with_gap(alloc, all, 1)?;
-    with_gap(alloc, later, 0)
+    let made = with_gap(alloc, later, 0)?;
+    Ok(made)
 }
 
 /// The sides that a cut of the face takes over, by a table of the arcs.

@@ -29,11 +29,12 @@ fn is_listed(places: &Places, point: &Point, slot: usize) -> bool {
 }
 
 /// How many slots are listed for all points together.
-fn count_all(places: &Places, points: &[Point]) -> u64 {
-    points
-        .iter()
-        .map(|point| places.of_point(point).count() as u64)
-        .sum()
+fn count_all(places: &Places, points: &[Point]) -> usize {
+    let mut all: usize = 0;
+    for point in points {
+        all = all.saturating_add(places.of_point(point).count());
+    }
+    all
 }
 
 /// The places of the points of one arc, in slot 0.
@@ -90,7 +91,7 @@ fn are_apart(places: &Places, points: &[Point], slots: &[usize]) -> bool {
 }
 
 /// How many slots are listed after splits from the first point on, if each segment is listed then.
-fn from_the_start(alloc: Global) -> Result<Option<u64>, Memory> {
+fn from_the_start(alloc: Global) -> Result<Option<usize>, Memory> {
     let points = row(alloc)?;
     let mut places = one_arc(alloc, &points)?;
     let mut slots = Vec::new(alloc);
@@ -110,7 +111,7 @@ fn from_the_start(alloc: Global) -> Result<Option<u64>, Memory> {
 }
 
 /// How many slots are listed after splits from the last point on, if each segment is listed then.
-fn from_the_end(alloc: Global) -> Result<Option<u64>, Memory> {
+fn from_the_end(alloc: Global) -> Result<Option<usize>, Memory> {
     let points = row(alloc)?;
     let mut places = one_arc(alloc, &points)?;
     let mut slots = Vec::new(alloc);
@@ -154,7 +155,7 @@ fn halved(
 }
 
 /// How many slots are listed after all arcs were halved ten times, if each segment is listed then.
-fn by_halves(alloc: Global) -> Result<Option<u64>, Memory> {
+fn by_halves(alloc: Global) -> Result<Option<usize>, Memory> {
     let points = row(alloc)?;
     let mut places = one_arc(alloc, &points)?;
     let mut slots = Vec::new(alloc);
