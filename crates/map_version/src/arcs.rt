@@ -23,7 +23,7 @@ ghost use Rattle.map_version.specs.Positions.{position, first_place, changed_at}
 use crate::cause::cause_of;
 use crate::labels::{Counts, Fusion, SlotSide, pass_over};
 use crate::path::{Sought, has_point, insert_in, is_end, move_in, remove_in, split_off};
-use arc_places::{Borders, Places, SlotTable, arcs_in};
+use arc_places::{Borders, ListedSlots, Places, SlotTable, arcs_in};
 use face_cuts::{are_different, cut_along, inner_points};
 use ring_walk::Side;
 use std::alloc::Global;
@@ -59,14 +59,21 @@ impl Model for IndexedArcs {
 }
 
 /// Moves the old point to the new one in the arcs that are listed.
-fn move_listed(alloc: Global, arcs: &mut [BaseArc], listed: &[usize], old: &Point, new: Point)
+fn move_listed(
+    alloc: Global,
+    arcs: &mut [BaseArc],
+    listed: ListedSlots<'_>,
+    old: &Point,
+    new: Point,
+)
     requires apart { same_point old.now new ≡ false }
-    requires listed { (i : ℕ) → arc_passes (passes old.now) arcs.old i ≡ true → is_among i listed.now ≡ true }
+    requires listed { (i : ℕ) → arc_passes (passes old.now) arcs.old i ≡ true → is_among i listed ≡ true }
     ensures { arcs.new ≡ move_all old.now new arcs.old }
 {
-    for number in listed {
-        if *number < arcs.len() {
-            move_in(alloc, &mut arcs[*number], old, new);
+    for at in 0..listed.count() {
+        let slot = listed.slot(at);
+        if slot < arcs.len() {
+            move_in(alloc, &mut arcs[slot], old, new);
         }
     }
 }
@@ -160,8 +167,9 @@ impl IndexedArcs {
     pub fn has_point(&self, point: &Point) -> bool
         ensures { result ≡ has_point point.now (arcs_of self.now) }
     {
-        for slot in self.places.of_point(point) {
-            if has_point(self.points(*slot), point) {
+        let listed = self.places.of_point(point);
+        for at in 0..listed.count() {
+            if has_point(self.points(listed.slot(at)), point) {
                 return true;
             }
         }
@@ -180,8 +188,9 @@ impl IndexedArcs {
     pub fn is_node(&self, point: &Point) -> bool
         ensures { result ≡ is_node point.now (arcs_of self.now) }
     {
-        for slot in self.places.of_point(point) {
-            if self.ends_at(*slot, point) {
+        let listed = self.places.of_point(point);
+        for at in 0..listed.count() {
+            if self.ends_at(listed.slot(at), point) {
                 return true;
             }
         }
@@ -194,9 +203,11 @@ impl IndexedArcs {
         ensures within { IfSome result (λ place. place.slot < length self.now.slots) }
         ensures found { IfSome result (λ place. position sought.now (arc_number self.now.slots place.slot).points ≡ Some place.at) }
     {
+        let listed = self.places.of_point(sought.point());
         let mut first = None;
-        for slot in self.places.of_point(sought.point()) {
-            first = earlier(first, *slot, sought.position(self.points(*slot)));
+        for at in 0..listed.count() {
+            let slot = listed.slot(at);
+            first = earlier(first, slot, sought.position(self.points(slot)));
         }
         first
     }
@@ -374,7 +385,7 @@ impl IndexedArcs {
     }
 
     /// The arcs with one more, which is last: that at this place keeps its points up to there, and the new one, with the same
-    /// sides, has those from there on.
+    /// sides, has those from there on. Only the shorter part is listed anew, by its points.
     pub fn split(self, alloc: Global, place: Place) -> Result<IndexedArcs, Memory>
         requires slot { place.slot < length self.slots }
         requires at { place.at < length (arc_number self.slots place.slot).points }
@@ -385,19 +396,23 @@ impl IndexedArcs {
     {
         let IndexedArcs {
             mut slots,
-            places,
-            borders,
+            mut places,
+            mut borders,
             mut counts,
         } = self;
         let rest = split_off(alloc, &mut slots[place.slot], place.at)?;
-        counts.points -= rest.points.len() - 1;
-        let kept = IndexedArcs {
+        let front = slots[place.slot].points.as_slice();
+        places.split(alloc, place.slot, slots.len(), front, rest.points.as_slice())?;
+        borders.list_sides(slots.len(), &rest)?;
+        counts.arcs += 1;
+        counts.points += 1;
+        slots.push(rest)?;
+        Ok(IndexedArcs {
             slots,
             places,
             borders,
             counts,
-        };
-        kept.push(alloc, rest)
+        })
     }
 
     /// The arcs without those between two faces, one of which is a part of the other then, with the numbers of the faces afterwards.
@@ -494,8 +509,7 @@ impl IndexedArcs {
         counts.arcs += 1;
         counts.points += arc.points.len();
         places.list_points(alloc, slots.len(), arc.points.as_slice())?;
-        borders.list(arc.left, slots.len())?;
-        borders.list(arc.right, slots.len())?;
+        borders.list_sides(slots.len(), &arc)?;
         slots.push(arc)?;
         Ok(IndexedArcs {
             slots,
