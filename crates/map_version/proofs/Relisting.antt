@@ -134,6 +134,11 @@ pushed_borders before after slots a listed covers f i e =
 
 -- ---- an arc that is split
 
+pub length-changed : (i : ℕ) (change : List Point → List Point) (slots : List BaseArc) → length (changed_at i change slots) ≡ length slots
+length-changed i change [] = refl
+length-changed zero change (a ∷ slots) = refl
+length-changed (suc i) change (a ∷ slots) = ap (λ (n : ℕ). suc n) (length-changed i change slots)
+
 -- the front in its slot and the rest in a new one
 pub split_places : (before after : Point → List ℕ) (slots : List BaseArc) (i k : ℕ) (rest : BaseArc) → rest.points ≡ drop k (arc_number slots i).points
     → ((p : Point) → is_among i (before p) ≡ true → list_any (same_point p) (take (k + 1) (arc_number slots i).points) ≡ true → is_among i (after p) ≡ true)
@@ -150,23 +155,22 @@ split_places before after slots i k rest same front back others covers p j e =
     by_test (eqb i j)
     (λ t.
     let here : arc_passes (passes p) cut i ≡ true = subst (λ (n : ℕ). arc_passes (passes p) cut n ≡ true) (sym (eqb-true i j t)) h in
-    let now : list_any (same_point p) (take (k + 1) a.points) ≡ true = sym (changed_here p slots i (take (k + 1)) refl) ∙ here in
+    let now : list_any (same_point p) (take (k + 1) a.points) ≡ true = sym (changed_here p slots i (take (k + 1)) (none_taken p (k + 1))) ∙ here in
     subst (λ (n : ℕ). is_among n (after p) ≡ true) (eqb-true i j t) (front p (had (any_taken (same_point p) (k + 1) a.points now)) now))
     (λ f. others p j (λ s. eqb-false i j f (sym s)) (λ s. false≢true (sym (passes_past (passes p) slots j (omega (arith, s))) ∙ old)) ∙ covers p j old))
     (λ n t.
     let last : j ≡ length slots = sym n ∙ length-changed i (take (k + 1)) slots in
     subst (λ (m : ℕ). is_among m (after p) ≡ true) (sym last) (back p (had (any_dropped (same_point p) k a.points (sym (ap (list_any (same_point p)) same) ∙ t))) t))
   where
-    length-changed : (m : ℕ) (change : List Point → List Point) (xs : List BaseArc) → length (changed_at m change xs) ≡ length xs
-    length-changed m change [] = refl
-    length-changed zero change (x ∷ xs) = refl
-    length-changed (suc m) change (x ∷ xs) = ap (λ (n : ℕ). suc n) (length-changed m change xs)
-
     changed_here : (q : Point) (xs : List BaseArc) (m : ℕ) (change : List Point → List Point) → list_any (same_point q) (change []) ≡ false
         → arc_passes (passes q) (changed_at m change xs) m ≡ list_any (same_point q) (change (arc_number xs m).points)
     changed_here q [] m change none = sym none
     changed_here q (x ∷ xs) zero change none = refl
     changed_here q (x ∷ xs) (suc m) change none = changed_here q xs m change none
+
+    none_taken : (q : Point) (m : ℕ) → list_any (same_point q) (take m []) ≡ false
+    none_taken q zero = refl
+    none_taken q (suc m) = refl
 
     any_dropped : (test : Point → Bool) (m : ℕ) (points : List Point) → list_any test (drop m points) ≡ true → list_any test points ≡ true
     any_dropped test zero points h = h
