@@ -38,13 +38,14 @@ pub struct Place {
 }
 
 /// Arcs in slots, for each point the slots of arcs that may have it, and for each face those of arcs that may border it. An arc
-/// keeps its slot as long as it is there, and one without points is gone.
+/// keeps its slot as long as it is there, and one without points is gone. So much may cuts list yet before all is made anew.
 #[derive(Drop)]
 pub struct IndexedArcs {
     slots: Vec<BaseArc>,
     places: Places,
     borders: Borders,
     counts: Counts,
+    spare: usize,
 }
 
 impl Model for IndexedArcs {
@@ -143,6 +144,7 @@ impl IndexedArcs {
             places,
             borders,
             counts,
+            spare: counts.arcs + counts.points,
         })
     }
 
@@ -323,6 +325,7 @@ impl IndexedArcs {
             mut places,
             borders,
             counts,
+            spare,
         } = self;
         move_listed(alloc, &mut slots, places.of_point(old), old, new);
         places.pass(alloc, old, new)?;
@@ -331,6 +334,7 @@ impl IndexedArcs {
             places,
             borders,
             counts,
+            spare,
         })
     }
 
@@ -348,6 +352,7 @@ impl IndexedArcs {
             mut places,
             borders,
             mut counts,
+            spare,
         } = self;
         insert_in(alloc, &mut slots[place.slot], place.at, new)?;
         places.set(alloc, new, place.slot)?;
@@ -357,6 +362,7 @@ impl IndexedArcs {
             places,
             borders,
             counts,
+            spare,
         })
     }
 
@@ -373,6 +379,7 @@ impl IndexedArcs {
             places,
             borders,
             mut counts,
+            spare,
         } = self;
         remove_in(alloc, &mut slots[place.slot], place.at);
         counts.points -= 1;
@@ -381,6 +388,7 @@ impl IndexedArcs {
             places,
             borders,
             counts,
+            spare,
         }
     }
 
@@ -399,6 +407,7 @@ impl IndexedArcs {
             mut places,
             mut borders,
             mut counts,
+            spare,
         } = self;
         let rest = split_off(alloc, &mut slots[place.slot], place.at)?;
         let front = slots[place.slot].points.as_slice();
@@ -412,6 +421,7 @@ impl IndexedArcs {
             places,
             borders,
             counts,
+            spare,
         })
     }
 
@@ -430,6 +440,7 @@ impl IndexedArcs {
             places,
             mut borders,
             mut counts,
+            spare,
         } = self;
         fusion.apply(alloc, &mut slots, &borders, &mut counts);
         borders.fuse(alloc, fusion.kept, fusion.gone)?;
@@ -438,6 +449,7 @@ impl IndexedArcs {
             places,
             borders,
             counts,
+            spare,
         })
     }
 
@@ -461,14 +473,31 @@ impl IndexedArcs {
         ensures arcs { GivesArcs result (cut_arcs (arcs_of self) face new points) }
         ensures faces { IfOk result (λ arcs. arcs.faces ≡ self.faces + 1) }
     {
-        let moved = self.moved_sides(alloc, face, points.as_slice())?;
-        let parted = self.part(alloc, new, moved.as_slice())?;
+        let arcs = self.renewed(alloc, new as usize - 1)?;
+        let moved = arcs.moved_sides(alloc, face, points.as_slice())?;
+        let parted = arcs.part(alloc, new, moved.as_slice())?;
         let arc = BaseArc {
             left: new,
             right: face,
             points,
         };
         Ok(parted.push(alloc, arc)?)
+    }
+
+    /// The same arcs. Where cuts have listed as much as the map had when the arcs were indexed, they are indexed anew. So what is
+    /// gone takes no more room than what is there, and a cut that is taken back again and again is as fast as the first time.
+    fn renewed(self, alloc: Global, faces: usize) -> Result<IndexedArcs, Memory>
+        requires few { faces < 2 ^ 32 }
+        requires count { faces ≡ self.faces }
+        requires points { count_points (arcs_of self) ≤ MAX_POINTS }
+        ensures arcs { IfOk result (λ arcs. arcs_of arcs ≡ arcs_of self) }
+        ensures faces { IfOk result (λ arcs. arcs.faces ≡ self.faces) }
+    {
+        if self.spare > 0 {
+            return Ok(self);
+        }
+        let arcs = self.into_list();
+        IndexedArcs::of(alloc, arcs.as_slice(), faces)
     }
 
     /// The arcs with a new last face at these sides.
@@ -481,7 +510,9 @@ impl IndexedArcs {
             places,
             mut borders,
             counts,
+            mut spare,
         } = self;
+        spare = spare.saturating_sub(moved.len());
         borders.add_face(alloc)?;
         pass_over(&mut slots, &mut borders, new, moved)?;
         Ok(IndexedArcs {
@@ -489,6 +520,7 @@ impl IndexedArcs {
             places,
             borders,
             counts,
+            spare,
         })
     }
 
@@ -505,9 +537,11 @@ impl IndexedArcs {
             mut places,
             mut borders,
             mut counts,
+            mut spare,
         } = self;
         counts.arcs += 1;
         counts.points += arc.points.len();
+        spare = spare.saturating_sub(arc.points.len());
         places.list_points(alloc, slots.len(), arc.points.as_slice())?;
         borders.list_sides(slots.len(), &arc)?;
         slots.push(arc)?;
@@ -516,6 +550,7 @@ impl IndexedArcs {
             places,
             borders,
             counts,
+            spare,
         })
     }
 }

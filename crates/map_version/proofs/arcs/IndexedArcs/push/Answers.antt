@@ -21,12 +21,12 @@ invariant_of-result c =
     (record {
       by_point = pushed_places (listed c.self.inside.places) (listed c.list_points.new.self) slots a
           (λ p i. c.in_ok-list_points.ensures p i
-          ∙ (ap (λ (n : ℕ). is_among i (listed c.self.inside.places p) || ((n == i) && list_any (same_point p) c.as_slice.result.now)) (c.len-2.ensures ∙ long)
+          ∙ (ap (λ (n : ℕ). is_among i (listed c.self.inside.places p) || ((n == i) && list_any (same_point p) c.as_slice.result.now)) (c.len-3.ensures ∙ long)
           ∙ ap (λ (points : List Point). is_among i (listed c.self.inside.places p) || ((length slots == i) && list_any (same_point p) points)) c.as_slice.ensures))
           c.self.invariant.by_point;
       by_face = pushed_borders (bordering c.self.inside.borders) (bordering c.list_sides.new.self) slots a
           (λ f i. c.in_ok-list_sides.ensures.listed f i
-          ∙ ap (λ (n : ℕ). is_among i (bordering c.self.inside.borders f) || ((n == i) && borders_face f a)) (c.len-3.ensures ∙ long))
+          ∙ ap (λ (n : ℕ). is_among i (bordering c.self.inside.borders f) || ((n == i) && borders_face f a)) (c.len-4.ensures ∙ long))
           c.self.invariant.by_face;
       counted = subst (λ (n : ℕ). AreCounted (slots ++ a ∷ []) (record { arcs = counts.arcs + 1; points = counts.points + n })) (sym c.len.ensures) (counted_more slots a counts c.requires.some c.self.invariant.counted);
     })
