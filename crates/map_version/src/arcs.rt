@@ -411,7 +411,13 @@ impl IndexedArcs {
         } = self;
         let rest = split_off(alloc, &mut slots[place.slot], place.at)?;
         let front = slots[place.slot].points.as_slice();
-        places.split(alloc, place.slot, slots.len(), front, rest.points.as_slice())?;
+        places.split(
+            alloc,
+            place.slot,
+            slots.len(),
+            front,
+            rest.points.as_slice(),
+        )?;
         borders.list_sides(slots.len(), &rest)?;
         counts.arcs += 1;
         counts.points += 1;

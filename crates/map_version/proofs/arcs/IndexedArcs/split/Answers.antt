@@ -1,4 +1,4 @@
-use Rattle.std.proofs.Common.{◌≡◌, ◌<◌, ◌≤◌, ◌+◌, ◌-◌, ◌∙◌, ◌++◌, ◌∷◌, ◌&&◌, ◌||◌, ◌==◌, ℕ, true, List, [], length, take, drop, set, sym, ap, subst, arith}
+use Rattle.std.proofs.Common.{◌≡◌, ◌<◌, ◌+◌, ◌-◌, ◌∙◌, ◌++◌, ◌∷◌, ◌&&◌, ◌||◌, ◌==◌, ℕ, true, List, [], length, take, drop, sym, ap, subst, arith}
 use Rattle.std.proofs.lemmas.List.{get_or_default, get_or-set_same, length-drop, length-take-le}
 use Rattle.std.specs.List.{list_any}
 use Rattle.std.specs.Vec.{vec_len}
