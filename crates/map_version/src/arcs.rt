@@ -38,7 +38,7 @@ pub struct Place {
 }
 
 /// Arcs in slots, for each point the slots of arcs that may have it, and for each face those of arcs that may border it. An arc
-/// keeps its slot as long as it is there, and one without points is gone. So much may cuts list yet before all is made anew.
+/// keeps its slot as long as it is there, and one without points is gone. Cuts may list `spare` more before all is indexed anew.
 #[derive(Drop)]
 pub struct IndexedArcs {
     slots: Vec<BaseArc>,
@@ -490,8 +490,8 @@ impl IndexedArcs {
         Ok(parted.push(alloc, arc)?)
     }
 
-    /// The same arcs. Where cuts have listed as much as the map had when the arcs were indexed, they are indexed anew. So what is
-    /// gone takes no more room than what is there, and a cut that is taken back again and again is as fast as the first time.
+    /// The same arcs. Where cuts have listed as much as the map had when the arcs were indexed, they are indexed anew, in other
+    /// slots. So what is gone takes no more room than what is there, and a cut that is taken back again and again costs the same.
     fn renewed(self, alloc: Global, faces: usize) -> Result<IndexedArcs, Memory>
         requires few { faces < 2 ^ 32 }
         requires count { faces ≡ self.faces }
