@@ -41,6 +41,21 @@ all_there n (a ∷ arcs) all =
     let here : is_there a ≡ true = (let long = (arc_facts n a parts.0).two_points in there a (omega arith)) in
     ap (λ (b : Bool). cond b (a ∷ arcs_in arcs) (arcs_in arcs)) here ∙ ap (λ (rest : List BaseArc). a ∷ rest) (all_there n arcs parts.1)
 
+-- what is there is so among those that are
+pub there_again : (slots : List BaseArc) → arcs_in (arcs_in slots) ≡ arcs_in slots
+there_again [] = refl
+there_again (a ∷ slots) =
+    by_test (is_there a)
+    (λ t.
+    ap (λ (b : Bool). arcs_in (cond b (a ∷ arcs_in slots) (arcs_in slots))) t
+    ∙ ap (λ (b : Bool). cond b (a ∷ arcs_in (arcs_in slots)) (arcs_in (arcs_in slots))) t
+    ∙ ap (λ (rest : List BaseArc). a ∷ rest) (there_again slots)
+    ∙ ap (λ (b : Bool). cond b (a ∷ arcs_in slots) (arcs_in slots)) (sym t))
+    (λ f.
+    ap (λ (b : Bool). arcs_in (cond b (a ∷ arcs_in slots) (arcs_in slots))) f
+    ∙ there_again slots
+    ∙ ap (λ (b : Bool). cond b (a ∷ arcs_in slots) (arcs_in slots)) (sym f))
+
 -- ---- what is found
 
 -- some arc passes a test where some slot has one that is there and passes

@@ -1,5 +1,5 @@
 -- The arcs that are listed for a point, and what a search of them alone tells of all arcs.
-use Rattle.std.proofs.Common.{◌≡◌, ◌∙◌, ℕ, zero, suc, ◌≤◌, ◌<◌, eqb, nat_lt, ◌+◌, Bool, true, false, ◌&&◌, ◌||◌, List, [], ◌∷◌, length, get_or, take, refl, sym, ap, subst, arith}
+use Rattle.std.proofs.Common.{◌≡◌, ◌∙◌, ℕ, zero, suc, ◌≤◌, ◌<◌, eqb, nat_lt, ◌+◌, Bool, true, false, ◌&&◌, ◌||◌, List, [], ◌∷◌, length, get_or, take, refl, sym, ap, arith}
 use Rattle.std.specs.List.{list_any}
 use Rattle.std.proofs.lemmas.Bool.{false≢true, or_left, or_right, or_from, eqb-true, eq-eqb, lt-ltb}
 use Rattle.std.proofs.lemmas.List.{take_all}
@@ -10,6 +10,7 @@ use Rattle.tgap_model.specs.Base.{same_point}
 use Rattle.tgap_model.specs.Chains.{first_point, last_point, arc_number}
 use Rattle.face_cuts.specs.Nodes.{passes}
 use Rattle.arc_places.specs.Places.{arc_passes, is_among}
+use Rattle.arc_places.proofs.Listed.{listed_passes, some_listed}
 use Rattle.edit_laws.proofs.Cases.{by_test, same_test}
 use Rattle.map_version.specs.Indexed.{ends_at, ends_there}
 
@@ -33,21 +34,6 @@ any_passes test (a ∷ arcs) e use_it =
     by_test (test a)
     (λ t. use_it 0 t)
     (λ f. any_passes test arcs (rw f at e) (λ i h. use_it (suc i) h))
-
--- a number that is listed and passes
-pub listed_passes : (passes : ℕ → Bool) (numbers : List ℕ) (i : ℕ) → is_among i numbers ≡ true → passes i ≡ true → list_any passes numbers ≡ true
-listed_passes passes [] i among passed = absurd (false≢true among)
-listed_passes passes (j ∷ numbers) i among passed =
-    by_test (eqb j i)
-    (λ t. or_left (passes j) (list_any passes numbers) (let same = eqb-true j i t in subst (λ (n : ℕ). passes n ≡ true) (sym same) passed))
-    (λ f. or_right (passes j) (list_any passes numbers) (listed_passes passes numbers i (rw f at among) passed))
-
-pub some_listed : {P : Type 0} (passes : ℕ → Bool) (numbers : List ℕ) → list_any passes numbers ≡ true → ((i : ℕ) → passes i ≡ true → P) → P
-some_listed passes [] e use_it = absurd (false≢true e)
-some_listed passes (j ∷ numbers) e use_it =
-    by_test (passes j)
-    (λ t. use_it j t)
-    (λ f. some_listed passes numbers (rw f at e) use_it)
 
 -- a weaker test of an arc passes
 pub passes_more : (test more : BaseArc → Bool) → ((a : BaseArc) → test a ≡ true → more a ≡ true) → (arcs : List BaseArc) (i : ℕ) → arc_passes test arcs i ≡ true → arc_passes more arcs i ≡ true

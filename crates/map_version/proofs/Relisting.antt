@@ -1,7 +1,7 @@
 -- Slots as they get other faces and one more, and what is listed then.
-use Rattle.std.proofs.Common.{◌≡◌, ◌∙◌, ℕ, zero, suc, ◌<◌, eqb, nat_lt, Bool, true, false, ◌&&◌, ◌||◌, if◌then◌else◌, List, [], ◌∷◌, ◌++◌, length, set, refl, sym, ap, subst}
+use Rattle.std.proofs.Common.{◌≡◌, ◌≢◌, ◌∙◌, ℕ, zero, suc, ◌<◌, ◌+◌, eqb, nat_lt, Bool, true, false, ◌&&◌, ◌||◌, if◌then◌else◌, List, [], ◌∷◌, ◌++◌, length, set, take, drop, refl, sym, ap, subst, arith}
 use Rattle.std.specs.List.{list_any}
-use Rattle.std.proofs.lemmas.Bool.{and_parts, and_from, or_left, or_right, cond-true, cond-false, eqb-true, eq-eqb, false≢true, ltb-true, ltb-false}
+use Rattle.std.proofs.lemmas.Bool.{and_parts, and_from, or_left, or_right, cond-true, cond-false, eqb-true, eqb-false, eq-eqb, false≢true, ltb-true, ltb-false}
 use Rattle.std.proofs.lemmas.List.{set_past}
 use Rattle.std.proofs.lemmas.List.Folds.{list_any-append}
 use Rattle.tgap_model.specs.declared.geometry.Point.{Point}
@@ -15,12 +15,14 @@ use Rattle.face_cuts.specs.Nodes.{passes}
 use Rattle.arc_places.specs.Slots.{is_there}
 use Rattle.arc_places.specs.Places.{arc_passes, is_among, Covers}
 use Rattle.arc_places.specs.Borders.{CoversFaces, is_beside}
-use Rattle.arc_places.proofs.Listed.{passes_at}
+use Rattle.arc_places.proofs.Listed.{passes_at, passes_here, passes_past}
 use Rattle.map_version.specs.declared.labels.Counts.{Counts}
 use Rattle.map_version.specs.declared.labels.SlotSide.{SlotSide}
 use Rattle.map_version.specs.Indexed.{AreCounted}
 use Rattle.map_version.specs.Labels.{passed_over, with_side}
 use Rattle.map_version.proofs.Changing.{passes_set_here, passes_set_other}
+use Rattle.map_version.specs.Positions.{changed_at}
+use Rattle.map_version.proofs.InSlots.{any_taken, passes_changed}
 use Rattle.map_version.proofs.Counting.{counted_same}
 
 -- ---- a side that gets another face
@@ -121,15 +123,56 @@ pushed_places before after slots a listed covers p i e =
     (λ h. or_left (is_among i (before p)) (eqb (length slots) i && list_any (same_point p) a.points) (covers p i h))
     (λ n t. or_right (is_among i (before p)) (eqb (length slots) i && list_any (same_point p) a.points) (and_from (eqb (length slots) i) (list_any (same_point p) a.points) (eq-eqb (length slots) i n) t))
 
-pub pushed_borders : (before between after : ℕ → List ℕ) (slots : List BaseArc) (a : BaseArc)
-    → ((f : ℕ) → between f ≡ (if eqb f a.left then before a.left ++ length slots ∷ [] else before f))
-    → ((f : ℕ) → after f ≡ (if eqb f a.right then between a.right ++ length slots ∷ [] else between f))
+pub pushed_borders : (before after : ℕ → List ℕ) (slots : List BaseArc) (a : BaseArc)
+    → ((f i : ℕ) → is_among i (after f) ≡ (is_among i (before f) || ((eqb (length slots) i) && borders_face f a)))
     → CoversFaces before slots → CoversFaces after (slots ++ a ∷ [])
-pushed_borders before between after slots a first second covers f i e =
-    last_passes (is_beside f) slots a i e
-    (λ h. listed_still between after a.right (length slots) second f i (listed_still before between a.left (length slots) first f i (covers f i h)))
-    (λ n t. subst (λ (k : ℕ). is_among k (after f) ≡ true) n (by_test (eqb a.left f)
-    (λ l. listed_still between after a.right (length slots) second f (length slots) (ap (λ (k : ℕ). is_among (length slots) (between k)) (sym (eqb-true a.left f l)) ∙ listed_here before between a.left (length slots) first))
-    (λ l.
-    let r : eqb a.right f ≡ true = sym (ap (λ (b : Bool). b || eqb a.right f) l) ∙ (and_parts (is_there a) (borders_face f a) t).1 in
-    ap (λ (k : ℕ). is_among (length slots) (after k)) (sym (eqb-true a.right f r)) ∙ listed_here between after a.right (length slots) second)))
+pushed_borders before after slots a listed covers f i e =
+    listed f i ∙ last_passes (is_beside f) slots a i e
+    (λ h. or_left (is_among i (before f)) (eqb (length slots) i && borders_face f a) (covers f i h))
+    (λ n t. or_right (is_among i (before f)) (eqb (length slots) i && borders_face f a)
+    (and_from (eqb (length slots) i) (borders_face f a) (eq-eqb (length slots) i n) (and_parts (is_there a) (borders_face f a) t).1))
+
+-- ---- an arc that is split
+
+pub length-changed : (i : ℕ) (change : List Point → List Point) (slots : List BaseArc) → length (changed_at i change slots) ≡ length slots
+length-changed i change [] = refl
+length-changed zero change (a ∷ slots) = refl
+length-changed (suc i) change (a ∷ slots) = ap (λ (n : ℕ). suc n) (length-changed i change slots)
+
+-- the front in its slot and the rest in a new one
+pub split_places : (before after : Point → List ℕ) (slots : List BaseArc) (i k : ℕ) (rest : BaseArc) → rest.points ≡ drop k (arc_number slots i).points
+    → ((p : Point) → is_among i (before p) ≡ true → list_any (same_point p) (take (k + 1) (arc_number slots i).points) ≡ true → is_among i (after p) ≡ true)
+    → ((p : Point) → is_among i (before p) ≡ true → list_any (same_point p) rest.points ≡ true → is_among (length slots) (after p) ≡ true)
+    → ((p : Point) (j : ℕ) → j ≢ i → j ≢ length slots → is_among j (after p) ≡ is_among j (before p))
+    → Covers before slots → Covers after (changed_at i (take (k + 1)) slots ++ rest ∷ [])
+split_places before after slots i k rest same front back others covers p j e =
+    let a = arc_number slots i in
+    let cut = changed_at i (take (k + 1)) slots in
+    let had : list_any (same_point p) a.points ≡ true → is_among i (before p) ≡ true = λ t. covers p i (passes_here p slots i ∙ t) in
+    last_passes (passes p) cut rest j e
+    (λ h.
+    let old : arc_passes (passes p) slots j ≡ true = passes_changed (passes p) i (take (k + 1)) slots (λ t. any_taken (same_point p) (k + 1) a.points t) j h in
+    by_test (eqb i j)
+    (λ t.
+    let here : arc_passes (passes p) cut i ≡ true = subst (λ (n : ℕ). arc_passes (passes p) cut n ≡ true) (sym (eqb-true i j t)) h in
+    let now : list_any (same_point p) (take (k + 1) a.points) ≡ true = sym (changed_here p slots i (take (k + 1)) (none_taken p (k + 1))) ∙ here in
+    subst (λ (n : ℕ). is_among n (after p) ≡ true) (eqb-true i j t) (front p (had (any_taken (same_point p) (k + 1) a.points now)) now))
+    (λ f. others p j (λ s. eqb-false i j f (sym s)) (λ s. false≢true (sym (passes_past (passes p) slots j (omega (arith, s))) ∙ old)) ∙ covers p j old))
+    (λ n t.
+    let last : j ≡ length slots = sym n ∙ length-changed i (take (k + 1)) slots in
+    subst (λ (m : ℕ). is_among m (after p) ≡ true) (sym last) (back p (had (any_dropped (same_point p) k a.points (sym (ap (list_any (same_point p)) same) ∙ t))) t))
+  where
+    changed_here : (q : Point) (xs : List BaseArc) (m : ℕ) (change : List Point → List Point) → list_any (same_point q) (change []) ≡ false
+        → arc_passes (passes q) (changed_at m change xs) m ≡ list_any (same_point q) (change (arc_number xs m).points)
+    changed_here q [] m change none = sym none
+    changed_here q (x ∷ xs) zero change none = refl
+    changed_here q (x ∷ xs) (suc m) change none = changed_here q xs m change none
+
+    none_taken : (q : Point) (m : ℕ) → list_any (same_point q) (take m []) ≡ false
+    none_taken q zero = refl
+    none_taken q (suc m) = refl
+
+    any_dropped : (test : Point → Bool) (m : ℕ) (points : List Point) → list_any test (drop m points) ≡ true → list_any test points ≡ true
+    any_dropped test zero points h = h
+    any_dropped test (suc m) [] h = h
+    any_dropped test (suc m) (q ∷ points) h = or_right (test q) (list_any test points) (any_dropped test m points h)

@@ -2,7 +2,7 @@
 use Rattle.std.proofs.Common.{◌≡◌, ◌≢◌, ◌∙◌, ℕ, zero, suc, ◌≤◌, ◌<◌, eqb, Bool, true, false, ◌&&◌, ◌||◌, not, cond, List, [], ◌∷◌, length, map, refl, sym, ap, subst, arith}
 use Rattle.std.specs.List.{list_any}
 use Rattle.std.proofs.lemmas.Bool.{and_parts, or_parts, and_from, or_left, or_right, cond-true, cond-false, eqb-true, eq-eqb, false≢true}
-use Rattle.std.proofs.lemmas.List.Elements.{All-head, All-tail}
+use Rattle.std.proofs.lemmas.List.Elements.{All-cons, All-head, All-nil, All-tail}
 use Rattle.tgap_model.specs.declared.geometry.Point.{Point}
 use Rattle.tgap_model.specs.declared.base.BaseArc.{BaseArc}
 use Rattle.tgap_model.specs.Base.{borders_face}
@@ -12,8 +12,8 @@ use Rattle.edit_laws.proofs.Cases.{by_test, not_held}
 use Rattle.face_cuts.specs.Nodes.{passes}
 use Rattle.face_cuts.specs.Fusions.{is_between, joined, others, relabelled, renumbered}
 use Rattle.arc_places.specs.Slots.{arcs_in, is_there}
-use Rattle.arc_places.specs.Places.{arc_passes, Covers}
-use Rattle.arc_places.specs.Borders.{HasFaces, HaveFaces, is_beside}
+use Rattle.arc_places.specs.Places.{arc_passes, is_among, Covers}
+use Rattle.arc_places.specs.Borders.{CoversFaces, HasFaces, HaveFaces, bordering, face_count, is_beside}
 use Rattle.arc_places.proofs.Listed.{passes_at}
 use Rattle.map_version.specs.Labels.{cleared, is_other, is_taken, renamed}
 use Rattle.map_version.proofs.Changing.{IsChange}
@@ -361,3 +361,23 @@ faces_of_slot n slots i lt here have =
       left = within_faces n slots have a.left i (passes_at (is_beside a.left) slots i lt ∙ and_from (is_there a) (borders_face a.left a) here (or_left (eqb a.left a.left) (eqb a.right a.left) (eq-eqb a.left a.left refl)));
       right = within_faces n slots have a.right i (passes_at (is_beside a.right) slots i lt ∙ and_from (is_there a) (borders_face a.right a) here (or_right (eqb a.left a.right) (eqb a.right a.right) (eq-eqb a.right a.right refl)));
     }
+
+-- so are the faces of all of them, where each arc that is there is listed for its faces
+pub faces_listed : (rows : List (List ℕ)) (slots : List BaseArc) → CoversFaces (bordering rows) slots → HaveFaces (face_count rows) (arcs_in slots)
+faces_listed rows slots covers = each slots (λ f i e. row_there rows f i (covers f i e))
+  where
+    row_there : (xs : List (List ℕ)) (f i : ℕ) → is_among i (bordering xs f) ≡ true → f ≤ face_count xs
+    row_there [] f i e = absurd (false≢true e)
+    row_there (x ∷ xs) zero i e = omega arith
+    row_there (x ∷ []) (suc f) i e = absurd (false≢true e)
+    row_there (x ∷ y ∷ xs) (suc f) i e = (let le = row_there (y ∷ xs) f i e in omega arith)
+
+    each : (xs : List BaseArc) → ((f i : ℕ) → arc_passes (is_beside f) xs i ≡ true → f ≤ face_count rows) → HaveFaces (face_count rows) (arcs_in xs)
+    each [] within = All-nil (HasFaces (face_count rows))
+    each (a ∷ xs) within =
+        by_test (is_there a)
+        (λ t. subst (λ (b : Bool). HaveFaces (face_count rows) (cond b (a ∷ arcs_in xs) (arcs_in xs))) (sym t) (All-cons (HasFaces (face_count rows)) a (arcs_in xs) (record {
+          left = within a.left 0 (and_from (is_there a) (borders_face a.left a) t (or_left (eqb a.left a.left) (eqb a.right a.left) (eq-eqb a.left a.left refl)));
+          right = within a.right 0 (and_from (is_there a) (borders_face a.right a) t (or_right (eqb a.left a.right) (eqb a.right a.right) (eq-eqb a.right a.right refl)));
+        }) (each xs (λ f i e. within f (suc i) e))))
+        (λ h. subst (λ (b : Bool). HaveFaces (face_count rows) (cond b (a ∷ arcs_in xs) (arcs_in xs))) (sym h) (each xs (λ f i e. within f (suc i) e)))

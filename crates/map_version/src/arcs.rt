@@ -23,7 +23,7 @@ ghost use Rattle.map_version.specs.Positions.{position, first_place, changed_at}
 use crate::cause::cause_of;
 use crate::labels::{Counts, Fusion, SlotSide, pass_over};
 use crate::path::{Sought, has_point, insert_in, is_end, move_in, remove_in, split_off};
-use arc_places::{Borders, Places, SlotTable, arcs_in};
+use arc_places::{Borders, ListedSlots, Places, SlotTable, arcs_in};
 use face_cuts::{are_different, cut_along, inner_points};
 use ring_walk::Side;
 use std::alloc::Global;
@@ -38,13 +38,14 @@ pub struct Place {
 }
 
 /// Arcs in slots, for each point the slots of arcs that may have it, and for each face those of arcs that may border it. An arc
-/// keeps its slot as long as it is there, and one without points is gone.
+/// keeps its slot as long as it is there, and one without points is gone. Cuts may list `spare` more before all is indexed anew.
 #[derive(Drop)]
 pub struct IndexedArcs {
     slots: Vec<BaseArc>,
     places: Places,
     borders: Borders,
     counts: Counts,
+    spare: usize,
 }
 
 impl Model for IndexedArcs {
@@ -59,14 +60,21 @@ impl Model for IndexedArcs {
 }
 
 /// Moves the old point to the new one in the arcs that are listed.
-fn move_listed(alloc: Global, arcs: &mut [BaseArc], listed: &[usize], old: &Point, new: Point)
+fn move_listed(
+    alloc: Global,
+    arcs: &mut [BaseArc],
+    listed: ListedSlots<'_>,
+    old: &Point,
+    new: Point,
+)
     requires apart { same_point old.now new ≡ false }
-    requires listed { (i : ℕ) → arc_passes (passes old.now) arcs.old i ≡ true → is_among i listed.now ≡ true }
+    requires listed { (i : ℕ) → arc_passes (passes old.now) arcs.old i ≡ true → is_among i listed ≡ true }
     ensures { arcs.new ≡ move_all old.now new arcs.old }
 {
-    for number in listed {
-        if *number < arcs.len() {
-            move_in(alloc, &mut arcs[*number], old, new);
+    for at in 0..listed.count() {
+        let slot = listed.slot(at);
+        if slot < arcs.len() {
+            move_in(alloc, &mut arcs[slot], old, new);
         }
     }
 }
@@ -136,6 +144,7 @@ impl IndexedArcs {
             places,
             borders,
             counts,
+            spare: counts.arcs + counts.points,
         })
     }
 
@@ -160,8 +169,9 @@ impl IndexedArcs {
     pub fn has_point(&self, point: &Point) -> bool
         ensures { result ≡ has_point point.now (arcs_of self.now) }
     {
-        for slot in self.places.of_point(point) {
-            if has_point(self.points(*slot), point) {
+        let listed = self.places.of_point(point);
+        for at in 0..listed.count() {
+            if has_point(self.points(listed.slot(at)), point) {
                 return true;
             }
         }
@@ -180,8 +190,9 @@ impl IndexedArcs {
     pub fn is_node(&self, point: &Point) -> bool
         ensures { result ≡ is_node point.now (arcs_of self.now) }
     {
-        for slot in self.places.of_point(point) {
-            if self.ends_at(*slot, point) {
+        let listed = self.places.of_point(point);
+        for at in 0..listed.count() {
+            if self.ends_at(listed.slot(at), point) {
                 return true;
             }
         }
@@ -194,9 +205,11 @@ impl IndexedArcs {
         ensures within { IfSome result (λ place. place.slot < length self.now.slots) }
         ensures found { IfSome result (λ place. position sought.now (arc_number self.now.slots place.slot).points ≡ Some place.at) }
     {
+        let listed = self.places.of_point(sought.point());
         let mut first = None;
-        for slot in self.places.of_point(sought.point()) {
-            first = earlier(first, *slot, sought.position(self.points(*slot)));
+        for at in 0..listed.count() {
+            let slot = listed.slot(at);
+            first = earlier(first, slot, sought.position(self.points(slot)));
         }
         first
     }
@@ -312,6 +325,7 @@ impl IndexedArcs {
             mut places,
             borders,
             counts,
+            spare,
         } = self;
         move_listed(alloc, &mut slots, places.of_point(old), old, new);
         places.pass(alloc, old, new)?;
@@ -320,6 +334,7 @@ impl IndexedArcs {
             places,
             borders,
             counts,
+            spare,
         })
     }
 
@@ -337,6 +352,7 @@ impl IndexedArcs {
             mut places,
             borders,
             mut counts,
+            spare,
         } = self;
         insert_in(alloc, &mut slots[place.slot], place.at, new)?;
         places.set(alloc, new, place.slot)?;
@@ -346,6 +362,7 @@ impl IndexedArcs {
             places,
             borders,
             counts,
+            spare,
         })
     }
 
@@ -362,6 +379,7 @@ impl IndexedArcs {
             places,
             borders,
             mut counts,
+            spare,
         } = self;
         remove_in(alloc, &mut slots[place.slot], place.at);
         counts.points -= 1;
@@ -370,11 +388,12 @@ impl IndexedArcs {
             places,
             borders,
             counts,
+            spare,
         }
     }
 
     /// The arcs with one more, which is last: that at this place keeps its points up to there, and the new one, with the same
-    /// sides, has those from there on.
+    /// sides, has those from there on. Only the shorter part is listed anew, by its points.
     pub fn split(self, alloc: Global, place: Place) -> Result<IndexedArcs, Memory>
         requires slot { place.slot < length self.slots }
         requires at { place.at < length (arc_number self.slots place.slot).points }
@@ -385,19 +404,31 @@ impl IndexedArcs {
     {
         let IndexedArcs {
             mut slots,
-            places,
-            borders,
+            mut places,
+            mut borders,
             mut counts,
+            spare,
         } = self;
         let rest = split_off(alloc, &mut slots[place.slot], place.at)?;
-        counts.points -= rest.points.len() - 1;
-        let kept = IndexedArcs {
+        let front = slots[place.slot].points.as_slice();
+        places.split(
+            alloc,
+            place.slot,
+            slots.len(),
+            front,
+            rest.points.as_slice(),
+        )?;
+        borders.list_sides(slots.len(), &rest)?;
+        counts.arcs += 1;
+        counts.points += 1;
+        slots.push(rest)?;
+        Ok(IndexedArcs {
             slots,
             places,
             borders,
             counts,
-        };
-        kept.push(alloc, rest)
+            spare,
+        })
     }
 
     /// The arcs without those between two faces, one of which is a part of the other then, with the numbers of the faces afterwards.
@@ -415,6 +446,7 @@ impl IndexedArcs {
             places,
             mut borders,
             mut counts,
+            spare,
         } = self;
         fusion.apply(alloc, &mut slots, &borders, &mut counts);
         borders.fuse(alloc, fusion.kept, fusion.gone)?;
@@ -423,6 +455,7 @@ impl IndexedArcs {
             places,
             borders,
             counts,
+            spare,
         })
     }
 
@@ -446,14 +479,31 @@ impl IndexedArcs {
         ensures arcs { GivesArcs result (cut_arcs (arcs_of self) face new points) }
         ensures faces { IfOk result (λ arcs. arcs.faces ≡ self.faces + 1) }
     {
-        let moved = self.moved_sides(alloc, face, points.as_slice())?;
-        let parted = self.part(alloc, new, moved.as_slice())?;
+        let arcs = self.renewed(alloc, new as usize - 1)?;
+        let moved = arcs.moved_sides(alloc, face, points.as_slice())?;
+        let parted = arcs.part(alloc, new, moved.as_slice())?;
         let arc = BaseArc {
             left: new,
             right: face,
             points,
         };
         Ok(parted.push(alloc, arc)?)
+    }
+
+    /// The same arcs. Where cuts have listed as much as the map had when the arcs were indexed, they are indexed anew, in other
+    /// slots. So what is gone takes no more room than what is there, and a cut that is taken back again and again costs the same.
+    fn renewed(self, alloc: Global, faces: usize) -> Result<IndexedArcs, Memory>
+        requires few { faces < 2 ^ 32 }
+        requires count { faces ≡ self.faces }
+        requires points { count_points (arcs_of self) ≤ MAX_POINTS }
+        ensures arcs { IfOk result (λ arcs. arcs_of arcs ≡ arcs_of self) }
+        ensures faces { IfOk result (λ arcs. arcs.faces ≡ self.faces) }
+    {
+        if self.spare > 0 {
+            return Ok(self);
+        }
+        let arcs = self.into_list();
+        IndexedArcs::of(alloc, arcs.as_slice(), faces)
     }
 
     /// The arcs with a new last face at these sides.
@@ -466,7 +516,9 @@ impl IndexedArcs {
             places,
             mut borders,
             counts,
+            mut spare,
         } = self;
+        spare = spare.saturating_sub(moved.len());
         borders.add_face(alloc)?;
         pass_over(&mut slots, &mut borders, new, moved)?;
         Ok(IndexedArcs {
@@ -474,6 +526,7 @@ impl IndexedArcs {
             places,
             borders,
             counts,
+            spare,
         })
     }
 
@@ -490,18 +543,20 @@ impl IndexedArcs {
             mut places,
             mut borders,
             mut counts,
+            mut spare,
         } = self;
         counts.arcs += 1;
         counts.points += arc.points.len();
+        spare = spare.saturating_sub(arc.points.len());
         places.list_points(alloc, slots.len(), arc.points.as_slice())?;
-        borders.list(arc.left, slots.len())?;
-        borders.list(arc.right, slots.len())?;
+        borders.list_sides(slots.len(), &arc)?;
         slots.push(arc)?;
         Ok(IndexedArcs {
             slots,
             places,
             borders,
             counts,
+            spare,
         })
     }
 }

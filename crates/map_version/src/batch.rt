@@ -51,9 +51,10 @@ fn apply_all<'a>(
 /// Lines are numbered from 1, and all from 4,294,967,295 on have that number. A batch that only changes classes costs the number of
 /// faces and of arcs: the edited map holds the arcs of the base map, where others can hold them, and copies no point. The first
 /// other line costs one pass over the map, whose arcs are copied, and a sort of its points. Each line that names a point costs the
-/// logarithm of the number of points and the length of the arcs that have the points that it names. A new node costs a look-up for
-/// each point of the part that becomes the last arc too, so many nodes along one arc are cheapest from its end backwards. A cut costs a
-/// look at each arc, a look-up for each of its points, and what `cut_along` of `face_cuts` takes; a fusion costs the arcs of the
+/// logarithm of the number of points and the length of the arcs that have or had the points that it names. A new node costs a copy
+/// of the points from it to the end of its arc too, and a look-up for each point of the shorter part. A cut costs a look at each
+/// arc, a look-up for each of its points, and what `cut_along` of `face_cuts` takes; where the cuts of the batch have listed as
+/// much as the map has, the next one costs a pass over the map and a sort of its points once more. A fusion costs the arcs of the
 /// face that is gone and of the last one, and where these are all between the two faces, those of the one that is kept.
 pub fn edited(alloc: Global, base: &Base, batch: &[u8]) -> Result<Base, Or<EditFault>>
     // The edited map, or which line is refused first and for what cause, by the function that computes on small batches.

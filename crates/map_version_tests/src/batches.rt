@@ -269,6 +269,31 @@ fn faces_are_fused_and_the_last_one_takes_the_free_number(rt: HostRuntime) -> Re
     Ok(assert_fused(&rt, rt.alloc(), &base)?)
 }
 
+/// A node at the lower left corner, and so often a cut from there and its fusion.
+fn cuts_taken_back(alloc: Global, times: u32) -> Result<Vec<u8>, Memory> {
+    let mut batch = Vec::from_slice(alloc, b"node 0 0\n")?;
+    for _ in 0..times {
+        batch.extend_from_slice(b"cut 1 1 2 0 0 10 10\nfuse 1 3\n")?;
+    }
+    Ok(batch)
+}
+
+/// Cuts a square and fuses its parts so often that the places of points are listed anew some times.
+fn assert_taken_back(rt: &impl Abort, alloc: Global, base: &Base) -> Result<(), Or<EditFault>> {
+    let batch = cuts_taken_back(alloc, 20)?;
+    let whole = after(alloc, base, batch.as_slice())?;
+    assert_arc(rt, &whole, 0, (1, 0), &UPPER_LEFT);
+    assert_arc(rt, &whole, 3, (1, 0), &LOWER);
+    assert_map(rt, &whole, 4, &[], &[0, 1]);
+    Ok(())
+}
+
+#[test]
+fn a_cut_is_taken_back_again_and_again(rt: HostRuntime) -> Result<(), Fail> {
+    let base = boxed_squares(rt.alloc(), &STRAIGHT)?;
+    Ok(assert_taken_back(&rt, rt.alloc(), &base)?)
+}
+
 /// Applies all seven lines: some name points of an arc that was split and of one that is new.
 fn assert_all_lines(rt: &impl Abort, alloc: Global, base: &Base) -> Result<(), Or<EditFault>> {
     let batch =

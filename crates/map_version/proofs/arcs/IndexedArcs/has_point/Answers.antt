@@ -1,4 +1,4 @@
-use Rattle.std.proofs.Common.{◌≡◌, ◌∙◌, ℕ, true, List, get_or, sym, ap, subst}
+use Rattle.std.proofs.Common.{◌≡◌, ◌∙◌, ℕ, true, List, sym, ap, subst, arith}
 use Rattle.std.specs.List.{list_any}
 use Rattle.tgap_model.specs.Base.{same_point}
 use Rattle.face_cuts.specs.Nodes.{passes}
@@ -9,29 +9,26 @@ use Rattle.map_version.proofs.Listed.{none_more, one_found, none_found}
 use Rattle.map_version.proofs.InSlots.{has_in}
 use Rattle.map_version.proofs.arcs.IndexedArcs.has_point.Goals as goal
 
-pub loop-slot-preserved : goal.loop-slot-preserved
-loop-slot-preserved c =
+pub loop-at-preserved : goal.loop-at-preserved
+loop-at-preserved c =
     let p = c.args.point.now in
     let slots = c.args.self.now.slots in
-    let numbers = c.of_point-slot-items.result.now in
-    let i = get_or numbers c.loop-slot.slot-index 0 in
-    none_more (arc_passes (passes p) slots) numbers c.loop-slot.slot-index 0 c.loop-slot-test.true c.loop-slot.invariant
-    (passes_here p slots i ∙ (ap (list_any (same_point p)) (sym c.points.ensures) ∙ (sym c.has_point.ensures ∙ c.if-has_point.false)))
+    none_more (arc_passes (passes p) slots) c.of_point-listed.result c.loop-at.at 0 (omega (arith, c.count-at-end.ensures, c.loop-at-test.true)) c.loop-at.invariant
+    (ap (arc_passes (passes p) slots) (sym c.slot.ensures) ∙ passes_here p slots c.slot.result ∙ (ap (list_any (same_point p)) (sym c.points.ensures) ∙ (sym c.has_point.ensures ∙ c.if-has_point.false)))
 
 pub returns-then-has_point : goal.returns-then-has_point
 returns-then-has_point c =
     let p = c.args.point.now in
     let slots = c.args.self.now.slots in
-    let i = get_or c.of_point-slot-items.result.now c.loop-slot.slot-index 0 in
-    one_found (passes p) slots i (passes_here p slots i ∙ (ap (list_any (same_point p)) (sym c.points.ensures) ∙ (sym c.has_point.ensures ∙ c.if-has_point.true)))
+    one_found (passes p) slots c.slot.result (passes_here p slots c.slot.result ∙ (ap (list_any (same_point p)) (sym c.points.ensures) ∙ (sym c.has_point.ensures ∙ c.if-has_point.true)))
     ∙ sym (has_in p slots)
 
 pub returns : goal.returns
 returns c =
     let p = c.args.point.now in
     let slots = c.args.self.now.slots in
-    let numbers = c.of_point-slot-items.result.now in
+    let numbers = c.of_point-listed.result in
     let covers = subst (λ (x : Indexed). Covers (listed c.self.inside.places) x.slots) c.self.view_is c.self.invariant.by_point in
-    none_found (passes p) slots numbers (λ i e. subst (λ (xs : List ℕ). is_among i xs ≡ true) (sym c.of_point-slot-items.ensures) (covers p i e))
-    c.loop-slot.slot-index c.loop-slot-test.false c.loop-slot.invariant
+    none_found (passes p) slots numbers (λ i e. subst (λ (xs : List ℕ). is_among i xs ≡ true) (sym c.of_point-listed.ensures) (covers p i e))
+    c.loop-at.at (omega (arith, c.count-at-end.ensures, c.loop-at-test.false)) c.loop-at.invariant
     ∙ sym (has_in p slots)

@@ -5,5 +5,5 @@ use Rattle.arc_places.specs.Places.{arc_passes}
 use Rattle.map_version.proofs.arcs.IndexedArcs.has_point.Given as goal
 
 -- none of the arcs so far has it
-abbrev pub invariant-loop-slot : goal.invariant-loop-slot
-invariant-loop-slot l = list_any (arc_passes (passes l.point) l.self.slots) (take l.slot-index l.slot-items) ≡ false
+abbrev pub invariant-loop-at : goal.invariant-loop-at
+invariant-loop-at l = list_any (arc_passes (passes l.point) l.self.slots) (take l.at l.listed) ≡ false

@@ -5,5 +5,5 @@ use Rattle.map_version.specs.Indexed.{ends_there}
 use Rattle.map_version.proofs.arcs.IndexedArcs.is_node.Given as goal
 
 -- none of the arcs so far ends there
-abbrev pub invariant-loop-slot : goal.invariant-loop-slot
-invariant-loop-slot l = list_any (arc_passes (ends_there l.point) l.self.slots) (take l.slot-index l.slot-items) ≡ false
+abbrev pub invariant-loop-at : goal.invariant-loop-at
+invariant-loop-at l = list_any (arc_passes (ends_there l.point) l.self.slots) (take l.at l.listed) ≡ false

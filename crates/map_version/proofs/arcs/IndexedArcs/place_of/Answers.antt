@@ -1,4 +1,4 @@
-use Rattle.std.proofs.Common.{◌≡◌, ◌∙◌, ℕ, List, ap, sym, subst}
+use Rattle.std.proofs.Common.{◌≡◌, ◌∙◌, ℕ, List, ap, sym, subst, arith}
 use Rattle.std.specs.Prelude.{option_map}
 use Rattle.std.proofs.lemmas.List.{take_all}
 use Rattle.arc_places.specs.Places.{listed, Covers}
@@ -13,12 +13,12 @@ returns-clause-first c =
     let sought = c.args.sought.now in
     let find = position sought in
     let slots = c.args.self.now.slots in
-    let numbers = c.of_point-slot-items.result.now in
+    let numbers = c.of_point-listed.result in
     let lists = listed c.self.inside.places in
     let covers = subst (λ (x : Indexed). Covers lists x.slots) c.self.view_is c.self.invariant.by_point in
-    let same : lists (sought_point sought) ≡ numbers = ap lists (sym c.point.ensures) ∙ sym c.of_point-slot-items.ensures in
-    numbered_first slots c.loop-slot.first
-    ∙ (ap (option_map (numbered slots)) (least_is_first find slots numbers c.loop-slot.first (nothing_there sought)
+    let same : lists (sought_point sought) ≡ numbers = ap lists (sym c.point.ensures) ∙ sym c.of_point-listed.ensures in
+    numbered_first slots c.loop-at.first
+    ∙ (ap (option_map (numbered slots)) (least_is_first find slots numbers c.loop-at.first (nothing_there sought)
     (subst (FindsListed find slots) same (finds_listed lists slots sought covers))
-    (subst (λ (xs : List ℕ). IsLeast find slots xs c.loop-slot.first) (take_all c.loop-slot.slot-index numbers c.loop-slot-test.false) c.loop-slot.invariant))
+    (subst (λ (xs : List ℕ). IsLeast find slots xs c.loop-at.first) (take_all c.loop-at.at numbers (omega (arith, c.count-at-end.ensures, c.loop-at-test.false))) c.loop-at.invariant))
     ∙ sym (first_in find (nothing_there sought) slots))
