@@ -236,6 +236,41 @@ def river(cells):
     return counted(2 * cells + 1, along(cells, False, True))
 
 
+def level_border(wide, unit, high):
+    """The arcs of one segment each round a level rectangle, with face 1 inside."""
+    xs = range(0, wide + 1, unit)
+    points = [(x, 0) for x in xs] + [(x, high) for x in reversed(xs)]
+    return [(1, 0, [a, b]) for a, b in zip(points, [*points[1:], points[0]])]
+
+
+def rim_of_arcs(sides):
+    """A face with so many sides, each an arc, and the cut from below to above in its middle."""
+    return counted(1, level_border(sides // 2 - 1, 1, 10))
+
+
+def rim_with_islands(sides):
+    """The same, twice as wide, with nearly a third as many square islands in a row in the face."""
+    wide = 2 * (sides // 2 - 1)
+    arcs = level_border(wide, 2, 10)
+    count = wide // 3 - 1
+    for place in range(count):
+        x = 3 * place + 1
+        arcs.append((place + 2, 1, [(x, 4), (x + 1, 4), (x + 1, 5), (x, 5), (x, 4)]))
+    return counted(1 + count, arcs)
+
+
+def wheel(count):
+    """So many arcs from one node to the points of a square round it, with a face between each two; between them the square has nodes too."""
+    reach = count // 4
+    side = range(-reach, reach, 2)
+    points = [(-x, reach) for x in side] + [(-reach, -y) for y in side] + [(x, -reach) for x in side] + [(reach, y) for y in side]
+    arcs = []
+    for number, (a, b) in enumerate(zip(points, [*points[1:], points[0]])):
+        middle = ((a[0] + b[0]) // 2, (a[1] + b[1]) // 2)
+        arcs += [(number + 1, (number or len(points)), [(0, 0), a]), (number + 1, 0, [a, middle]), (number + 1, 0, [middle, b])]
+    return counted(len(points), arcs)
+
+
 # Of the shapes with two classes that never go to each other: the class of a face, counted from 0, and how many faces are
 # left at the last step. Of the others all faces are of one class, and one face is left.
 BARRED = {

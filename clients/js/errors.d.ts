@@ -35,6 +35,38 @@ export class Unreachable extends Error {
   readonly said: string;
 }
 
+/** What a cause of a line at fault says. */
+export function wordsOfCause(cause: number): string;
+
+/** An edit that does not apply. */
+export class EditFault extends Error {
+  constructor(cause: number, line?: number | null);
+  /** The cause that the program would tell. */
+  readonly cause: number;
+  /** The line of a batch, from 1, where there is one. */
+  readonly line: number | null;
+}
+
+/** What a refusal of an edit names. */
+export type Fault =
+  | { kind: "line"; line: number; cause: number }
+  | { kind: "meets" | "node"; place: [number, number] }
+  | { kind: "stack"; x: number; above: number };
+
+/** Null where it is none of these. */
+export function faultIn(said: string): Fault | null;
+
+/** A batch of edits that the server refuses. */
+export class RefusedBatch extends Refused {
+  constructor(said: string, of: { fault: Fault; step?: number | null; place?: [number, number] | null; isUnknown?: boolean });
+  readonly fault: Fault;
+  /** The number of the step of the draft, from 0; null where a whole map is refused. */
+  readonly step: number | null;
+  readonly place: [number, number] | null;
+  /** Whether the server is older, and does not know the line. */
+  readonly isUnknown: boolean;
+}
+
 /** The first line of a plain text; empty where it is no sentence. */
 export function sentenceOf(text: string): string;
 

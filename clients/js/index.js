@@ -2,7 +2,8 @@
 
 export { Archive, BadArchive, View } from "./archive.js";
 export { Client, FARTHEST } from "./client.js";
-export { OtherHistory, OtherVersion, Refused, Unreachable } from "./errors.js";
+export { Draft, knowsCuts } from "./draft.js";
+export { EditFault, OtherHistory, OtherVersion, Refused, RefusedBatch, Unreachable } from "./errors.js";
 export { geojsonOf } from "./geojson.js";
 export { pictureOfSlice, pictureOfWindow } from "./pictures.js";
 export { areaOf, boxOf, holdsBox, joinBoxes } from "./places.js";

@@ -1,7 +1,7 @@
 // The lines of a text, read one after the other: the first one that is not of its form is told.
 
 const MAX_COUNT = 0xffffffff;
-const MAX_COORDINATE = 2 ** 31;
+export const MAX_COORDINATE = 2 ** 31;
 
 /** A text that is none of its kind: `line` is the first line, from 1, that is not what must come there. */
 export class BadText extends Error {
@@ -13,7 +13,7 @@ export class BadText extends Error {
 }
 
 /** A number as it is written: the shortest way, in decimal, from `least` to `most`; null for any other word. */
-function numberOf(word, least, most) {
+export function numberOf(word, least, most) {
   if (!/^(0|-?[1-9][0-9]*)$/.test(word ?? "")) return null;
   const number = Number(word);
   return number >= least && number <= most ? number : null;

@@ -1,9 +1,8 @@
 // The page: what is seen decides what is asked for, and what is asked for is drawn.
 
-import { OtherHistory } from "./clients/js/errors.js";
 import { holdsBox } from "./clients/js/places.js";
+import { Editing } from "./editing.js";
 import { Identify } from "./identify.js";
-import { Moving } from "./moving.js";
 import { opened } from "./opening.js";
 import { Panel } from "./panel.js";
 import { Sheet } from "./sheet.js";
@@ -31,7 +30,7 @@ async function openedInTheEnd() {
 
 const { client, known, Detail, isArchive } = await openedInTheEnd();
 const panel = new Panel(known);
-const sheet = new Sheet(element("map"), known, () => detail.look(sheet.box, sheet.density));
+const sheet = new Sheet(element("map"), known, look);
 const ofAnother = isArchive ? "Another archive of the map is there, of version" : "The server was started anew, with version";
 
 const detail = new Detail(client, {
@@ -40,14 +39,27 @@ const detail = new Detail(client, {
   works: () => panel.showProgress(detail.working && !detail.complete, detail.progress),
   fails: (error) => panel.complain("server", wordsOf(error)),
   heals: () => panel.settle("server"),
-  hears: (version) => panel.note("news", `Version ${version} of the map is there.`),
-  published: (version) => panel.note("news", `Somebody else has published version ${version}. It is shown now.`),
-  restarted: (version) => panel.note("news", `${ofAnother} ${version}. It is shown now.`),
+  hears: (version) => tellNews(`Version ${version} of the map is there.`),
+  published: (version) => tellNews(`Somebody else has published version ${version}.`, " It is shown now."),
+  restarted: (version) => tellNews(`${ofAnother} ${version}.`, " It is shown now."),
 });
 
-const identify = new Identify(sheet, detail, known, { isWanted: () => !moving.isOn, failed: tellFailure });
-const moving = new Moving(sheet, element("moving"), publish);
+const editing = new Editing({ client, sheet, panel, known }, {
+  published: tellPublished,
+  refused: tellOfEdit,
+  failed: tellFailure,
+  ended: () => detail.picture && show(detail.picture),
+  coarse: () => detail.picture && sheet.picture !== detail.picture && sheet.show(detail.picture),
+  renews: () => detail.catchUp(),
+});
+const identify = new Identify(sheet, detail, known, { isWanted: () => !editing.isOn, failed: tellFailure });
 element("editing").hidden = isArchive;
+
+/** The view has changed. */
+function look() {
+  detail.look(sheet.box, sheet.density);
+  editing.look();
+}
 
 /** A version begins: what else is known of it is asked for beside it. */
 async function begin(bounds) {
@@ -61,9 +73,11 @@ async function begin(bounds) {
 }
 
 function show(picture) {
-  sheet.show(picture);
   identify.show(picture);
-  moving.show(picture);
+  // Who edits sees what he edits.
+  if (editing.isOn && !editing.isFar) return;
+  sheet.show(picture);
+  if (editing.isOn) return;
   panel.tell(picture, detail.info.steps, picture.area !== null && !holdsBox(picture.area, detail.bounds));
   // Last, since a wider view may want another picture.
   sheet.setHome(detail.bounds);
@@ -74,22 +88,35 @@ function tellFailure(error) {
   if (!detail.follows(error)) panel.complain("request", wordsOf(error, "asking"));
 }
 
-async function publish(from, to, picture) {
-  try {
-    // The server may have been started anew while the vertex was dragged.
-    if (picture.history !== client.history) throw new OtherHistory(client.version ?? NaN, client.history);
-    const { version, foreseen } = await client.edit(`move ${from.join(" ")} ${to.join(" ")}\n`);
-    panel.settle("edit");
-    if (foreseen) panel.note("edit", `Your edit is published as version ${version}.`);
-    else panel.complain("edit", `Your edit is published as version ${version}, but on top of version ${version - 1}, which you had not seen. See whether it is still what you meant.`);
-    await detail.renew();
-  } catch (error) {
-    tellOfEdit(error);
-  }
+/** What an editor may do where the map is another one than he has edited. */
+const waysOn = () => [["Carry my edits over", () => goOn(true)], ["Discard them", () => goOn(false)]];
+
+/** Who edits goes on with the newest version. */
+function goOn(withEdits) {
+  for (const cause of ["news", "edit"]) panel.settle(cause);
+  return editing.goOn(withEdits);
+}
+
+/** The map has another version: who edits is asked what shall become of his edits, and where he has none, he goes on with the newer one. */
+function tellNews(words, shown = "") {
+  if (!editing.isOn) return panel.note("news", words + shown);
+  if (editing.isChanged) return panel.note("news", `${words} Your edits are on version ${editing.draft.version}.`, false, waysOn());
+  if (!editing.isOutdated(client)) return panel.note("news", words, false, [["Show it", () => goOn(false)]]);
+  panel.note("news", words + shown);
+  return editing.goOn(false);
+}
+
+async function tellPublished({ version, foreseen }, count) {
+  const what = count === 1 ? "Your edit is" : `Your ${count} edits are`;
+  if (foreseen) panel.note("edit", `${what} published as version ${version}.`);
+  else panel.complain("edit", `${what} published as version ${version}, but on top of version ${version - 1}, which you had not seen. See whether it is still what you meant.`);
+  await detail.renew();
 }
 
 function tellOfEdit(error) {
-  panel.complain("edit", wordsOfEdit(error));
+  const isOther = ["OtherVersion", "OtherHistory"].includes(error.name);
+  panel.complain("edit", wordsOfEdit(error), isOther && editing.isChanged ? waysOn() : []);
+  if (error.name === "RefusedBatch") editing.mark(error);
   if (!detail.follows(error) && error.name === "Unreachable") detail.listen();
 }
 
@@ -102,10 +129,11 @@ async function catchUp() {
   }
 }
 
-element("newest").addEventListener("click", catchUp);
+element("newest").addEventListener("click", () => (editing.isOn ? goOn(editing.isChanged) : catchUp()));
+element("edit").addEventListener("click", () => editing.open());
 setInterval(() => document.visibilityState === "visible" && detail.listen(), SECONDS_BETWEEN_NEWS * 1000);
 window.addEventListener("focus", () => detail.listen());
 
 // For the tests, and for whoever looks behind the page.
-window.tgap = { client, detail, sheet, known };
+window.tgap = { client, detail, sheet, known, editing };
 detail.work();

@@ -66,8 +66,8 @@ export class Sheet {
     this.home = null;
     this.picture = null;
     const crs = planeOf(known.scale);
-    // A picture is never stretched to another scale on the way to it.
-    this.map = L.map(element, { crs, zoomControl: false, zoomAnimation: false, zoomSnap: 0.25, maxZoom: CLOSEST, minZoom: FARTHEST, wheelPxPerZoomLevel: 100 });
+    // A picture is never stretched to another scale on the way to it. Leaflet's own look-out for the size would take it for a move of the reader's.
+    this.map = L.map(element, { crs, trackResize: false, zoomControl: false, zoomAnimation: false, zoomSnap: 0.25, maxZoom: CLOSEST, minZoom: FARTHEST, wheelPxPerZoomLevel: 100 });
     // What is drawn beyond the view costs time in each frame.
     this.canvas = L.canvas({ padding: 0.1 });
     this.map.attributionControl.addAttribution(textOf(known.attribution));

@@ -1,9 +1,9 @@
 // What an error means to a reader, and what he should do next. The server's own words stand beside it, where it has any.
 
 /** How it goes on where a while may help, by what asked: the page for what it shows, the reader, or an editor. */
-const LATER = { reading: "It is tried again.", asking: "Try again in a moment.", editing: "Make the edit again in a moment." };
+const LATER = { reading: "It is tried again.", asking: "Try again in a moment.", editing: "Publish again in a moment." };
 
-const PASSWORD = { reading: "Load the page again", asking: "Load the page again", editing: "Make the edit again" };
+const PASSWORD = { reading: "Load the page again", asking: "Load the page again", editing: "Publish again" };
 
 const OPERATOR = "If it stays so, tell the operator.";
 
@@ -59,16 +59,56 @@ export function wordsOf(error, by = "reading") {
 }
 
 function ofAnotherHistory({ published }) {
-  if (published === null) return "Your edit is not published: the server was started anew. Its map is shown now; make the edit again.";
-  return `Your edit is published as version ${published}, but of a map that you had not seen: the server was started anew. See whether it is what you meant.`;
+  if (published === null) return "Your edits are not published: the server was started anew, and may have another map.";
+  return `Your edits are published as version ${published}, but of a map that you had not seen: the server was started anew. See whether it is what you meant.`;
 }
 
-/** What became of an edit for which no success was told. */
+/** A batch that the server refuses: one of its lines, or the map that would come of it. */
+function ofABatch({ fault, said, step, isUnknown, message }) {
+  const which = step === null ? "An edit" : `Step ${step + 1}`;
+  if (isUnknown) return `${which} needs a newer server: this one neither splits areas nor joins them (${said}). Undo it, and publish the others.`;
+  if (fault.kind === "line") return `${which} does not fit the map that is there: ${message} (${said}). Undo it, or load the page again.`;
+  return `The map would not be sound: ${message} (${said}). The place is marked; move a vertex there, or undo.`;
+}
+
+/** What became of edits for which no success was told. */
 export function wordsOfEdit(error) {
   const words = {
-    OtherVersion: () => "Your edit is not published: somebody else has published another version. It is shown now; make the edit again.",
+    OtherVersion: () => "Your edits are not published: somebody else has published another version.",
     OtherHistory: () => ofAnotherHistory(error),
-    Unreachable: () => `No answer came (${error.said || error.message}). The edit may be published or not: the map tells, once it is there again.`,
+    Unreachable: () => `No answer came (${error.said || error.message}). The edits may be published or not: the map tells, once it is there again.`,
+    RefusedBatch: () => `Your edits are not published. ${ofABatch(error)}`,
   };
-  return (words[error.name] ?? (() => `Your edit is not published. ${wordsOf(error, "editing")}`))();
+  return (words[error.name] ?? (() => `Your edits are not published. ${wordsOf(error, "editing")}`))();
+}
+
+/** Why a step cannot be made, by the cause, in the words of who edits on the screen. */
+export function wordsOfFault({ cause, message }) {
+  const words = {
+    4: "There is a vertex already.",
+    6: "Borders meet there: this vertex cannot be removed.",
+    7: "This vertex cannot be removed: the border would double back.",
+    9: "The line has to lead through one area, from its border to its border.",
+    10: "The line comes to one place twice, or meets a border on its way.",
+    12: "The line has to begin and end at borders that hang together: an island has none in common with what is round it.",
+    13: "The two areas have no border with each other.",
+    14: "Nothing would be left of the border round the two areas.",
+  };
+  return words[cause] ?? `This cannot be done: ${message}.`;
+}
+
+/** What a step of a draft does. */
+export function wordsOfStep(edits, known) {
+  // A cut and its vertices are one step.
+  const edit = edits.at(-1);
+  const words = {
+    class: ({ face, ofClass }) => `Area ${face} becomes ${known.nameOfClass(ofClass)}`,
+    move: () => "A vertex is moved",
+    add: () => "A vertex is added",
+    drop: () => "A vertex is removed",
+    node: () => "A vertex becomes a node",
+    cut: ({ face }) => `Area ${face} is split`,
+    fuse: ({ kept, gone }) => `Area ${gone} is joined to area ${kept}`,
+  };
+  return words[edit.kind](edit);
 }

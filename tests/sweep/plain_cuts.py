@@ -1,12 +1,29 @@
-"""A slow plain reader of the edits that make nodes, cut faces and fuse them, by docs/rules.md. A base is one of plain_maps."""
+"""A slow plain reader of the edits that make nodes, cut faces and fuse them, by docs/rules.md, and of the causes for which
+an edit is refused. A base is one of plain_maps."""
 import collections
 from fractions import Fraction
 
-from plain_edits import has, wants
 from plain_maps import LIMITS, cross
 
 # A side: the number of an arc, and whether it is gone against.
 Side = collections.namedtuple("Side", "arc against")
+
+
+class Cause(Exception):
+    """The number of the cause for which an edit is refused."""
+
+
+def wants(cause, holds):
+    if not holds:
+        raise Cause(cause)
+
+
+def has(base, point):
+    return any(point in points for _, _, points in base.arcs)
+
+
+def is_node(base, point):
+    return any(point in (points[0], points[-1]) for _, _, points in base.arcs)
 
 
 def fits(base, faces, arcs, points):
@@ -17,7 +34,7 @@ def fits(base, faces, arcs, points):
 
 def add_node(base, point):
     wants(3, has(base, point))
-    wants(6, all(point not in (points[0], points[-1]) for _, _, points in base.arcs))
+    wants(6, not is_node(base, point))
     wants(11, fits(base, 0, 1, 1))
     at, (left, right, points) = next((at, arc) for at, arc in enumerate(base.arcs) if point in arc[2])
     place = points.index(point)

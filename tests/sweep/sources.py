@@ -1,10 +1,14 @@
 """The inputs that are damaged, what is asked of the program with each, and what it has to answer by the plain readers."""
+import contextlib
+
 import packets
 import topologies
+from drawn_edits import KINDS, cut_line, fuse_line, node_line
 from lib import request
 from maps import MAPS
 from model import window_of
-from plain_edits import edited
+from plain_cuts import Cause
+from plain_edits import applied, edited
 from plain_heads import replies
 from plain_maps import History, Topology, check, check_text, read_listing, read_rules
 from plain_records import read_packet, read_slice, replayed
@@ -183,10 +187,15 @@ def some_point(chance, base):
     return chance.choice(chance.choice(base.arcs)[2])
 
 
+LINES = {"node": node_line, "cut": cut_line, "fuse": fuse_line}
+
+
 def line_of_edit(chance, base):
     """A line that is near to one that can be applied."""
     x, y = some_point(chance, base)
-    name = chance.choice(["class", "move", "move", "add", "drop"])
+    name = chance.choice(["class", "move", "move", "add", "drop", "node", "cut", "cut", "fuse"])
+    if name in LINES:
+        return LINES[name](*KINDS[name][0](chance, base)).decode()
     near = x + chance.randint(-3, 3), y + chance.randint(-3, 3)
     if name == "class":
         return f"class {chance.randint(0, len(base.classes) + 1)} {chance.randint(0, len(base.weights))}\n"
@@ -199,9 +208,19 @@ def line_of_edit(chance, base):
     return f"move {x} {y} {near[0]} {near[1]}\n" if name == "move" else f"drop {x} {y}\n"
 
 
+def some_batch(chance, base):
+    """Lines one after the other, each near to one that can be applied to what the ones before it left."""
+    lines = []
+    for _ in range(chance.choice([0, 1, 1, 1, 2, 3])):
+        lines.append(line_of_edit(chance, base).encode())
+        with contextlib.suppress(Cause):
+            base = applied(base, lines[-1][:-1])
+    return b"".join(lines)
+
+
 def damaged_batch(chance, base):
     """A batch, and the base that it leaves or the text that refuses it."""
-    batch = "".join(line_of_edit(chance, base) for _ in range(chance.choice([0, 1, 1, 1, 2, 3]))).encode()
+    batch = some_batch(chance, base)
     if chance.random() < 0.5:
         batch = damaged(chance, batch, OF_TEXT)
     try:

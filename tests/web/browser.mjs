@@ -157,6 +157,21 @@ class Tab {
     await this.mouse("mouseReleased", to, { button: "left", clickCount: 1 });
   }
 
+  /** Presses a key and lets it go; `modifiers` are those of the protocol: 2 for Ctrl, 8 for Shift. */
+  async key(key, modifiers = 0) {
+    const known = { Enter: 13, Escape: 27, " ": 32, ArrowLeft: 37, ArrowUp: 38, ArrowRight: 39, ArrowDown: 40, Delete: 46 };
+    const windowsVirtualKeyCode = known[key] ?? key.toUpperCase().charCodeAt(0);
+    for (const type of ["rawKeyDown", "keyUp"]) await this.ask("Input.dispatchKeyEvent", { type, key, windowsVirtualKeyCode, modifiers });
+  }
+
+  /** Puts a finger down at the first place, leads it over the others, and lifts it at the last. */
+  async touch(...places) {
+    const [first, ...others] = places.map(([x, y]) => ({ touchPoints: [{ x, y }] }));
+    await this.ask("Input.dispatchTouchEvent", { type: "touchStart", ...first });
+    for (const place of others) await this.ask("Input.dispatchTouchEvent", { type: "touchMove", ...place });
+    await this.ask("Input.dispatchTouchEvent", { type: "touchEnd", touchPoints: [] });
+  }
+
   resize(width, height) {
     return this.ask("Emulation.setDeviceMetricsOverride", { width, height, deviceScaleFactor: 1, mobile: false });
   }
@@ -187,9 +202,10 @@ class Tab {
     return this.ask("Fetch.fulfillRequest", { requestId, responseCode: status, responsePhrase: phrase || " ", responseHeaders, body: Buffer.from(body).toString("base64") });
   }
 
-  /** What one sees, as the bytes of a PNG. */
-  async screenshot() {
-    const { result } = await this.ask("Page.captureScreenshot", { format: "png" });
+  /** What one sees, or what there is of it in a box of the screen, as the bytes of a PNG. */
+  async screenshot(box) {
+    const clip = box && { x: box.x, y: box.y, width: box.width, height: box.height, scale: 1 };
+    const { result } = await this.ask("Page.captureScreenshot", { format: "png", ...(clip && { clip }) });
     return Buffer.from(result.data, "base64");
   }
 }

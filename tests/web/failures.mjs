@@ -5,7 +5,7 @@ import { setTimeout as pause } from "node:timers/promises";
 import { boxOf } from "../../clients/js/places.js";
 import { sliceText } from "../../clients/js/wire.js";
 import { KINDS, REFUSALS } from "./refusals.mjs";
-import { IDLE, NOTICES, PICTURE_TEXT, dragsNear, goesNear, loadsAnew, otherVertex, placeOf, shown, text, vertexToMove } from "./served.mjs";
+import { BATCH, EDITING, IDLE, NOTICES, PICTURE_TEXT, beginsEditing, dragsNear, editsNear, endsEditing, goesNear, loadsAnew, otherVertex, placeOf, presses, shown, text, vertexToMove } from "./served.mjs";
 
 const MIDDLE = [420, 330];
 const FOCUS = "window.dispatchEvent(new Event('focus'))";
@@ -14,7 +14,6 @@ export async function tellsOfFailures(on) {
   await tellsOfARefusedEdit(on);
   await tellsEachRefusal(on);
   await tellsOfEditsThatAreRefused(on);
-  await on.tab.value("document.getElementById('moving').click()");
   await tellsOfAServerThatIsGone(on);
   await wakesUpInAnotherHistory(on);
   await editsInAnotherHistory(on);
@@ -29,16 +28,19 @@ async function dismiss(tab, cause) {
 async function tellsOfARefusedEdit({ tab, tally, served }) {
   await tab.value("document.getElementById('all').click()");
   await tab.until(IDLE);
-  const slice = await served.slice((await shown(tab)).step);
+  const slice = await served.slice(0);
   const box = boxOf(slice.edges.values());
   const [vertex] = vertexToMove(slice);
+  await beginsEditing(tab);
   const at = await placeOf(tab, vertex);
   await tab.drag(at, await placeOf(tab, [(box.x0 + box.x1) / 2, (box.y0 + box.y1) / 2]));
-  tally.holds("a refused edit is told", await tab.until(`(${NOTICES}).includes('Your edit is not published. The map would not be sound (refused 15')`));
+  await presses(tab, "publish");
+  tally.holds("a refused edit is told", await tab.until(`(${NOTICES}).includes('Your edits are not published. The map would not be sound: borders would meet where they must not (refused 15')`));
   await pause(1000);
   tally.holds("it stands until it is dismissed", (await tab.value(NOTICES)).includes("refused 15"));
   await dismiss(tab, "edit");
   tally.holds("and not longer", !(await tab.value(NOTICES)).includes("edit:"));
+  await endsEditing(tab);
 }
 
 /** An answer of the front server, or of the program behind it, as it reaches the page. */
@@ -67,14 +69,18 @@ async function tellsEachRefusal({ tab, tally, folder }) {
 /** Some refusals of an edit, over HTTP/2 and with none of the program's headers. */
 async function tellsOfEditsThatAreRefused({ tab, tally, served }) {
   const vertex = otherVertex(await served.slice(0));
+  await beginsEditing(tab);
+  await dragsNear(tab, vertex, [6, 2]);
   for (const [status, said] of [[401, ""], [403, "not from here"], [503, "busy, try again"], [507, "versions full 4"]]) {
     const row = REFUSALS.find((it) => it[0] === status && it[2] === said);
     await tab.intercepting("*/map/edit", ({ requestId }) => tab.fulfill(requestId, answerOf(row, KINDS.at(-2))), async () => {
-      await dragsNear(tab, vertex, [6, 2]);
-      tally.holds(`an editor is told of status ${status}`, await tab.until(`(${NOTICES}).includes(${JSON.stringify(`edit: Your edit is not published. ${row[3]}`)})`));
+      await presses(tab, "publish");
+      tally.holds(`an editor is told of status ${status}`, await tab.until(`${EDITING} && (${NOTICES}).includes(${JSON.stringify(`edit: Your edits are not published. ${row[3]}`)})`));
     });
     await dismiss(tab, "edit");
   }
+  tally.holds("and has the edit still", /^move /.test(await tab.value(BATCH)));
+  await endsEditing(tab);
 }
 
 /** Watches a message: `window.missed` counts how often it is not there. */
@@ -149,7 +155,7 @@ async function wakesUpInAnotherHistory({ tab, tally, served }) {
 
 /** The server is started anew while an edit is on its way. */
 async function editsInAnotherHistory({ tab, tally, served }) {
-  await tab.value("document.getElementById('moving').click()");
+  await beginsEditing(tab);
   const vertex = otherVertex(await served.slice(0));
   const take = async ({ requestId }) => {
     served.endProgram();
@@ -157,36 +163,40 @@ async function editsInAnotherHistory({ tab, tally, served }) {
     await tab.ask("Fetch.continueRequest", { requestId });
   };
   await tab.intercepting("*/map/edit", take, async () => {
-    await dragsNear(tab, vertex, [6, 2]);
-    const words = "edit: Your edit is not published: the server was started anew. Its map is shown now; make the edit again.";
+    await editsNear(tab, vertex, [6, 2]);
+    const words = "edit: Your edits are not published: the server was started anew, and may have another map.";
     tally.holds("an edit that meets another history is told", await tab.until(`(${NOTICES}).includes(${JSON.stringify(words)})`));
   });
-  await isShownAnew({ tab, tally, served }, 0, "after an edit");
+  tally.holds("with what the editor may do", await tab.until(`(${NOTICES}).includes('news: The server was started anew, with version 0. Your edits are on version 1.')`));
   tally.holds("and nothing was published", (await served.info()).startsWith("version 0 "));
-  await dragsNear(tab, otherVertex(await served.slice(0)), [6, 2]);
-  tally.holds("made again, it is published", await tab.until(`${text("version")} === 'Version 1' && ${IDLE}`));
+  await tab.value("document.querySelector('#notices li[data-cause=edit] .actions button').click()");
+  tally.holds("the edit does not fit the other map, and is told", await tab.until(`${EDITING} && (${NOTICES}).includes('edit: 0 of 1 steps are made again on version 0. Look at the map, and publish. Left out: A vertex is moved')`));
+  await editsNear(tab, otherVertex(await served.slice(0)), [6, 2]);
+  tally.holds("made again, it is published", await tab.until(`${text("version")} === 'Version 1' && ${EDITING}`));
+  await endsEditing(tab);
 }
 
 /** The server is started anew, and its map shown, while a vertex is dragged. */
 async function dragsIntoAnotherHistory({ tab, tally, served }) {
   const vertex = otherVertex(await served.slice(0));
+  await beginsEditing(tab);
   await goesNear(tab, vertex);
   const from = await placeOf(tab, vertex);
   const to = from.map((z) => z + 6);
-  await dismiss(tab, "edit");
   await tab.mouse("mouseMoved", from);
   await tab.mouse("mousePressed", from, { button: "left", buttons: 1, clickCount: 1 });
   for (const place of [from.map((z) => z + 4), to]) await tab.mouse("mouseMoved", place, { button: "left", buttons: 1 });
   served.endProgram();
   await served.startProgramAnew();
   await tab.value(FOCUS);
-  await isShownAnew({ tab, tally, served }, 0, "while a vertex is dragged");
+  tally.holds("while a vertex is dragged, a server that was started anew is told", await tab.until(`(${NOTICES}).includes('news: The server was started anew, with version 0. It is shown now.')`));
+  tally.holds("and its map is edited", await tab.until(`${text("version")} === 'Version 0' && ${EDITING}`));
   await tab.mouse("mouseReleased", to, { button: "left", clickCount: 1 });
-  tally.holds("an edit that was begun before is told", await tab.until(`(${NOTICES}).includes('edit: Your edit is not published: the server was started anew.')`));
-  tally.holds("and not published", (await served.info()).startsWith("version 0 "));
-  await dragsNear(tab, otherVertex(await served.slice(0)), [6, 2]);
-  tally.holds("it is when it is made on the map that is there", await tab.until(`${text("version")} === 'Version 1' && ${IDLE}`));
-  await tab.value("document.getElementById('moving').click()");
+  tally.equal("nothing comes of the drag", await tab.value(BATCH), "");
+  tally.equal("and no line of it stays", await tab.value("document.querySelectorAll('.mark-line').length"), 0);
+  await editsNear(tab, otherVertex(await served.slice(0)), [6, 2]);
+  tally.holds("an edit is, when it is made on the map that is there", await tab.until(`${text("version")} === 'Version 1' && ${EDITING}`));
+  await endsEditing(tab);
 }
 
 /** Behind a front server that names no history, lower numbers tell. */

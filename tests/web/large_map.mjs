@@ -1,7 +1,7 @@
 // The page over a map of 1,600 faces, where windows take the place of long rows of packets.
 import { areaOf } from "../../clients/js/places.js";
 import { dice } from "./lib.mjs";
-import { IDLE, look, placeOf, shown, turnsWheel, wrongSamples } from "./served.mjs";
+import { BATCH, IDLE, beginsEditing, endsEditing, look, placeOf, presses, shown, turnsWheel, wrongSamples } from "./served.mjs";
 
 const MIDDLE = [400, 330];
 const MILLISECONDS_OF_DELAY = 150;
@@ -13,6 +13,7 @@ export async function largeMap(on) {
   await neverShowsAStalePicture(on);
   await paintsWindowsWithinFaces(on);
   await movesAVertexOfAWindow(on);
+  await editsFromNearAlone(on);
   await goesOnAfterAnothersEdit(on);
   const seen = await on.tab.value("({ ...window.seen, steps: null })");
   on.tally.holds(`at no moment a picture leaves a part of the view open: ${JSON.stringify(seen.open.slice(0, 3))}`, seen.open.length === 0 && seen.frames > 50);
@@ -40,8 +41,9 @@ function watch(tab) {
       seen.steps.add((a ? "window " : "slice ") + picture.step);
       if (a && !(a.x0 <= box.x0 && a.y0 <= box.y0 && a.x1 >= box.x1 && a.y1 >= box.y1)) seen.open.push([a, box]);
       let vectors = 0;
-      sheet.map.eachLayer((it) => (vectors += it.setStyle ? 1 : 0));
-      // The group counts itself.
+      // What marks an edit is drawn over it.
+      sheet.map.eachLayer((it) => (vectors += it.setStyle && it.options.renderer === sheet.canvas ? 1 : 0));
+      // The borders are one.
       if (vectors !== picture.fills.size + 1) seen.layers += 1;
       if (!document.getElementById("progress").hidden) seen.bar += 1;
       requestAnimationFrame(frame);
@@ -121,7 +123,6 @@ async function identifiesInAWindow({ tab, tally, served }) {
 async function movesAVertexOfAWindow({ tab, tally, served }) {
   await tab.value("location.hash = '#-2/20000/20000'");
   await tab.until(`${IDLE} && window.tgap.sheet.map.getZoom() === -2`);
-  await tab.value("document.getElementById('moving').click()");
   const vertex = await tab.value(`(() => {
     const { detail, sheet } = window.tgap, held = new Set([...detail.slice.edges.values()].flatMap((it) => it.points.map(String)));
     const c = sheet.map.getCenter(), near = (p) => Math.hypot(p[0] - c.lng, p[1] - c.lat);
@@ -130,13 +131,29 @@ async function movesAVertexOfAWindow({ tab, tally, served }) {
   })()`);
   tally.holds("a window shows vertices that the slice at hand has not", vertex !== null);
   if (vertex === null) return;
+  await beginsEditing(tab);
   const at = await placeOf(tab, vertex);
   await tab.drag(at, [at[0] + 6, at[1]]);
+  await presses(tab, "publish");
   const isMoved = await tab.until(`document.getElementById('version').textContent === 'Version 1' && ${IDLE}`);
   tally.holds(`a vertex of a window can be moved: ${await tab.value("document.getElementById('notices').textContent")}`, isMoved);
   const points = [...(await served.slice(0)).edges.values()].flatMap((it) => it.points.map(String));
   tally.holds("and is elsewhere then", !points.includes(String(vertex)));
-  await tab.value("document.getElementById('moving').click()");
+  await endsEditing(tab);
+}
+
+/** Where all of a large map is seen it is shown as coarse as ever, and cannot be edited. */
+async function editsFromNearAlone({ tab, tally }) {
+  const HINT = "document.getElementById('hint').textContent";
+  await presses(tab, "all");
+  await tab.until(IDLE);
+  await beginsEditing(tab);
+  tally.holds("from afar nothing can be edited", (await tab.value(HINT)).startsWith("Come nearer to edit"));
+  await tab.click(MIDDLE);
+  tally.equal("whatever is tapped", await tab.value(`${BATCH} + (window.tgap.sheet.picture === window.tgap.detail.picture)`), "true");
+  await tab.value("location.hash = '#-2/20000/20000'");
+  tally.holds("nearer it can", await tab.until(`${IDLE} && (${HINT}).startsWith('Drag a vertex') && window.tgap.sheet.picture.step === 0`));
+  await endsEditing(tab);
 }
 
 async function goesOnAfterAnothersEdit({ tab, tally, served }) {

@@ -36,7 +36,7 @@ async function givesWhatItTells() {
     tally.equal(`${name} gives what its types tell`, toldBy(types).join(), given.join());
   }
   const modules = entries.map(([, { default: module }]) => module.slice(2));
-  const internal = ["archive_file.js", "cells.js", "lines.js", "requests.js", "rings.js"];
+  const internal = ["archive_file.js", "cells.js", "edit_lines.js", "edited_map.js", "lines.js", "requests.js", "rings.js", "sides.js"];
   const all = readdirSync(folder).filter((name) => name.endsWith(".js") && !internal.includes(name));
   tally.equal("all other modules can be imported", all.sort().join(), [...modules].sort().join());
   const typed = readdirSync(folder).filter((name) => name.endsWith(".d.ts"));
@@ -53,7 +53,7 @@ function packs() {
 }
 
 const USES = `
-import { Archive, BadArchive, Client, FARTHEST, OtherVersion, View, pictureOfWindow, type Box, type Picture } from "tgap-client";
+import { Archive, BadArchive, Client, Draft, EditFault, FARTHEST, OtherVersion, RefusedBatch, View, knowsCuts, pictureOfSlice, pictureOfWindow, type Box, type Picture } from "tgap-client";
 import { readSlice } from "tgap-client/wire.js";
 
 const giveUp = new AbortController();
@@ -78,6 +78,18 @@ export async function drawn(): Promise<string> {
   const { features } = await archive.geojson(view, null, { project: ([x, y]) => [x / 2, y], borders: true });
   return features[0]!.geometry.type;
 }
+export async function edited(): Promise<string> {
+  const draft = await Draft.of(client, { classes: 4, signal: giveUp.signal });
+  if (await knowsCuts(client)) draft.cut(1, 0, [[0, 0], [10, 10]], [{ ends: [[0, 0], [20, 20]], point: [10, 10] }]);
+  draft.fuse(1, draft.faces.size);
+  pictureOfSlice(draft, draft);
+  const { draft: carried, left } = draft.carryTo(await Draft.of(client));
+  await carried.publish(client);
+  return left.map(({ edits, reason }) => String(edits[0]?.kind) + String(reason.cause)).join();
+}
+export const isOfALine = (error: unknown) => (error instanceof EditFault ? error.line : error instanceof RefusedBatch && error.fault.kind === "line" ? error.fault.line : null);
+// @ts-expect-error a point has two coordinates
+new Draft({ faces: new Map(), edges: new Map() }).drop([1]);
 // @ts-expect-error a view is not made by hand
 new View();
 export const isCut = (error: unknown) => error instanceof BadArchive;

@@ -1,6 +1,7 @@
 // What is told of an answer that is no success: each status, by a front server or by the program, with each kind of headers.
 import { createServer } from "node:http";
 import { Client, OtherHistory, OtherVersion, Refused, Unreachable } from "../../clients/js/client.js";
+import { RefusedBatch, faultIn } from "../../clients/js/errors.js";
 import { wordsOf, wordsOfEdit } from "../../examples/web/words.js";
 import { thrown } from "./lib.mjs";
 
@@ -82,6 +83,8 @@ async function clientTells(tally) {
   stop();
 }
 
+const batch = (said, more) => new RefusedBatch(said, { fault: faultIn(said), ...more });
+
 function pageTells(tally) {
   for (const [status, body, said, words, next] of REFUSALS) {
     const name = `status ${status} with the body ${JSON.stringify(body.slice(0, 20))}`;
@@ -92,14 +95,18 @@ function pageTells(tally) {
     tally.holds(`${name} is told to who asks: ${asked}`, asked.startsWith(words) && areWords(asked) && !asked.includes("It is tried again"));
     const edited = wordsOfEdit(error);
     const isOpen = error instanceof Unreachable;
-    tally.holds(`${name} is told to an editor: ${edited}`, edited.startsWith(isOpen ? `No answer came (${error.message})` : `Your edit is not published. ${words}`) && areWords(edited));
+    tally.holds(`${name} is told to an editor: ${edited}`, edited.startsWith(isOpen ? `No answer came (${error.message})` : `Your edits are not published. ${words}`) && areWords(edited));
     tally.holds(`${name}: an editor is not told that his edit is tried again`, !edited.includes("It is tried again"));
   }
   const others = [
-    [new OtherVersion(3), "Your edit is not published: somebody else has published another version. It is shown now; make the edit again."],
-    [new OtherHistory(3, "x"), "Your edit is not published: the server was started anew. Its map is shown now; make the edit again."],
-    [new OtherHistory(3, "x", 3), "Your edit is published as version 3, but of a map that you had not seen: the server was started anew. See whether it is what you meant."],
-    [new Unreachable("fetch failed"), "No answer came (fetch failed). The edit may be published or not: the map tells, once it is there again."],
+    [new OtherVersion(3), "Your edits are not published: somebody else has published another version."],
+    [new OtherHistory(3, "x"), "Your edits are not published: the server was started anew, and may have another map."],
+    [new OtherHistory(3, "x", 3), "Your edits are published as version 3, but of a map that you had not seen: the server was started anew. See whether it is what you meant."],
+    [new Unreachable("fetch failed"), "No answer came (fetch failed). The edits may be published or not: the map tells, once it is there again."],
+    [batch("edit line 2 cause 3", { step: 1 }), "Your edits are not published. Step 2 does not fit the map that is there: no point of a border is there (edit line 2 cause 3). Undo it, or load the page again."],
+    [batch("edit line 1 cause 1", { step: 0, isUnknown: true }), "Your edits are not published. Step 1 needs a newer server: this one neither splits areas nor joins them (edit line 1 cause 1). Undo it, and publish the others."],
+    [batch("refused 15 meets 0 1 5 5 2"), "Your edits are not published. The map would not be sound: borders would meet where they must not (refused 15 meets 0 1 5 5 2). The place is marked; move a vertex there, or undo."],
+    [batch("refused 16 node 1 2 0 1 2 1"), "Your edits are not published. The map would not be sound: the faces round a point would not agree (refused 16 node 1 2 0 1 2 1). The place is marked; move a vertex there, or undo."],
   ];
   for (const [error, words] of others) tally.equal(`an editor is told of ${error}`, wordsOfEdit(error), words);
   tally.equal("no answer at all is told", wordsOf(new Unreachable("fetch failed")), "The server cannot be reached. It is tried again. See whether you are connected.");

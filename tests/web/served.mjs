@@ -173,7 +173,7 @@ export function wrongSamples(view, slice) {
 
 /** Where a grid point is on the screen. */
 export function placeOf(tab, [x, y]) {
-  return tab.value(`(() => { const p = window.tgap.sheet.map.latLngToContainerPoint([${y}, ${x}]); return [p.x, p.y]; })()`);
+  return tab.value(`(({ map }) => { const p = map.latLngToContainerPoint([${y}, ${x}]), box = map.getContainer().getBoundingClientRect(); return [p.x + box.x, p.y + box.y]; })(window.tgap.sheet)`);
 }
 
 /** The slice of a map by the program itself. */
@@ -210,11 +210,37 @@ export async function goesNear(tab, [x, y]) {
   await tab.until(`${IDLE} && window.tgap.sheet.map.getZoom() === 0 && ${isInTheMiddle}`);
 }
 
+export const EDITING = "Boolean(window.tgap?.editing.isOn && !window.tgap.editing.isBusy)";
+/** The lines of the edits that were made and not published. */
+export const BATCH = "window.tgap.editing.draft?.batch()";
+
+/** Presses a button of the page. */
+export const presses = (tab, id) => tab.value(`document.getElementById(${JSON.stringify(id)}).click()`);
+
+export async function beginsEditing(tab) {
+  await presses(tab, "edit");
+  return tab.until(EDITING);
+}
+
+/** Ends it, and discards what is not published. */
+export async function endsEditing(tab) {
+  await presses(tab, "close");
+  await tab.value("document.querySelector('#notices li[data-cause=close] .actions button')?.click()");
+  return tab.until(`!window.tgap.editing.isOn && ${IDLE}`);
+}
+
 /** Goes so near to a vertex that a drag over some pixels is a small edit, and drags it. */
 export async function dragsNear(tab, vertex, by) {
+  await tab.until(EDITING);
   await goesNear(tab, vertex);
   const at = await placeOf(tab, vertex);
   await tab.drag(at, at.map((z, axis) => z + by[axis]));
+}
+
+/** The same, and publishes it. */
+export async function editsNear(tab, vertex, by) {
+  await dragsNear(tab, vertex, by);
+  await presses(tab, "publish");
 }
 
 /** An inner vertex of a border, and where it may go without harm: a hundredth of the way to the next vertex. */

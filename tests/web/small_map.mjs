@@ -7,7 +7,7 @@ import { sliceText } from "../../clients/js/wire.js";
 import { pixelsOf } from "./browser.mjs";
 import { examples } from "./lib.mjs";
 import { tellsOfFailures } from "./failures.mjs";
-import { IDLE, NOTICES, PICTURE_TEXT, dragsNear, loadsAnew, look, otherVertex, resizes, shown, sliceOf, text, turnsWheel, vertexToMove, wrongSamples } from "./served.mjs";
+import { IDLE, NOTICES, PICTURE_TEXT, beginsEditing, editsNear, endsEditing, loadsAnew, look, otherVertex, resizes, shown, sliceOf, text, turnsWheel, vertexToMove, wrongSamples } from "./served.mjs";
 
 const MIDDLE = [420, 330];
 const POPUP = "document.querySelector('.leaflet-popup-content')?.innerText ?? ''";
@@ -134,6 +134,9 @@ async function keepsLabelsBesideBoxes({ tab, tally }) {
   }
   await resizes(tab, 1100, 613);
   await tab.until(IDLE);
+  // Leaflet would tell of such a move a moment later.
+  await pause(400);
+  tally.holds("whatever its size is, what was shown whole stays so", await tab.value("window.tgap.sheet.all"));
 }
 
 /** What is drawn is put together once for a picture, and not when the map is moved. */
@@ -148,10 +151,11 @@ async function makesAPictureOnce({ tab, tally }) {
 
 async function edits(on) {
   const { tab, tally, served } = on;
-  await tab.value("document.getElementById('moving').click()");
+  await beginsEditing(tab);
   const [vertex] = vertexToMove(await served.slice(0));
-  await dragsNear(tab, vertex, [6, 1]);
+  await editsNear(tab, vertex, [6, 1]);
   tally.holds("an edit is published", await tab.until(`${text("version")} === 'Version 1' && ${IDLE}`));
+  await endsEditing(tab);
   tally.equal("and told as such", await tab.value(NOTICES), "edit: Your edit is published as version 1.");
   tally.equal("the step is that of the view", (await shown(tab)).step, (await shown(tab)).wanted);
 
@@ -170,26 +174,29 @@ async function edits(on) {
 /** Somebody publishes between the page's question and its edit. */
 async function landsOnAnUnseenVersion({ tab, tally, served }) {
   const [from, to] = vertexToMove(await served.slice(0));
-  await tab.ask("Fetch.enable", { patterns: [{ urlPattern: "*/map/edit" }] });
-  tab.paused = async ({ requestId }) => {
+  await beginsEditing(tab);
+  const take = async ({ requestId }) => {
     await served.edit(`move ${from.join(" ")} ${to.join(" ")}\n`);
     await tab.ask("Fetch.continueRequest", { requestId });
   };
-  await dragsNear(tab, otherVertex(await served.slice(0)), [-6, 1]);
-  tally.holds("an edit on a version that was not seen is told", await tab.until(`(${NOTICES}).includes('published as version 4, but on top of version 3, which you had not seen')`));
-  await tab.ask("Fetch.disable");
-  await tab.until(IDLE);
+  await tab.intercepting("*/map/edit", take, async () => {
+    await editsNear(tab, otherVertex(await served.slice(0)), [-6, 1]);
+    tally.holds("an edit on a version that was not seen is told", await tab.until(`(${NOTICES}).includes('published as version 4, but on top of version 3, which you had not seen')`));
+  });
+  await endsEditing(tab);
   tally.equal("its version is shown", (await shown(tab)).version, 4);
 }
 
 async function isTooLate({ tab, tally, served }) {
   const slice = await served.slice(0);
   const [from, to] = vertexToMove(slice);
+  await beginsEditing(tab);
   await served.edit(`move ${from.join(" ")} ${to.join(" ")}\n`);
-  await dragsNear(tab, otherVertex(slice), [6, 2]);
-  tally.holds("an edit that comes too late is told", await tab.until(`(${NOTICES}).includes('edit: Your edit is not published: somebody else')`));
-  await tab.until(`${text("version")} === 'Version 5' && ${IDLE}`);
+  await editsNear(tab, otherVertex(slice), [6, 2]);
+  tally.holds("an edit that comes too late is told", await tab.until(`(${NOTICES}).includes('edit: Your edits are not published: somebody else')`));
+  await tab.until(`window.tgap.client.version === 5 && ${IDLE}`);
   await pause(1000);
-  tally.holds("and stays told", (await tab.value(NOTICES)).includes("edit: Your edit is not published: somebody else"));
+  tally.holds("and stays told", (await tab.value(NOTICES)).includes("edit: Your edits are not published: somebody else"));
+  await endsEditing(tab);
   tally.equal("the newer version is shown", (await shown(tab)).version, 5);
 }

@@ -3,14 +3,20 @@ use Rattle.std.proofs.Common.{◌≡◌, ℕ, ◌-◌, Bool, true, false, not, n
 use Rattle.std.specs.Prelude.{unwrap_or}
 use Rattle.std.specs.Option.{ok_or}
 use Rattle.std.proofs.lemmas.Bool.{ltb-true}
+use Rattle.tgap_model.specs.declared.geometry.Point.{Point}
 use Rattle.tgap_model.specs.declared.base.BaseArc.{BaseArc}
 use Rattle.tgap_model.specs.declared.limits.TheConstants.{MAX_POINTS}
 use Rattle.tgap_model.specs.Base.{BaseMap, is_base, count_points}
 use Rattle.line_forms.specs.Json.{ensured}
 use Rattle.tgap_model.proofs.BaseFacts.{base_facts, rules_facts}
 use Rattle.line_forms.specs.Lines.{◌>>=◌}
+use Rattle.face_cuts.specs.Fusions.{fuse_faces}
+use Rattle.face_cuts.specs.Cuts.{cut_face}
+use Rattle.face_cuts.proofs.FusionsKeep.{fusions_keep}
+use Rattle.face_cuts.proofs.CutsKeep.{cuts_keep}
 use Rattle.edit_laws.specs.Edits.{named, set_class, has_point, is_node, move_all, put_between, take_out, change_first, turns_back, move_point, add_point, drop_point}
-use Rattle.edit_laws.specs.EditLaws.{ClassesKeepMaps, MovesKeepMaps, AddsKeepMaps, DropsKeepMaps}
+use Rattle.edit_laws.specs.Edits.{Cut, cut_named, fuse_named}
+use Rattle.edit_laws.specs.EditLaws.{FitsLimits, ClassesKeepMaps, MovesKeepMaps, AddsKeepMaps, DropsKeepMaps}
 use Rattle.edit_laws.proofs.Numbers.{named_most}
 use Rattle.edit_laws.proofs.Laws.{classes_again, move_again, add_again, drop_again}
 
@@ -78,3 +84,23 @@ drops_keep m e old base made =
     by true false true found apart e1 made = absurd cc
     by true true back found apart e1 made = absurd cc
     by false node back found apart e1 made = absurd cc
+
+-- a cut and a fusion of faces that are named keep a base map one, as those of the faces do
+pub named_cuts_keep : (m e : BaseMap) (face class : List ℕ) (points : List Point) → IsTrue (is_base m) → FitsLimits (Cut face class points)
+    → cut_named m face class points ≡ Ok e → IsTrue (is_base e)
+unfolding cut_named
+named_cuts_keep m e face class points base fits made = by (named 1 (length m.classes) face) (named 0 (length m.rules.weights - 1) class) made
+  where
+    by : (f k : Option ℕ) → (ok_or f 2 >>= λ at. ok_or k 2 >>= λ new. cut_face m at new points) ≡ Ok e → IsTrue (is_base e)
+    by None k made = absurd cc
+    by (Some f) None made = absurd cc
+    by (Some f) (Some k) made = cuts_keep m e f k points base fits.0 fits.1 made
+
+pub named_fusions_keep : (m e : BaseMap) (kept gone : List ℕ) → IsTrue (is_base m) → fuse_named m kept gone ≡ Ok e → IsTrue (is_base e)
+unfolding fuse_named
+named_fusions_keep m e kept gone base made = by (named 1 (length m.classes) kept) (named 1 (length m.classes) gone) made
+  where
+    by : (f g : Option ℕ) → (ok_or f 2 >>= λ one. ok_or g 2 >>= λ other. fuse_faces m one other) ≡ Ok e → IsTrue (is_base e)
+    by None g made = absurd cc
+    by (Some f) None made = absurd cc
+    by (Some f) (Some g) made = fusions_keep m e f g base made

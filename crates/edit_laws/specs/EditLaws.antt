@@ -1,20 +1,23 @@
 -- Laws of edits: where one is not refused, it makes a base map of a base map; and batches that are joined make what each by itself
 -- makes, one after the other.
-use Rattle.std.specs.Prelude.{◌≡◌, ℕ, ◌==◌, Bool, true, List, [], ◌∷◌, ◌++◌, IsTrue, None, Result, Ok}
+use Rattle.std.specs.Prelude.{◌≡◌, ◌≤◌, ℕ, ◌==◌, Bool, true, List, [], ◌∷◌, ◌++◌, length, IsTrue, None, Result, Ok}
 use Rattle.std.specs.List.{list_all, concat}
 use Rattle.std.specs.Result.{result_ok}
 use Rattle.tgap_model.specs.declared.geometry.Point.{Point}
 use Rattle.tgap_model.specs.Base.{BaseMap, in_limits, is_base}
 use Rattle.tgap_model.specs.Keeping.{KeptEntry, folded, bad_entry}
 use Rattle.line_forms.specs.Lines.{◌>>=◌}
-use Rattle.edit_laws.specs.Edits.{Edit, Class, Move, Add, Drop, set_class, move_point, add_point, drop_point, edited}
+use Rattle.edit_laws.specs.Edits.{Edit, Class, Move, Add, Drop, Node, Cut, Fuse, set_class, move_point, add_point, drop_point, edited}
 
--- the new point of an edit is within the limits
+-- the new points of an edit are within the limits, and a new arc has two at least
 abbrev pub FitsLimits : Edit → Type 0
 FitsLimits (Class face class) = Unit {0}
 FitsLimits (Move old new) = IsTrue (in_limits new)
 FitsLimits (Add a b new) = IsTrue (in_limits new)
 FitsLimits (Drop old) = Unit {0}
+FitsLimits (Node at) = Unit {0}
+FitsLimits (Cut face class points) = (2 ≤ length points) × IsTrue (list_all in_limits points)
+FitsLimits (Fuse kept gone) = Unit {0}
 
 abbrev pub ClassesKeepMaps : Type 0
 ClassesKeepMaps = (m e : BaseMap) (face class : List ℕ) → IsTrue (is_base m) → set_class m face class ≡ Ok e → IsTrue (is_base e)

@@ -5,23 +5,29 @@ use Rattle.std.specs.List.{list_all, list_any}
 use Rattle.std.specs.Option.{ok_or}
 use Rattle.tgap_model.specs.declared.geometry.Point.{Point}
 use Rattle.tgap_model.specs.declared.base.BaseArc.{BaseArc}
-use Rattle.tgap_model.specs.declared.limits.TheConstants.{MAX_POINTS}
+use Rattle.tgap_model.specs.declared.limits.TheConstants.{MAX_COORDINATE, MAX_POINTS}
 use Rattle.tgap_model.specs.Base.{BaseMap, same_point, count_points}
-use Rattle.tgap_model.specs.Chains.{first_point, last_point}
 use Rattle.line_forms.specs.Texts.{number_of, rows_of}
-use Rattle.line_forms.specs.Words.{Row, ◌>>=◌ as ◌then◌, ended}
+use Rattle.line_forms.specs.Words.{Row, ◌>>=◌ as ◌then◌, natural_at, ended}
 use Rattle.line_forms.specs.Lines.{◌>>=◌, next_number, is_over}
-use Rattle.line_forms.specs.ListingLines.{coordinate_at}
+use Rattle.line_forms.specs.ListingLines.{coordinate_at, points_at}
 use Rattle.line_forms.specs.Json.{ensured}
+pub use Rattle.face_cuts.specs.Nodes.{is_node, with_points}
+use Rattle.face_cuts.specs.Nodes.{add_node}
+use Rattle.face_cuts.specs.Fusions.{fuse_faces}
+use Rattle.face_cuts.specs.Cuts.{cut_face}
 
 -- ---- how a line is read
 
--- An edit, as a line tells it. Of a face and a class there are the words that name them.
+-- An edit, as a line tells it. Of faces and a class there are the words that name them.
 pub data Edit : Type 0 where
   Class : List ℕ → List ℕ → Edit
   Move : Point → Point → Edit
   Add : Point → Point → Point → Edit
   Drop : Point → Edit
+  Node : Point → Edit
+  Cut : List ℕ → List ℕ → List Point → Edit
+  Fuse : List ℕ → List ℕ → Edit
 
 -- digits, of which the first is 0 only where it stands alone
 abbrev pub is_numeral : List ℕ → Bool
@@ -55,7 +61,20 @@ read_add row = point_at row then λ a. point_at a.1 then λ b. point_at b.1 then
 abbrev pub read_drop : Row → Option Edit
 read_drop row = point_at row then λ old. ended (Drop old.0) old.1
 
--- the edit that a line tells, where it is of one of the four forms
+abbrev pub read_node : Row → Option Edit
+read_node row = point_at row then λ at. ended (Node at.0) at.1
+
+-- how many points the new arc has, from 2 to 65,535, and then just so many points
+abbrev pub arc_at : Row → Option (List Point × Row)
+arc_at row = natural_at 2 65535 row then λ count. points_at MAX_COORDINATE count.0 count.1
+
+abbrev pub read_cut : Row → Option Edit
+read_cut row = decimal_at row then λ face. decimal_at face.1 then λ class. arc_at class.1 then λ arc. ended (Cut face.0 class.0 arc.0) arc.1
+
+abbrev pub read_fuse : Row → Option Edit
+read_fuse row = decimal_at row then λ kept. decimal_at kept.1 then λ gone. ended (Fuse kept.0 gone.0) gone.1
+
+-- the edit that a line tells, where it is of one of the seven forms
 abbrev pub read_edit : Row → Option Edit
 read_edit [] = None
 read_edit (w ∷ row) =
@@ -63,6 +82,9 @@ read_edit (w ∷ row) =
     else if bytes_eq w (codes "move") then read_move row
     else if bytes_eq w (codes "add") then read_add row
     else if bytes_eq w (codes "drop") then read_drop row
+    else if bytes_eq w (codes "node") then read_node row
+    else if bytes_eq w (codes "cut") then read_cut row
+    else if bytes_eq w (codes "fuse") then read_fuse row
     else None
 
 -- ---- the points of a base
@@ -71,17 +93,9 @@ read_edit (w ∷ row) =
 abbrev pub has_point : Point → List BaseArc → Bool
 has_point p arcs = list_any (λ a. list_any (same_point p) a.points) arcs
 
--- some arc begins or ends at the point
-abbrev pub is_node : Point → List BaseArc → Bool
-is_node p arcs = list_any (λ a. same_point p (first_point a.points) || same_point p (last_point a.points)) arcs
-
 -- every point that is the one becomes the other
 abbrev pub moved : Point → Point → Point → Point
 moved old new p = if same_point old p then new else p
-
--- the arc with other points
-abbrev pub with_points : BaseArc → List Point → BaseArc
-with_points a points = record a { points = points }
 
 abbrev pub move_all : Point → Point → List BaseArc → List BaseArc
 move_all old new arcs = map (λ a. with_points a (map (moved old new) a.points)) arcs
@@ -163,11 +177,28 @@ drop_point m old = do
   apart ← ensured (not (turns_back old m.arcs)) 7
   Ok (record m { arcs = without old m.arcs })
 
+-- a cut of the face that a word names, by an arc with these points; the new face has the class that another word names
+unfoldable pub cut_named : BaseMap → List ℕ → List ℕ → List Point → Result BaseMap ℕ
+cut_named m face class points = do
+  f ← ok_or (named 1 (length m.classes) face) 2
+  k ← ok_or (named 0 (length m.rules.weights - 1) class) 2
+  cut_face m f k points
+
+-- a fusion of the faces that two words name, by which the second one becomes a part of the first
+unfoldable pub fuse_named : BaseMap → List ℕ → List ℕ → Result BaseMap ℕ
+fuse_named m kept gone = do
+  f ← ok_or (named 1 (length m.classes) kept) 2
+  g ← ok_or (named 1 (length m.classes) gone) 2
+  fuse_faces m f g
+
 abbrev pub apply : BaseMap → Edit → Result BaseMap ℕ
 apply m (Class face class) = set_class m face class
 apply m (Move old new) = move_point m old new
 apply m (Add a b new) = add_point m a b new
 apply m (Drop old) = drop_point m old
+apply m (Node at) = add_node m at
+apply m (Cut face class points) = cut_named m face class points
+apply m (Fuse kept gone) = fuse_named m kept gone
 
 -- a line that is of no form is cause 1
 abbrev pub apply_line : BaseMap → Row → Result BaseMap ℕ

@@ -87,14 +87,14 @@ module _ (spans : List Span) (h : AreSpans spans) (v : Point) where
       (subst (λ (u : Point). point_before (start_of spans s) u ≡ false) node (points.order.itself (start_of spans s) tt))
       (subst (λ (u : Point). same_point (start_of spans s) u ≡ true) node (points.itself (start_of spans s)))
 
-  order : IsStrictOrderOn (IsSpoke spans v) (spoke_before spans)
+  pub order : IsStrictOrderOn (IsSpoke spans v) (spoke_before spans)
   order = record {
     itself = λ s p. sym (alike s s p p) ∙ before_strict.itself (spoke s p) tt;
     passes = λ s t u p q r e f.
         sym (alike s u p r) ∙ before_strict.passes (spoke s p) (spoke t q) (spoke u r) tt tt tt (alike s t p q ∙ e) (alike t u q r ∙ f);
   }
 
-  decided : (s t : Side) → IsSpoke spans v s → IsSpoke spans v t → spoke_before spans s t ≡ false → spoke_before spans t s ≡ false → s ≡ t
+  pub decided : (s t : Side) → IsSpoke spans v s → IsSpoke spans v t → spoke_before spans s t ≡ false → spoke_before spans t s ≡ false → s ≡ t
   decided s t p q e f = side_number-inj s t (before_tied (spoke s p) (spoke t q) (alike s t p q ∙ e) (alike t s q p ∙ f))
 
   -- different spokes of the node

@@ -16,7 +16,7 @@ use crate::free::are_free;
 use crate::fusion::{count_faces, is_face};
 use crate::node_table::NodeTable;
 use crate::parting::{NewArc, arcs_with};
-use crate::parts::{has_room, with_parts};
+use crate::parts::has_room;
 use ring_walk::Side;
 use std::alloc::Global;
 use tgap_model::{Base, BaseArc, List, Memory, Or, Point, copied_numbers};
@@ -103,5 +103,5 @@ pub fn cut_face(
     };
     let arcs = arcs_after(alloc, arcs, arc)?;
     let classes = classes_with(alloc, class, base.classes().as_slice())?;
-    Ok(with_parts(alloc, base, classes, arcs)?)
+    Ok(base.with_parts(alloc, classes, arcs)?)
 }

@@ -68,8 +68,8 @@ impl PointSet {
     }
 }
 
-/// Whether no two of the points are one. Each is looked for among those after it.
-fn are_different(alloc: Global, points: &[Point]) -> Result<bool, Memory>
+/// Whether no two of the points are one. Each is looked for among those after it, in a set of these.
+pub fn are_different(alloc: Global, points: &[Point]) -> Result<bool, Memory>
     ensures { IfOk result (λ different. different ≡ all_different points.now) }
 {
     let mut later = PointSet::new(alloc);
@@ -83,8 +83,8 @@ fn are_different(alloc: Global, points: &[Point]) -> Result<bool, Memory>
     Ok(true)
 }
 
-/// The points between the first and the last.
-fn inner_points(points: &[Point]) -> &[Point]
+/// The points between the first and the last: all but these two. There are two at least.
+pub fn inner_points(points: &[Point]) -> &[Point]
     requires { 2 ≤ length points.now }
     ensures { result.now ≡ inner_points points.now }
 {

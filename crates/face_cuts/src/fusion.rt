@@ -7,7 +7,6 @@ ghost use Rattle.face_cuts.specs.Outcomes.{GivesCut};
 ghost use Rattle.face_cuts.specs.Fusions.{classes_without, fuse_faces, is_between, is_face, joined, others, relabelled, renumbered};
 
 use crate::cause::{Cause, NO_SUCH_NUMBER, NOTHING_BETWEEN, NOTHING_LEFT, refused};
-use crate::parts::with_parts;
 use std::alloc::Global;
 use tgap_model::{Base, BaseArc, List, Memory, Or, copied_points};
 
@@ -151,5 +150,5 @@ pub fn fuse_faces(alloc: Global, base: &Base, kept: u32, gone: u32) -> Result<Ba
     }
     let classes = classes_without(alloc, gone, base.classes().as_slice())?;
     let arcs = fusion.arcs(alloc, arcs)?;
-    Ok(with_parts(alloc, base, classes, arcs)?)
+    Ok(base.with_parts(alloc, classes, arcs)?)
 }

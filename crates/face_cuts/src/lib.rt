@@ -30,6 +30,7 @@ mod walk;
 pub use along::cut_along;
 pub use cause::Cause;
 pub use cut::cut_face;
+pub use free::{are_different, inner_points};
 pub use fusion::fuse_faces;
 pub use laws::{
     cuts_fuse_again, cuts_keep_inside, cuts_keep_maps, cuts_move_sides, fusions_keep_inside,
@@ -37,4 +38,7 @@ pub use laws::{
 };
 pub use node::add_node;
 pub use node_table::NodeTable;
+pub use points::{first_point, last_point};
+pub use sector::{face_of, is_before, later, start_of, toward_of};
+pub use spans::{point_at, span_of};
 pub use table::ArcTable;

@@ -6,7 +6,7 @@ ghost use Rattle.face_cuts.specs.Outcomes.{GivesCut};
 ghost use Rattle.face_cuts.specs.Nodes.{add_node, split_at};
 
 use crate::cause::{Cause, IS_NODE, NO_ROOM, NO_SUCH_POINT, refused};
-use crate::parts::{has_room, with_parts, with_points};
+use crate::parts::{has_room, with_points};
 use crate::points::{Place, is_node, place_of};
 use std::alloc::Global;
 use tgap_model::{Base, BaseArc, List, Memory, Or, Point, copied_arcs, copied_numbers};
@@ -46,5 +46,5 @@ pub fn add_node(alloc: Global, base: &Base, at: Point) -> Result<Base, Or<Cause>
     }
     let classes = copied_numbers(alloc, base.classes().as_slice())?;
     let arcs = split_at(alloc, arcs, place)?;
-    Ok(with_parts(alloc, base, classes, arcs)?)
+    Ok(base.with_parts(alloc, classes, arcs)?)
 }

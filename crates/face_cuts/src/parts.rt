@@ -1,14 +1,13 @@
 //! A map with other parts, and how many parts more it may have.
 
-ghost use Rattle.std.specs.Prelude.{◌≡◌, ◌≤◌, ◌+◌, IsTrue, IfOk, length, nat_le};
-ghost use Rattle.tgap_model.specs.Base.{count_points, is_base};
+ghost use Rattle.std.specs.Prelude.{◌≡◌, ◌≤◌, ◌+◌, IfOk, length, nat_le};
+ghost use Rattle.tgap_model.specs.Base.{count_points};
 ghost use Rattle.face_cuts.specs.Outcomes.{has_room};
 ghost use Rattle.face_cuts.specs.Nodes.{with_points};
 
 use std::alloc::Global;
 use tgap_model::{
-    Base, BaseArc, List, MAX_ARCS, MAX_FACES, MAX_POINTS, Memory, Point, copied_points,
-    copied_rules,
+    Base, BaseArc, MAX_ARCS, MAX_FACES, MAX_POINTS, Memory, Point, copied_points,
 };
 
 /// How many points these arcs have.
@@ -51,21 +50,4 @@ pub fn with_points(alloc: Global, arc: &BaseArc, points: &[Point]) -> Result<Bas
         right: arc.right,
         points: copied_points(alloc, points)?,
     })
-}
-
-/// The map with these classes and arcs in place of its own.
-pub fn with_parts(
-    alloc: Global,
-    base: &Base,
-    classes: List<u32>,
-    arcs: List<BaseArc>,
-) -> Result<Base, Memory>
-    requires { IsTrue (is_base (record base.now { classes = classes; arcs = arcs })) }
-    ensures { IfOk result (λ made. made ≡ record base.now { classes = classes; arcs = arcs }) }
-{
-    let rules = copied_rules(alloc, base.rules())?;
-    match Base::new(*base.transform(), rules, classes, arcs) {
-        Some(made) => Ok(made),
-        None => unreachable!(),
-    }
 }

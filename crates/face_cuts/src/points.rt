@@ -15,7 +15,7 @@ pub struct Place {
     pub at: usize,
 }
 
-/// The first of some points.
+/// The first of some points, and the origin where there are none.
 pub fn first_point(points: &[Point]) -> Point
     ensures { result ≡ first_point points.now }
 {
@@ -25,7 +25,7 @@ pub fn first_point(points: &[Point]) -> Point
     }
 }
 
-/// The last of some points.
+/// The last of some points, and the origin where there are none.
 pub fn last_point(points: &[Point]) -> Point
     ensures { result ≡ last_point points.now }
 {

@@ -14,7 +14,7 @@ use ring_walk::Side;
 use std::alloc::Global;
 use tgap_model::{Memory, Point};
 
-/// The face at the left of a side.
+/// The face at the left of a side: of a side along its arc that at the left of the arc, else that at the right.
 pub fn face_of<T: ArcTable>(table: &T, side: Side) -> u32
     requires { IsSide (length (T.arcs table.now)) side }
     ensures { result ≡ face_of (spans_of (T.arcs table.now)) side }
@@ -22,24 +22,25 @@ pub fn face_of<T: ArcTable>(table: &T, side: Side) -> u32
     table.span(side.span).face(side.way)
 }
 
-/// The node that a side leaves.
-fn start_of<T: ArcTable>(table: &T, side: Side) -> Point
+/// The node that a side leaves: one end of its arc.
+pub fn start_of<T: ArcTable>(table: &T, side: Side) -> Point
     requires { IsSide (length (T.arcs table.now)) side }
     ensures { result ≡ start_of (spans_of (T.arcs table.now)) side }
 {
     table.span(side.span).start(side.way)
 }
 
-/// The point toward which a side leaves its node.
-fn toward_of<T: ArcTable>(table: &T, side: Side) -> Point
+/// The point toward which a side leaves its node: the one that its arc has next to it.
+pub fn toward_of<T: ArcTable>(table: &T, side: Side) -> Point
     requires { IsSide (length (T.arcs table.now)) side }
     ensures { result ≡ toward_of (spans_of (T.arcs table.now)) side }
 {
     table.span(side.span).toward(side.way)
 }
 
-/// Whether of two spokes of a node the first one comes before the second.
-fn is_before<T: ArcTable>(table: &T, first: Side, second: Side) -> bool
+/// Whether of two spokes of a node, which are sides that leave it, the first one comes before the second: counter-clockwise
+/// from the direction of positive x, and in one direction by their numbers.
+pub fn is_before<T: ArcTable>(table: &T, first: Side, second: Side) -> bool
     requires spans { AreSpans (spans_of (T.arcs table.now)) }
     requires first { IsSide (length (T.arcs table.now)) first }
     requires second { IsSpoke (spans_of (T.arcs table.now)) (start_of (spans_of (T.arcs table.now)) first) second }
@@ -52,8 +53,8 @@ fn is_before<T: ArcTable>(table: &T, first: Side, second: Side) -> bool
         || (!turn_before(node, right, left) && first.number() < second.number())
 }
 
-/// Of a spoke and the last one of others at its node, the one that comes last.
-fn later<T: ArcTable>(table: &T, spoke: Side, last: Option<Side>) -> Side
+/// Of a spoke and the last one of others at its node, the one that comes last. Where there are no others, it is the spoke.
+pub fn later<T: ArcTable>(table: &T, spoke: Side, last: Option<Side>) -> Side
     requires spans { AreSpans (spans_of (T.arcs table.now)) }
     requires spoke { IsSide (length (T.arcs table.now)) spoke }
     requires last { IfSome last (IsSpoke (spans_of (T.arcs table.now)) (start_of (spans_of (T.arcs table.now)) spoke)) }

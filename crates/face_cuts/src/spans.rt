@@ -8,7 +8,7 @@ use ring_walk::{EdgeEnds, Span};
 use std::alloc::Global;
 use tgap_model::{BaseArc, Memory, Point};
 
-/// The point at a position of a row.
+/// The point at a position of a row, from 0 on, and the origin where the row ends before it.
 pub fn point_at(points: &[Point], place: usize) -> Point
     ensures { result ≡ point_at points.now place }
 {
@@ -18,8 +18,8 @@ pub fn point_at(points: &[Point], place: usize) -> Point
     }
 }
 
-/// What a walk has to know of an arc.
-fn span_of(arc: &BaseArc) -> Span
+/// What a walk has to know of an arc: its ends, the points next to these, and its faces.
+pub fn span_of(arc: &BaseArc) -> Span
     ensures { result ≡ span_of arc.now }
 {
     let points = arc.points.as_slice();

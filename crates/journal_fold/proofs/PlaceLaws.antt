@@ -4,7 +4,7 @@ use Rattle.std.proofs.lemmas.List.{drop-drop, map-append, take-map, length-take,
 use Rattle.std.proofs.lemmas.List.Elements.{All-append, All-take}
 use Rattle.std.proofs.lemmas.List.Quantifiers.{all_pairs_push}
 use Rattle.tgap_model.specs.Keeping.{KeptEntry, fold_entry, folded}
-use Rattle.journal_fold.specs.JournalFolds.{with_place, places_from, places_of, batch_at, batches_at}
+use Rattle.journal_fold.specs.JournalFolds.{with_place, places_after, places_of, batch_at, batches_at}
 
 -- ---- the batches at the places
 
@@ -27,7 +27,7 @@ batches_next all i places batches e here are =
     ∙ ap (λ (b : List ℕ). take (e.number - 1) batches ++ b ∷ []) here
 
 batches_go : (all : List KeptEntry) (i : ℕ) (places : List ℕ) (batches : List (List ℕ)) (rest : List KeptEntry) → drop i all ≡ rest
-    → batches_at all places ≡ batches → batches_at all (places_from i places rest) ≡ fold fold_entry batches rest
+    → batches_at all places ≡ batches → batches_at all (places_after i places rest) ≡ fold fold_entry batches rest
 batches_go all i places batches [] left are = are
 batches_go all i places batches (e ∷ rest) left are =
     batches_go all (i + 1) (with_place places e i) (fold_entry batches e) rest (rest_here all i e rest left)
@@ -64,11 +64,11 @@ rise_next i k places rise =
     one zero d within = omega arith
     one (suc a) d within = absurd (omega (arith, within))
 
-rise_go : (i : ℕ) (places : List ℕ) (entries : List KeptEntry) → Rise i places → Rise (i + length entries) (places_from i places entries)
+rise_go : (i : ℕ) (places : List ℕ) (entries : List KeptEntry) → Rise i places → Rise (i + length entries) (places_after i places entries)
 rise_go i places [] rise = let same : i ≡ i + 0 = omega arith in subst (λ (n : ℕ). Rise n places) same rise
 rise_go i places (e ∷ entries) rise =
     let same : i + 1 + length entries ≡ i + suc (length entries) = omega arith in
-    subst (λ (n : ℕ). Rise n (places_from (i + 1) (with_place places e i) entries)) same
+    subst (λ (n : ℕ). Rise n (places_after (i + 1) (with_place places e i) entries)) same
     (rise_go (i + 1) (with_place places e i) entries (rise_next i (e.number - 1) places rise))
 
 -- they are places of entries, each above the one before it

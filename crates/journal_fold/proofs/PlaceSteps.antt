@@ -5,7 +5,7 @@ use Rattle.std.proofs.lemmas.List.{drop_more, drop_all, length-append, length-ta
 use Rattle.tgap_model.specs.Keeping.{KeptEntry, fold_entry, is_bad_entry, bad_entry_from, bad_entry}
 use Rattle.edit_journal.specs.declared.entry.Entry.{Entry}
 use Rattle.edit_journal.specs.Told.{kept_of, all_kept}
-use Rattle.journal_fold.specs.JournalFolds.{places_from, places_of}
+use Rattle.journal_fold.specs.JournalFolds.{places_after, places_of}
 
 -- ---- whether an entry follows
 
@@ -38,7 +38,7 @@ kept_rest entries i x within is =
 -- So many entries are folded, and these are their places. The rest of the entries gives all places, and the first that does not
 -- follow.
 pub record Folding (entries : List Entry) (i : ℕ) (places : List ℕ) : Type 0 where
-  pub left : places_from i places (all_kept (drop i entries)) ≡ places_of (all_kept entries)
+  pub left : places_after i places (all_kept (drop i entries)) ≡ places_of (all_kept entries)
   pub batches : List (List ℕ)
   pub count : length batches ≡ length places
   pub bad : bad_entry_from i batches (all_kept (drop i entries)) ≡ bad_entry (all_kept entries)
@@ -61,7 +61,7 @@ folding_next entries i places new x f within is good made =
     let rest = kept_rest entries i x within is in
     let ok = follows f.batches (kept_of x) good.0 (omega (arith, f.count, good.1)) in record {
       left =
-          ap (λ (l : List ℕ). places_from (i + 1) l (all_kept (drop (i + 1) entries))) made ∙ ap (places_from i places) (sym rest) ∙ f.left;
+          ap (λ (l : List ℕ). places_after (i + 1) l (all_kept (drop (i + 1) entries))) made ∙ ap (places_after i places) (sym rest) ∙ f.left;
       batches = fold_entry f.batches (kept_of x);
       count = count_next (x.number - 1) f.batches places x.batch i f.count ∙ sym (ap length made);
       bad =
@@ -83,4 +83,4 @@ pub folding_end : (entries : List Entry) (i : ℕ) (places : List ℕ) → Foldi
     → (places ≡ places_of (all_kept entries)) × (bad_entry (all_kept entries) ≡ None)
 folding_end entries i places f all =
     let none : all_kept (drop i entries) ≡ [] = ap all_kept (drop_all i entries all) in
-    (ap (places_from i places) (sym none) ∙ f.left, sym f.bad ∙ ap (bad_entry_from i f.batches) none)
+    (ap (places_after i places) (sym none) ∙ f.left, sym f.bad ∙ ap (bad_entry_from i f.batches) none)

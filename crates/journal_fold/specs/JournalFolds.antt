@@ -45,13 +45,13 @@ abbrev pub with_place : List ℕ → KeptEntry → ℕ → List ℕ
 with_place places e place = take (e.number - 1) places ++ place ∷ []
 
 -- the places after these entries, of which the first has place i
-abbrev pub places_from : ℕ → List ℕ → List KeptEntry → List ℕ
-places_from i places [] = places
-places_from i places (e ∷ entries) = places_from (i + 1) (with_place places e i) entries
+abbrev pub places_after : ℕ → List ℕ → List KeptEntry → List ℕ
+places_after i places [] = places
+places_after i places (e ∷ entries) = places_after (i + 1) (with_place places e i) entries
 
 -- the places of the entries that are left, that of version 1 first
 abbrev pub places_of : List KeptEntry → List ℕ
-places_of entries = places_from 0 [] entries
+places_of entries = places_after 0 [] entries
 
 -- the batch of the entry at this place; that of no entry is empty
 abbrev pub batch_at : List KeptEntry → ℕ → List ℕ

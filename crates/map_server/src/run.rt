@@ -31,8 +31,8 @@ use std::thread::Threads;
 /// |---|---|---|
 /// | 0 | the command was done | the borders text or the slice text of the step, the packet text of the two steps, the text of the slice that a replay reaches, `ok` with the numbers of faces, arcs and points, or the line of a generated map; or the map was served until the doors closed: `serving` and the port |
 /// | 2 | the words are no command | the usage line |
-/// | 3 | a file that the command reads could not be loaded, the first of them in its order; the count of faults of its kind rose, and no other | `load fault` and the kind |
-/// | 4 | a file is too long, or the map file is the listing of no base map, or the two files are no topology and rules that make one, or the map is no planar partition, which `borders` does not ask | the first fault |
+/// | 3 | a file that the command reads could not be loaded, the first of them in its order; the count of faults of its kind rose, and no other; or the disk of the journal failed, whose count rose | `load fault` and the kind, or `load fault journal` |
+/// | 4 | a file is too long, or the map file is the listing of no base map, or the two files are no topology and rules that make one, or the map is no planar partition, which `borders` does not ask; or the journal is too long, has an entry that does not follow or that the map refuses, or more batches than there may be versions after the first | the first fault |
 /// | 5 | the step is above the last one; or the step to go to is above the step to go from, which is told first | `step too high` with that step, or `not coarser` with the two |
 /// | 6 | the text could not be put; the count of faults of the sink rose | a front of the text |
 /// | 7 | memory is wanting | `memory` |
@@ -87,7 +87,7 @@ where
     ensures unfit { serve_words (map string_bytes words.now) ≡ None → result ≡ 9
         → PutsAnswer (map string_bytes words.now) (F.told files.old) (K.told out.old) (K.told out.new) outcome.Unfit }
     // Where the map is to be served, status 0 and 8 come of a map that is a planar partition, and each other status but 6 as of its check,
-    // or where memory is wanting.
+    // as of its journal, or where memory is wanting.
     ensures serve_sound { (c : ServeCommand) → serve_words (map string_bytes words.now) ≡ Some c → (result ≡ 0) ⊎ (result ≡ 8)
         → IsSoundMap c.source (F.told files.old) }
     ensures serve_refused { (c : ServeCommand) → serve_words (map string_bytes words.now) ≡ Some c → result ≢ 0 → result ≢ 6 → result ≢ 8

@@ -1,7 +1,16 @@
+pub mod Points
 pub mod Positions
 pub mod Firsts
 pub mod Listed
+pub mod InSlots
+pub mod Changing
+pub mod Renaming
+pub mod Counting
+pub mod Relisting
 pub mod Least
 pub mod Moves
+pub mod PointRows
+pub mod Parted
+pub mod DraftCuts
 pub mod Drafts
 pub mod Batches

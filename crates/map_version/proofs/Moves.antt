@@ -1,5 +1,5 @@
 -- Points that are moved in the arcs that are listed for them, put into one arc or taken out of it, and their places then.
-use Rattle.std.proofs.Common.{◌≡◌, ◌∙◌, ℕ, zero, suc, ◌≤◌, ◌<◌, eqb, Bool, true, false, ◌||◌, List, [], ◌∷◌, ◌++◌, length, map, set, take, drop, insert, remove, refl, sym, ap, subst, arith}
+use Rattle.std.proofs.Common.{◌≡◌, ◌∙◌, ℕ, zero, suc, eqb, Bool, true, false, ◌||◌, List, [], ◌∷◌, ◌++◌, length, map, take, drop, insert, remove, refl, sym, ap, subst, arith}
 use Rattle.std.specs.Prelude.{if◌then◌else◌}
 use Rattle.std.specs.List.{list_any}
 use Rattle.std.proofs.lemmas.Bool.{false≢true, or_parts, or_left, or_right, false_from_ne_true, eqb-true, eq-eqb, cond-true, cond-false}
@@ -12,9 +12,12 @@ use Rattle.tgap_model.specs.Chains.{arc_number}
 use Rattle.edit_laws.specs.Edits.{has_point, moved, move_all, with_points}
 use Rattle.tgap_model.proofs.Points.{same_point-true}
 use Rattle.edit_laws.proofs.Cases.{by_test}
-use Rattle.map_version.specs.Places.{arc_passes, has, is_among, Covers}
+use Rattle.face_cuts.specs.Nodes.{passes}
+use Rattle.arc_places.specs.Places.{arc_passes, is_among, Covers}
+use Rattle.arc_places.proofs.Listed.{passes_here}
 use Rattle.map_version.specs.Positions.{changed_at}
-use Rattle.map_version.proofs.Listed.{next_same, passes_any, passes_more, passes_past, has_at}
+use Rattle.map_version.proofs.Listed.{next_same, passes_any, passes_more}
+use Rattle.map_version.proofs.Changing.{IsChange}
 
 -- ---- a point that is moved
 
@@ -68,18 +71,6 @@ was_there old new p (q ∷ points) apart e =
 
 -- ---- arcs of which one has other points
 
-pub passes_set_other : (test : BaseArc → Bool) (arcs : List BaseArc) (j i : ℕ) (b : BaseArc) → eqb j i ≡ false → arc_passes test (set arcs j b) i ≡ arc_passes test arcs i
-passes_set_other test [] j i b e = refl
-passes_set_other test (a ∷ arcs) zero zero b e = absurd (false≢true (sym e ∙ eq-eqb 0 0 refl))
-passes_set_other test (a ∷ arcs) zero (suc i) b e = refl
-passes_set_other test (a ∷ arcs) (suc j) zero b e = refl
-passes_set_other test (a ∷ arcs) (suc j) (suc i) b e = passes_set_other test arcs j i b (sym (next_same j i) ∙ e)
-
-pub passes_set_here : (test : BaseArc → Bool) (arcs : List BaseArc) (j : ℕ) (b : BaseArc) → j < length arcs → arc_passes test (set arcs j b) j ≡ test b
-passes_set_here test [] j b lt = absurd (omega arith)
-passes_set_here test (a ∷ arcs) zero b lt = refl
-passes_set_here test (a ∷ arcs) (suc j) b lt = passes_set_here test arcs j b (omega arith)
-
 pub passes_map : (test : BaseArc → Bool) (f : BaseArc → BaseArc) (arcs : List BaseArc) (i : ℕ) → arc_passes test (map f arcs) i ≡ arc_passes (λ a. test (f a)) arcs i
 passes_map test f [] i = refl
 passes_map test f (a ∷ arcs) zero = refl
@@ -90,50 +81,14 @@ none_passes test none [] i = refl
 none_passes test none (a ∷ arcs) zero = none a
 none_passes test none (a ∷ arcs) (suc i) = none_passes test none arcs i
 
--- ---- the arcs that are listed, one after another
-
--- Some arcs have the old point moved. Those that still have it are listed.
-pub record IsMoving (old new : Point) (from arcs : List BaseArc) (left : List ℕ) : Type 0 where
-  pub same : move_all old new arcs ≡ move_all old new from
-  pub left_over : (i : ℕ) → arc_passes (has old) arcs i ≡ true → is_among i left ≡ true
-
-one_moved : (old new : Point) (arcs : List BaseArc) (j : ℕ) → move_all old new (set arcs j (moved_arc old new (arc_number arcs j))) ≡ move_all old new arcs
-one_moved old new [] j = refl
-one_moved old new (a ∷ arcs) zero = ap (λ (points : List Point). with_points a points ∷ move_all old new arcs) (points_twice old new a.points)
-one_moved old new (a ∷ arcs) (suc j) = ap (λ (rest : List BaseArc). moved_arc old new a ∷ rest) (one_moved old new arcs j)
-
-pub moving_on : (old new : Point) (from arcs : List BaseArc) (j : ℕ) (left : List ℕ) → same_point old new ≡ false → j < length arcs → IsMoving old new from arcs (j ∷ left)
-    → IsMoving old new from (set arcs j (moved_arc old new (arc_number arcs j))) left
-moving_on old new from arcs j left apart lt moving =
+-- a point that is moved away is a change of the arcs that have it
+pub moving : (old new : Point) → same_point old new ≡ false → IsChange (moved_arc old new) (passes old)
+moving old new apart =
     record {
-      same = one_moved old new arcs j ∙ moving.same;
-      left_over = λ i e. by_test (eqb j i)
-          (λ t. absurd (false≢true (
-          let here = passes_set_here (has old) arcs j (moved_arc old new (arc_number arcs j)) lt in
-          let gone = none_left old new (arc_number arcs j).points apart in
-          let at_i = subst (λ (n : ℕ). arc_passes (has old) (set arcs j (moved_arc old new (arc_number arcs j))) n ≡ true) (sym (eqb-true j i t)) e in
-          sym (here ∙ gone) ∙ at_i)))
-          (λ f. rw f at (moving.left_over i (sym (passes_set_other (has old) arcs j i (moved_arc old new (arc_number arcs j)) f) ∙ e)));
+      twice = λ a. ap (with_points a) (points_twice old new a.points);
+      done = λ a. none_left old new a.points apart;
+      stays = λ a f. ap (with_points a) (points_stay old new a.points f);
     }
-
-pub moving_past : (old new : Point) (from arcs : List BaseArc) (j : ℕ) (left : List ℕ) → length arcs ≤ j → IsMoving old new from arcs (j ∷ left) → IsMoving old new from arcs left
-moving_past old new from arcs j left le moving =
-    record {
-      same = moving.same;
-      left_over = λ i e. by_test (eqb j i)
-          (λ t. absurd (false≢true (sym (passes_past (has old) arcs i (let same = eqb-true j i t in omega arith)) ∙ e)))
-          (λ f. rw f at (moving.left_over i e));
-    }
-
-all_stay : (old new : Point) (arcs : List BaseArc) → ((i : ℕ) → arc_passes (has old) arcs i ≡ false) → move_all old new arcs ≡ arcs
-all_stay old new [] none = refl
-all_stay old new (a ∷ arcs) none =
-    ap (λ (points : List Point). with_points a points ∷ move_all old new arcs) (points_stay old new a.points (none 0))
-    ∙ ap (λ (rest : List BaseArc). a ∷ rest) (all_stay old new arcs (λ i. none (suc i)))
-
-pub moving_done : (old new : Point) (from arcs : List BaseArc) → IsMoving old new from arcs [] → arcs ≡ move_all old new from
-moving_done old new from arcs moving =
-    sym (all_stay old new arcs (λ i. false_from_ne_true (arc_passes (has old) arcs i) (λ e. false≢true (moving.left_over i e)))) ∙ moving.same
 
 -- ---- the places afterwards
 
@@ -141,31 +96,31 @@ moving_done old new from arcs moving =
 pub covers_moved : (before after : Point → List ℕ) (old new : Point) (arcs : List BaseArc) → Covers before arcs → same_point old new ≡ false → has_point new arcs ≡ false
     → ((p : Point) → same_point p old ≡ false → after p ≡ (if same_point p new then before old else before p)) → Covers after (move_all old new arcs)
 covers_moved before after old new arcs covers apart free listed p i e =
-    let e1 : arc_passes (λ a. has p (moved_arc old new a)) arcs i ≡ true = sym (passes_map (has p) (moved_arc old new) arcs i) ∙ e in
+    let e1 : arc_passes (λ a. passes p (moved_arc old new a)) arcs i ≡ true = sym (passes_map (passes p) (moved_arc old new) arcs i) ∙ e in
     by_test (same_point p old)
     (λ t.
-    let e2 = subst (λ (q : Point). arc_passes (λ a. has q (moved_arc old new a)) arcs i ≡ true) (same_point-true p old t) e1 in
-    absurd (false≢true (sym (none_passes (λ a. has old (moved_arc old new a)) (λ a. none_left old new a.points apart) arcs i) ∙ e2)))
+    let e2 = subst (λ (q : Point). arc_passes (λ a. passes q (moved_arc old new a)) arcs i ≡ true) (same_point-true p old t) e1 in
+    absurd (false≢true (sym (none_passes (λ a. passes old (moved_arc old new a)) (λ a. none_left old new a.points apart) arcs i) ∙ e2)))
     (λ f. by_test (same_point p new)
     (λ t.
     let same = same_point-true p new t in
     let list : after p ≡ before old = listed p f ∙ cond-true (same_point p new) (before old) (before p) t in
-    let e2 = subst (λ (q : Point). arc_passes (λ a. has q (moved_arc old new a)) arcs i ≡ true) same e1 in
+    let e2 = subst (λ (q : Point). arc_passes (λ a. passes q (moved_arc old new a)) arcs i ≡ true) same e1 in
     subst (λ (xs : List ℕ). is_among i xs ≡ true) (sym list) (covers old i (had_old arcs i free e2)))
     (λ g.
     let list : after p ≡ before p = listed p f ∙ cond-false (same_point p new) (before old) (before p) g in
     subst (λ (xs : List ℕ). is_among i xs ≡ true) (sym list)
-    (covers p i (passes_more (λ a. has p (moved_arc old new a)) (has p) (λ a h. was_there old new p a.points g h) arcs i e1))))
+    (covers p i (passes_more (λ a. passes p (moved_arc old new a)) (passes p) (λ a h. was_there old new p a.points g h) arcs i e1))))
   where
-    had_old : (xs : List BaseArc) (k : ℕ) → has_point new xs ≡ false → arc_passes (λ a. has new (moved_arc old new a)) xs k ≡ true → arc_passes (has old) xs k ≡ true
+    had_old : (xs : List BaseArc) (k : ℕ) → has_point new xs ≡ false → arc_passes (λ a. passes new (moved_arc old new a)) xs k ≡ true → arc_passes (passes old) xs k ≡ true
     had_old [] k none h = h
     had_old (a ∷ xs) zero none h =
-        by_test (has old a)
+        by_test (passes old a)
         (λ t. t)
         (λ f. absurd (false≢true (
-        let parts = or_parts (has new a) (has_point new xs) none in
+        let parts = or_parts (passes new a) (has_point new xs) none in
         sym parts.0 ∙ (sym (ap (list_any (same_point new)) (points_stay old new a.points f)) ∙ h))))
-    had_old (a ∷ xs) (suc k) none h = had_old xs k (or_parts (has new a) (has_point new xs) none).1 h
+    had_old (a ∷ xs) (suc k) none h = had_old xs k (or_parts (passes new a) (has_point new xs) none).1 h
 
 pub passes_changed_other : (test : BaseArc → Bool) (i : ℕ) (change : List Point → List Point) (arcs : List BaseArc) (j : ℕ) → eqb i j ≡ false
     → arc_passes test (changed_at i change arcs) j ≡ arc_passes test arcs j
@@ -175,7 +130,7 @@ passes_changed_other test zero change (a ∷ arcs) (suc j) e = refl
 passes_changed_other test (suc i) change (a ∷ arcs) zero e = refl
 passes_changed_other test (suc i) change (a ∷ arcs) (suc j) e = passes_changed_other test i change arcs j (sym (next_same i j) ∙ e)
 
-passes_changed_here : (p : Point) (i : ℕ) (change : List Point → List Point) (arcs : List BaseArc) → arc_passes (has p) (changed_at i change arcs) i ≡ true
+passes_changed_here : (p : Point) (i : ℕ) (change : List Point → List Point) (arcs : List BaseArc) → arc_passes (passes p) (changed_at i change arcs) i ≡ true
     → list_any (same_point p) (change (arc_number arcs i).points) ≡ true
 passes_changed_here p i change [] e = absurd (false≢true e)
 passes_changed_here p zero change (a ∷ arcs) e = e
@@ -216,14 +171,14 @@ covers_inserted before after new i k arcs covers free listed p j e =
     subst (λ (xs : List ℕ). is_among j xs ≡ true) (sym list) (or_left (eqb i j) false t))
     (λ s.
     let list : after p ≡ before p = listed p ∙ cond-false (same_point p new) (i ∷ []) (before p) s in
-    let e1 = subst (λ (n : ℕ). arc_passes (has p) (changed_at i (λ points. insert points k new) arcs) n ≡ true) (sym (eqb-true i j t)) e in
+    let e1 = subst (λ (n : ℕ). arc_passes (passes p) (changed_at i (λ points. insert points k new) arcs) n ≡ true) (sym (eqb-true i j t)) e in
     let had = any_inserted (same_point p) (arc_number arcs i).points k new s (passes_changed_here p i (λ points. insert points k new) arcs e1) in
     subst (λ (xs : List ℕ). is_among j xs ≡ true) (sym list)
-    (subst (λ (n : ℕ). is_among n (before p) ≡ true) (eqb-true i j t) (covers p i (has_at p arcs i ∙ had)))))
+    (subst (λ (n : ℕ). is_among n (before p) ≡ true) (eqb-true i j t) (covers p i (passes_here p arcs i ∙ had)))))
     (λ f.
-    let e1 = sym (passes_changed_other (has p) i (λ points. insert points k new) arcs j f) ∙ e in
+    let e1 = sym (passes_changed_other (passes p) i (λ points. insert points k new) arcs j f) ∙ e in
     by_test (same_point p new)
-    (λ s. absurd (false≢true (sym free ∙ passes_any (has new) arcs j (subst (λ (q : Point). arc_passes (has q) arcs j ≡ true) (same_point-true p new s) e1))))
+    (λ s. absurd (false≢true (sym free ∙ passes_any (passes new) arcs j (subst (λ (q : Point). arc_passes (passes q) arcs j ≡ true) (same_point-true p new s) e1))))
     (λ s.
     let list : after p ≡ before p = listed p ∙ cond-false (same_point p new) (i ∷ []) (before p) s in
     subst (λ (xs : List ℕ). is_among j xs ≡ true) (sym list) (covers p j e1)))
@@ -232,10 +187,10 @@ pub covers_removed : (lists : Point → List ℕ) (i k : ℕ) (arcs : List BaseA
 covers_removed lists i k arcs covers p j e =
     by_test (eqb i j)
     (λ t.
-    let e1 = subst (λ (n : ℕ). arc_passes (has p) (changed_at i (λ points. remove points k) arcs) n ≡ true) (sym (eqb-true i j t)) e in
+    let e1 = subst (λ (n : ℕ). arc_passes (passes p) (changed_at i (λ points. remove points k) arcs) n ≡ true) (sym (eqb-true i j t)) e in
     let had = any_removed (same_point p) (arc_number arcs i).points k (passes_changed_here p i (λ points. remove points k) arcs e1) in
-    subst (λ (n : ℕ). is_among n (lists p) ≡ true) (eqb-true i j t) (covers p i (has_at p arcs i ∙ had)))
-    (λ f. covers p j (sym (passes_changed_other (has p) i (λ points. remove points k) arcs j f) ∙ e))
+    subst (λ (n : ℕ). is_among n (lists p) ≡ true) (eqb-true i j t) (covers p i (passes_here p arcs i ∙ had)))
+    (λ f. covers p j (sym (passes_changed_other (passes p) i (λ points. remove points k) arcs j f) ∙ e))
 
 -- what stands in a vector after all of it was written
 pub all_written : {X : Type 0} (xs ys : List X) (n : ℕ) → length ys ≡ n → length xs ≡ n → take n (ys ++ drop (length ys) xs) ≡ ys

@@ -1,5 +1,6 @@
 pub mod Lines
-pub mod Places
+pub mod Indexed
+pub mod Labels
 pub mod Positions
 pub mod Faults
 pub mod Firsts

@@ -1,11 +1,12 @@
 -- Where a segment or an inner point stands among the points of an arc, and among all arcs.
 use Rattle.std.specs.Prelude.{ℕ, zero, suc, ◌+◌, ◌-◌, pos, Bool, slice_index_or, List, [], ◌∷◌, Option, Some, None, option_map, if◌then◌else◌}
+use Rattle.std.specs.List.{position as position_by}
 use Rattle.tgap_model.specs.declared.geometry.Point.{Point}
 use Rattle.tgap_model.specs.declared.base.BaseArc.{BaseArc}
 use Rattle.tgap_model.specs.Base.{same_point}
 use Rattle.edit_laws.specs.Edits.{are_ends, with_points}
 use Rattle.map_version.specs.declared.path.Sought.{Sought}
-use Rattle.map_version.specs.declared.path.Sought.TheVariants.{Segment, Inner}
+use Rattle.map_version.specs.declared.path.Sought.TheVariants.{Segment, Inner, Any}
 
 -- the point at a position
 abbrev pub point_of : List Point → ℕ → Point
@@ -32,11 +33,13 @@ inner_at old (p ∷ q ∷ r ∷ points) = if same_point old q then Some 1 else o
 abbrev pub position : Sought → List Point → Option ℕ
 position (Segment a b) points = segment_at a b points
 position (Inner old) points = inner_at old points
+position (Any p) points = position_by (same_point p) points
 
 -- a point that stands in the arc where what is sought is there
 abbrev pub sought_point : Sought → Point
 sought_point (Segment a b) = a
 sought_point (Inner old) = old
+sought_point (Any p) = p
 
 -- the number of the first arc in which something is found, and its position there
 abbrev pub first_place : (List Point → Option ℕ) → List BaseArc → Option (ℕ × ℕ)

@@ -48,10 +48,14 @@ fn apply_all<'a>(
 /// The map that a batch of lines makes of a base map, each line applied to what the lines before it left, by 'Edit batches' of
 /// docs/formats.md. Where a line is at fault the answer is that line and its cause, and the base map stays as it is.
 ///
-/// Lines are numbered from 1, and all from 4,294,967,295 on have that number. The first line that names a point costs one pass
-/// over the map, whose arcs are copied, and each such line the logarithm of the number of points and the length of the arcs that
-/// have the points that it names. A batch that only changes classes costs the number of faces and of arcs: the edited map holds
-/// the arcs of the base map, where others can hold them, and copies no point.
+/// Lines are numbered from 1, and all from 4,294,967,295 on have that number. A batch that only changes classes costs the number of
+/// faces and of arcs: the edited map holds the arcs of the base map, where others can hold them, and copies no point. The first
+/// other line costs one pass over the map, whose arcs are copied, and a sort of its points. Each line that names a point costs the
+/// logarithm of the number of points and the length of the arcs that have or had the points that it names. A new node costs a copy
+/// of the points from it to the end of its arc too, and a look-up for each point of the shorter part. A cut costs a look at each
+/// arc, a look-up for each of its points, and what `cut_along` of `face_cuts` takes; where the cuts of the batch have listed as
+/// much as the map has, the next one costs a pass over the map and a sort of its points once more. A fusion costs the arcs of the
+/// face that is gone and of the last one, and where these are all between the two faces, those of the one that is kept.
 pub fn edited(alloc: Global, base: &Base, batch: &[u8]) -> Result<Base, Or<EditFault>>
     // The edited map, or which line is refused first and for what cause, by the function that computes on small batches.
     ensures exact { GivesEdited result (edited base.now batch.now) }

@@ -1,24 +1,54 @@
 //! The lines of a batch.
 
-ghost use Rattle.std.specs.Prelude.{◌≡◌, option_map, codes};
+ghost use Rattle.std.specs.Prelude.{◌≡◌, ℕ, List as Sequence, option_map, codes};
 ghost use Rattle.std.specs.Char.{is_ascii_digit};
 ghost use Rattle.std.specs.List.{list_all};
-ghost use Rattle.line_forms.specs.ListingLines.{coordinate_at};
-ghost use Rattle.edit_laws.specs.Edits.{is_numeral, is_decimal, decimal_at, point_at, read_class, read_move, read_add, read_drop, read_edit};
-ghost use Rattle.plain_io.specs.Taking.{Takes, Reads};
-ghost use Rattle.map_version.specs.Lines.{told};
+ghost use Rattle.std.specs.Option.{ok_or};
+ghost use Rattle.line_forms.specs.ListingLines.{coordinate_at, points_at};
+ghost use Rattle.edit_laws.specs.Edits.{is_numeral, is_decimal, decimal_at, point_at, arc_at, read_class, read_move, read_add, read_drop, read_node, read_cut, read_fuse, read_edit};
+ghost use Rattle.plain_io.specs.Taking.{Gives, Takes, Reads};
+ghost use Rattle.map_version.specs.Lines.{GivesTold, told};
 
-use plain_io::{Pieces, ended, number_at};
-use tgap_model::{MAX_COORDINATE, Point};
+use crate::cause::{NO_EDIT, found};
+use plain_io::{Pieces, ended, natural_at, number_at};
+use std::alloc::Global;
+use tgap_model::{List, MAX_COORDINATE, Or, Point};
 
-/// An edit, as a line tells it. Of a face and a class there are the words that name them.
-#[derive(Clone, Copy)]
+/// An edit, as a line tells it. Of faces and a class there are the words that name them.
+#[derive(Drop)]
 pub enum Edit<'a> {
-    Class { face: &'a [u8], class: &'a [u8] },
-    Move { old: Point, new: Point },
-    Add { a: Point, b: Point, new: Point },
-    Remove { old: Point },
+    Class {
+        face: &'a [u8],
+        class: &'a [u8],
+    },
+    Move {
+        old: Point,
+        new: Point,
+    },
+    Add {
+        a: Point,
+        b: Point,
+        new: Point,
+    },
+    Remove {
+        old: Point,
+    },
+    Node {
+        at: Point,
+    },
+    Cut {
+        face: &'a [u8],
+        class: &'a [u8],
+        points: List<Point>,
+    },
+    Fuse {
+        kept: &'a [u8],
+        gone: &'a [u8],
+    },
 }
+
+/// How many points a new arc may have.
+const MAX_CUT: u32 = 65_535;
 
 /// Whether each byte of a word is a digit.
 fn are_digits(word: &[u8]) -> bool
@@ -105,20 +135,87 @@ fn read_drop<'a>(words: &mut Pieces<'a>) -> Option<Edit<'a>>
     ended(words, Edit::Remove { old })
 }
 
-/// The edit that a line tells, where it is of one of the four forms.
-pub fn read_edit<'a>(words: &mut Pieces<'a>) -> Option<Edit<'a>>
-    ensures { option_map told result ≡ read_edit words.old }
+/// The rest of a line that makes an inner vertex a node.
+fn read_node<'a>(words: &mut Pieces<'a>) -> Option<Edit<'a>>
+    ensures { option_map told result ≡ read_node words.old }
 {
-    let word = words.next_piece()?;
+    let at = point_at(words)?;
+    ended(words, Edit::Node { at })
+}
+
+/// The rest of a line that fuses two faces.
+fn read_fuse<'a>(words: &mut Pieces<'a>) -> Option<Edit<'a>>
+    ensures { option_map told result ≡ read_fuse words.old }
+{
+    let kept = decimal_at(words)?;
+    let gone = decimal_at(words)?;
+    ended(words, Edit::Fuse { kept, gone })
+}
+
+/// The next `n` points, of two words each.
+fn points_at(alloc: Global, words: &mut Pieces, n: u32) -> Result<List<Point>, Or<u8>>
+    ensures { Gives result words.new (ok_or (points_at MAX_COORDINATE n words.old) 1) }
+{
+    let mut points = List::new(alloc);
+    for _ in 0..n {
+        let point = found(point_at(words), NO_EDIT)?;
+        points.push(point)?;
+    }
+    Ok(points)
+}
+
+/// The next words, how many points a new arc has and the points.
+fn arc_at(alloc: Global, words: &mut Pieces) -> Result<List<Point>, Or<u8>>
+    ensures { Gives result words.new (ok_or (arc_at words.old) 1) }
+{
+    let count = found(natural_at(words, 2, MAX_CUT), NO_EDIT)?;
+    points_at(alloc, words, count)
+}
+
+/// The rest of a line that cuts a face.
+fn read_cut<'a>(alloc: Global, words: &mut Pieces<'a>) -> Result<Edit<'a>, Or<u8>>
+    ensures { GivesTold result (ok_or (read_cut words.old) 1) }
+{
+    let face = found(decimal_at(words), NO_EDIT)?;
+    let class = found(decimal_at(words), NO_EDIT)?;
+    let points = arc_at(alloc, words)?;
+    edit_or(ended(
+        words,
+        Edit::Cut {
+            face,
+            class,
+            points,
+        },
+    ))
+}
+
+/// The edit, where there is one.
+fn edit_or<'a>(edit: Option<Edit<'a>>) -> Result<Edit<'a>, Or<u8>>
+    ensures { GivesTold result (ok_or (option_map told edit.entry) 1) }
+{
+    found(edit, NO_EDIT)
+}
+
+/// The edit that a line tells, where it is of one of the seven forms. Memory may be wanting only for the points of a cut.
+pub fn read_edit<'a>(alloc: Global, words: &mut Pieces<'a>) -> Result<Edit<'a>, Or<u8>>
+    ensures { GivesTold result (ok_or (read_edit words.old) 1) }
+{
+    let word = found(words.next_piece(), NO_EDIT)?;
     if word == b"class".as_slice() {
-        read_class(words)
+        edit_or(read_class(words))
     } else if word == b"move".as_slice() {
-        read_move(words)
+        edit_or(read_move(words))
     } else if word == b"add".as_slice() {
-        read_add(words)
+        edit_or(read_add(words))
     } else if word == b"drop".as_slice() {
-        read_drop(words)
+        edit_or(read_drop(words))
+    } else if word == b"node".as_slice() {
+        edit_or(read_node(words))
+    } else if word == b"cut".as_slice() {
+        read_cut(alloc, words)
+    } else if word == b"fuse".as_slice() {
+        edit_or(read_fuse(words))
     } else {
-        None
+        Err(Or::Fault(NO_EDIT))
     }
 }

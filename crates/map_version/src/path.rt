@@ -1,7 +1,7 @@
 //! The points of one arc, and what is sought among them.
 
-ghost use Rattle.std.specs.Prelude.{◌≡◌, ◌≤◌, ◌<◌, ◌+◌, ◌||◌, length, map, insert, remove, OnOk, IsTrue};
-ghost use Rattle.std.specs.List.{list_any};
+ghost use Rattle.std.specs.Prelude.{◌≡◌, ◌≤◌, ◌<◌, ◌+◌, ◌||◌, length, map, take, drop, insert, remove, IfOk, OnOk, IsTrue};
+ghost use Rattle.std.specs.List.{list_any, position as position_by};
 ghost use Rattle.tgap_model.specs.Base.{same_point};
 ghost use Rattle.tgap_model.specs.Chains.{first_point, last_point};
 ghost use Rattle.edit_laws.specs.Edits.{are_ends, moved, with_points};
@@ -9,13 +9,14 @@ ghost use Rattle.map_version.specs.Positions.{segment_at, inner_at, position, so
 
 use std::alloc::Global;
 use std::mem;
-use tgap_model::{BaseArc, List, Memory, Point};
+use tgap_model::{BaseArc, List, Memory, Point, copied_points};
 
-/// What is sought among the points of arcs: a segment with these ends, in either order, or an inner point.
+/// What is sought among the points of arcs: a segment with these ends, in either order, an inner point, or a point that may be an end.
 #[derive(Clone, Copy)]
 pub enum Sought {
     Segment(Point, Point),
     Inner(Point),
+    Any(Point),
 }
 
 impl Sought {
@@ -26,6 +27,7 @@ impl Sought {
         match self {
             Sought::Segment(a, _) => a,
             Sought::Inner(old) => old,
+            Sought::Any(point) => point,
         }
     }
 
@@ -36,6 +38,7 @@ impl Sought {
         match self {
             Sought::Segment(a, b) => segment_at(points, a, b),
             Sought::Inner(old) => inner_at(points, old),
+            Sought::Any(point) => position_of(points, point),
         }
     }
 }
@@ -69,6 +72,13 @@ fn inner_at(points: &[Point], old: &Point) -> Option<usize>
         }
     }
     None
+}
+
+/// The first position of a point.
+fn position_of(points: &[Point], point: &Point) -> Option<usize>
+    ensures { result ≡ position_by (same_point point.now) points.now }
+{
+    points.iter().position(|p| *point == *p)
 }
 
 /// Whether one of the points is this.
@@ -124,6 +134,23 @@ pub fn insert_in(alloc: Global, arc: &mut BaseArc, at: usize, new: Point) -> Res
     points.insert(at, new)?;
     arc.points = List::from(points);
     Ok(())
+}
+
+/// Keeps the points of the arc up to this position. The answer is an arc with the same sides that has those from there on.
+pub fn split_off(alloc: Global, arc: &mut BaseArc, at: usize) -> Result<BaseArc, Memory>
+    requires { at < length arc.old.points }
+    ensures kept { OnOk result (arc.new ≡ with_points arc.old (take (at + 1) arc.old.points)) }
+    ensures rest { IfOk result (λ rest. rest ≡ with_points arc.old (drop at arc.old.points)) }
+{
+    let rest = BaseArc {
+        left: arc.left,
+        right: arc.right,
+        points: copied_points(alloc, &arc.points.as_slice()[at..])?,
+    };
+    let mut points = mem::replace(&mut arc.points, List::new(alloc)).into_vec();
+    points.truncate(at + 1);
+    arc.points = List::from(points);
+    Ok(rest)
 }
 
 /// Takes the point at this position of the arc out.

@@ -119,6 +119,25 @@ impl Base {
         })
     }
 
+    /// The base map with these classes of its faces and these arcs, which are known to keep the rules with its transform and its
+    /// rules of merging, so they are not checked anew. The time and the memory are those of the rules.
+    pub fn with_parts(
+        &self,
+        alloc: Global,
+        classes: List<u32>,
+        arcs: List<BaseArc>,
+    ) -> Result<Base, Memory>
+        requires { IsTrue (is_base (record { transform = self.now.transform; rules = self.now.rules; classes = classes; arcs = arcs })) }
+        ensures { IfOk result (λ base. base ≡ record { transform = self.now.transform; rules = self.now.rules; classes = classes; arcs = arcs }) }
+    {
+        Ok(Base {
+            transform: self.transform,
+            rules: copied_rules(alloc, &self.rules)?,
+            classes,
+            arcs: HeldArcs::of(arcs),
+        })
+    }
+
     /// The transform.
     pub fn transform(&self) -> &Transform
         ensures value { result.now ≡ self.now.transform }

@@ -1,7 +1,9 @@
 use Rattle.std.proofs.Common.{drop}
-use Rattle.map_version.proofs.Moves.{IsMoving}
+use Rattle.face_cuts.specs.Nodes.{passes}
+use Rattle.map_version.proofs.Changing.{IsChanging}
+use Rattle.map_version.proofs.Moves.{moved_arc}
 use Rattle.map_version.proofs.arcs.move_listed.Given as goal
 
 -- the arcs that still have the old point are listed further on
-abbrev pub invariant-loop-number : goal.invariant-loop-number
-invariant-loop-number l = IsMoving l.old l.new l.initial.arcs l.arcs (drop l.number-index l.listed)
+abbrev pub invariant-loop-at : goal.invariant-loop-at
+invariant-loop-at l = IsChanging (moved_arc l.old l.new) (passes l.old) l.initial.arcs l.arcs (drop l.at l.listed)

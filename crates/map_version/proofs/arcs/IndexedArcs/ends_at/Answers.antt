@@ -14,9 +14,9 @@ returns-then-not-is_empty c =
     let some : 1 ≤ length points = omega (arith, apart) in
     c.is_end.ensures
     ∙ (ap (λ (ps : List Point). same_point p (first_point ps) || same_point p (last_point ps)) c.points-points.ensures
-    ∙ sym (ends_tell p c.args.self.now c.args.arc (subst (λ (ps : List Point). 1 ≤ length ps) c.points-points.ensures some)))
+    ∙ sym (ends_tell p c.args.self.now.slots c.args.slot (subst (λ (ps : List Point). 1 ≤ length ps) c.points-points.ensures some)))
 
 pub returns-else-not-is_empty : goal.returns-else-not-is_empty
 returns-else-not-is_empty c =
     let none = eqb-true (length c.points-points.result.now) 0 (sym c.is_empty.ensures ∙ c.if-not-is_empty.false) in
-    ap not c.if-not-is_empty.false ∙ sym (ends_past c.args.point.now c.args.self.now c.args.arc c.requires (sym (ap (length {A = Point}) c.points-points.ensures) ∙ none))
+    ap not c.if-not-is_empty.false ∙ sym (ends_past c.args.point.now c.args.self.now.slots c.args.slot (sym (ap (length {A = Point}) c.points-points.ensures) ∙ none))

@@ -1,24 +1,47 @@
-use Rattle.std.proofs.Common.{◌<◌, ◌∙◌, List, length, insert, sym, ap, subst}
+use Rattle.std.proofs.Common.{◌<◌, ◌+◌, ◌∙◌, List, length, insert, sym, ap, subst, arith}
+use Rattle.std.proofs.lemmas.List.Edits.{length-insert}
 use Rattle.tgap_model.specs.declared.geometry.Point.{Point}
 use Rattle.tgap_model.specs.declared.base.BaseArc.{BaseArc}
-use Rattle.edit_laws.specs.Edits.{has_point}
-use Rattle.map_version.specs.Places.{listed, Covers}
+use Rattle.tgap_model.specs.Chains.{arc_number}
+use Rattle.edit_laws.specs.Edits.{has_point, with_points}
+use Rattle.arc_places.specs.Slots.{arcs_in, number_of}
+use Rattle.arc_places.specs.Places.{listed}
+use Rattle.arc_places.specs.Borders.{bordering}
+use Rattle.map_version.specs.Indexed.{AreIndexed, Indexed, arcs_of}
 use Rattle.map_version.specs.Positions.{changed_at}
 use Rattle.map_version.proofs.Firsts.{written_is_changed}
+use Rattle.map_version.proofs.Counting.{counted_changed}
+use Rattle.map_version.proofs.InSlots.{changed_borders, changed_in, has_in, there}
 use Rattle.map_version.proofs.Moves.{covers_inserted}
 use Rattle.map_version.proofs.arcs.IndexedArcs.insert.Goals as goal
 
 pub invariant_of-result : goal.invariant_of-result
 invariant_of-result c =
-    let lt = subst (λ (arcs : List BaseArc). c.args.place.arc < length arcs) (sym c.self.view_is) c.requires.arc in
-    let written = written_is_changed c.args.place.arc (λ (points : List Point). insert points c.args.place.at c.args.new) c.self.inside.arcs.items c.index_mut.result.now c.insert_in.new.arc lt c.index_mut.ensures.value c.in_ok-insert_in.ensures in
-    subst (Covers (listed c.set.new.self)) (sym written)
-    (covers_inserted (listed c.self.inside.places) (listed c.set.new.self) c.args.new c.args.place.arc c.args.place.at c.self.inside.arcs.items c.self.invariant
-    (ap (has_point c.args.new) c.self.view_is ∙ c.requires.free) c.in_ok-set.ensures)
-
-pub returns : goal.returns
-returns c =
-    let lt = subst (λ (arcs : List BaseArc). c.args.place.arc < length arcs) (sym c.self.view_is) c.requires.arc in
+    let slots = c.self.inside.slots.items in
+    let i = c.args.place.slot in
     let change = λ (points : List Point). insert points c.args.place.at c.args.new in
-    written_is_changed c.args.place.arc change c.self.inside.arcs.items c.index_mut.result.now c.insert_in.new.arc lt c.index_mut.ensures.value c.in_ok-insert_in.ensures
-    ∙ ap (changed_at c.args.place.arc change) c.self.view_is
+    let counts = c.self.inside.counts in
+    let lt = subst (λ (x : Indexed). i < length x.slots) (sym c.self.view_is) c.requires.slot in
+    let at = subst (λ (x : Indexed). c.args.place.at < length (arc_number x.slots i).points) (sym c.self.view_is) c.requires.at in
+    let here = there (arc_number slots i) (omega arith) in
+    let more = length-insert (arc_number slots i).points c.args.place.at c.args.new (omega arith) in
+    let written = written_is_changed i change slots c.index_mut.result.now c.insert_in.new.arc lt c.index_mut.ensures.value c.in_ok-insert_in.ensures in
+    subst (λ (xs : List BaseArc). AreIndexed xs c.set.new.self c.self.inside.borders (record { arcs = counts.arcs; points = counts.points + 1 })) (sym written)
+    (record {
+      by_point = covers_inserted (listed c.self.inside.places) (listed c.set.new.self) c.args.new i c.args.place.at slots c.self.invariant.by_point
+          (sym (has_in c.args.new slots) ∙ (ap (λ (x : Indexed). has_point c.args.new (arcs_of x)) c.self.view_is ∙ c.requires.free)) c.in_ok-set.ensures;
+      by_face = changed_borders (bordering c.self.inside.borders) i change slots here c.self.invariant.by_face;
+      counted = counted_changed slots i change counts (counts.points + 1) lt here (omega arith) (omega arith) c.self.invariant.counted;
+    })
+
+pub returns-clause-arcs : goal.returns-clause-arcs
+returns-clause-arcs c =
+    let slots = c.self.inside.slots.items in
+    let i = c.args.place.slot in
+    let change = λ (points : List Point). insert points c.args.place.at c.args.new in
+    let lt = subst (λ (x : Indexed). i < length x.slots) (sym c.self.view_is) c.requires.slot in
+    let at = subst (λ (x : Indexed). c.args.place.at < length (arc_number x.slots i).points) (sym c.self.view_is) c.requires.at in
+    let more = length-insert (arc_number slots i).points c.args.place.at c.args.new (omega arith) in
+    ap arcs_in (written_is_changed i change slots c.index_mut.result.now c.insert_in.new.arc lt c.index_mut.ensures.value c.in_ok-insert_in.ensures)
+    ∙ (changed_in slots i change lt (there (arc_number slots i) (omega arith)) (there (with_points (arc_number slots i) (change (arc_number slots i).points)) (omega arith))
+    ∙ ap (λ (x : Indexed). changed_at (number_of x.slots i) change (arcs_of x)) c.self.view_is)

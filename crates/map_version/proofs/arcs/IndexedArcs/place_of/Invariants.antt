@@ -4,5 +4,5 @@ use Rattle.map_version.proofs.Least.{IsLeast}
 use Rattle.map_version.proofs.arcs.IndexedArcs.place_of.Given as goal
 
 -- the least of the arcs so far
-abbrev pub invariant-loop-arc : goal.invariant-loop-arc
-invariant-loop-arc l = IsLeast (position l.sought) l.self (take l.arc-index l.arc-items) l.first
+abbrev pub invariant-loop-at : goal.invariant-loop-at
+invariant-loop-at l = IsLeast (position l.sought) l.self.slots (take l.at l.listed) l.first
