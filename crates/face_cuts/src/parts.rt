@@ -6,9 +6,7 @@ ghost use Rattle.face_cuts.specs.Outcomes.{has_room};
 ghost use Rattle.face_cuts.specs.Nodes.{with_points};
 
 use std::alloc::Global;
-use tgap_model::{
-    Base, BaseArc, MAX_ARCS, MAX_FACES, MAX_POINTS, Memory, Point, copied_points,
-};
+use tgap_model::{Base, BaseArc, MAX_ARCS, MAX_FACES, MAX_POINTS, Memory, Point, copied_points};
 
 /// How many points these arcs have.
 fn count_points_of(arcs: &[BaseArc]) -> usize

@@ -28,9 +28,7 @@ use crate::path::{Sought, turns_back};
 use plain_io::{Pieces, read_number};
 use std::alloc::Global;
 use std::marker::Model;
-use tgap_model::{
-    Base, List, MAX_ARCS, MAX_FACES, MAX_POINTS, Memory, Or, Point,
-};
+use tgap_model::{Base, List, MAX_ARCS, MAX_FACES, MAX_POINTS, Memory, Or, Point};
 
 /// A base map with other classes, and from the first line on that does more than set a class with other arcs, which are a copy with
 /// the places of its points. Until then its arcs are those of the base map. It is a base map at any time.
