@@ -17,3 +17,4 @@ pub mod RingSums
 pub mod RingWinds
 pub mod RingAreas
 pub mod ClosedRings
+pub mod PolygonSums

@@ -7,6 +7,7 @@
 mod areas;
 mod joining;
 mod places;
+mod polygons;
 mod rings;
 
 pub use areas::{
@@ -18,4 +19,5 @@ pub use places::{
     lowest_edge_tells_face, lowest_edge_tells_face_beside, window_has_edges_within,
     window_has_lowest_edge, window_tells_face,
 };
+pub use polygons::{one_polygon_is_its_face, polygons_cover_faces, polygons_wind_once};
 pub use rings::{ring_areas_add, rings_are_closed, rings_cover_faces, rings_wind_once};
