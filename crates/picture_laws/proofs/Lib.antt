@@ -18,3 +18,4 @@ pub mod RingWinds
 pub mod RingAreas
 pub mod ClosedRings
 pub mod PolygonSums
+pub mod PolygonExamples

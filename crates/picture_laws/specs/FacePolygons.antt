@@ -1,5 +1,5 @@
 -- Laws of the polygons of a face, as an export tells them: which points they enclose together, and how often they go round a point.
-use Rattle.std.specs.Prelude.{◌≡◌, ◌≢◌, ◌≤◌, ℕ, ◌==◌, Bool, ℤ, pos, ◌+ℤ◌, List, [], ◌∷◌, filter, flat_map, fold, length, count_by, Contains, Ok, if◌then◌else◌, IsTrue}
+use Rattle.std.specs.Prelude.{◌≡◌, ◌≢◌, ◌≤◌, ℕ, ◌==◌, Bool, pos, ◌+ℤ◌, List, [], ◌∷◌, filter, flat_map, fold, length, count_by, Contains, Ok, if◌then◌else◌, IsTrue}
 use Rattle.lemmas.specs.Parity.{is_odd}
 use Rattle.tgap_model.specs.declared.geometry.Fraction.{Fraction}
 use Rattle.tgap_model.specs.declared.geometry.Seg.{Seg}
