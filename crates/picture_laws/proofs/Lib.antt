@@ -19,3 +19,5 @@ pub mod RingAreas
 pub mod ClosedRings
 pub mod PolygonSums
 pub mod PolygonExamples
+pub mod AlongSegment
+pub mod PassedEdges

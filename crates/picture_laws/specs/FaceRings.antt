@@ -1,11 +1,12 @@
 -- Laws of the rings of a face: which points they enclose, and how often they go round a point.
-use Rattle.std.specs.Prelude.{◌≡◌, ◌≢◌, ◌≤◌, ℕ, ℤ, pos, neg_ℤ, ◌+ℤ◌, List, flat_map, fold, length, count_by, All, if◌then◌else◌, IsTrue}
+use Rattle.std.specs.Prelude.{◌≡◌, ◌≢◌, ◌≤◌, ◌<◌, ℕ, true, ℤ, pos, neg_ℤ, ◌+ℤ◌, List, flat_map, fold, length, count_by, get_or, All, Contains, if◌then◌else◌, IsTrue}
 use Rattle.lemmas.specs.Parity.{is_odd}
 use Rattle.tgap_model.specs.declared.geometry.Fraction.{Fraction}
 use Rattle.tgap_model.specs.declared.geometry.Point.{Point}
 use Rattle.tgap_model.specs.declared.geometry.Seg.{Seg}
+use Rattle.tgap_model.specs.declared.slice.Edge.{Edge}
 use Rattle.tgap_model.specs.Base.{BaseMap, is_base, same_point}
-use Rattle.tgap_model.specs.Segment.{IsBetweenColumns, line_through, goes_right}
+use Rattle.tgap_model.specs.Segment.{IsBetweenColumns, line_through, goes_right, is_on}
 use Rattle.tgap_model.specs.Partition.{IsPartition, base_segments, edge_segments}
 use Rattle.tgap_model.specs.History.{history_of}
 use Rattle.tgap_model.specs.Slice.{slice}
@@ -13,7 +14,7 @@ use Rattle.map_laws.specs.Inside.{is_inside}
 use Rattle.removal_laws.specs.InsideLaws.{is_over}
 use Rattle.ring_walk.specs.declared.side.Side.{Side}
 use Rattle.ring_walk.specs.Rings.{rings_of}
-use Rattle.ring_walk.specs.Areas.{ring_area, ring_segments}
+use Rattle.ring_walk.specs.Areas.{ring_area, ring_segments, segments_of}
 use Rattle.topo_write.specs.Polygons.{lines_of, of_face}
 use Rattle.topo_laws.specs.RingFaces.{slice_spans}
 use Rattle.picture_laws.specs.Areas.{area_in}
@@ -63,3 +64,13 @@ RingsAreClosed =
     → All (λ ring. (v : Point)
     → count_by (λ s. same_point s.a v) (ring_segments (lines_of (slice m k).edges) ring)
     ≡ count_by (λ s. same_point s.b v) (ring_segments (lines_of (slice m k).edges) ring)) (rings_of (slice_spans m k))
+
+-- Along an edge a ring that has none of its sides goes round each point equally often: at any two points between whole abscissas.
+abbrev pub RingsPassEdges : Type 0
+RingsPassEdges =
+    (m : BaseMap) → IsTrue (is_base m) → IsPartition (base_segments m) → (k : ℕ) → k ≤ length (history_of m)
+    → (ring : List Side) → Contains (rings_of (slice_spans m k)) ring
+    → (i : ℕ) (e : Edge) → i < length (slice m k).edges → get_or (slice m k).edges i e ≡ e → All (λ s. s.span ≢ i) ring
+    → (s t : Seg) → Contains (segments_of e.points) s → Contains (segments_of e.points) t
+    → (p q : Fraction) → IsBetweenColumns (line_through p) → IsBetweenColumns (line_through q) → is_on p s ≡ true → is_on q t ≡ true
+    → winding p (ring_segments (lines_of (slice m k).edges) ring) ≡ winding q (ring_segments (lines_of (slice m k).edges) ring)

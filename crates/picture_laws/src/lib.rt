@@ -20,4 +20,6 @@ pub use places::{
     window_has_lowest_edge, window_tells_face,
 };
 pub use polygons::{one_polygon_is_its_face, polygons_cover_faces, polygons_wind_once};
-pub use rings::{ring_areas_add, rings_are_closed, rings_cover_faces, rings_wind_once};
+pub use rings::{
+    ring_areas_add, rings_are_closed, rings_cover_faces, rings_pass_edges, rings_wind_once,
+};
