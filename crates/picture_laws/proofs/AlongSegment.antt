@@ -1,10 +1,10 @@
--- Along a segment that a closed row of segments does not meet, the row goes round each point equally often.
+-- A closed row of segments goes equally often round two points where it does not meet the straight way between them.
 use Rattle.std.proofs.Common.{◌≡◌, ◌≢◌, ◌⊎◌, inl, inr, Bool, true, false, cond, not, ◌&&◌, ◌||◌, List, [], ◌∷◌, All, ℤ, pos, negsuc, neg_ℤ, ◌+ℤ◌, ◌-ℤ◌, ◌*ℤ◌, ◌<ℤ◌, ◌≤ℤ◌, int_lt, refl, sym, ap, ap₂, ◌∙◌, subst, true≢false, arith}
 use Rattle.std.specs.Cmp.{both_ways}
-use Rattle.std.proofs.lemmas.Int.{ints}
+use Rattle.std.proofs.lemmas.Int.{ints, by_lt_z}
 use Rattle.std.proofs.lemmas.List.Elements.{All-weaker}
 use Rattle.lemmas.proofs.Polynomials.{Polynomial, same_value, var, number, ◌⊕◌, ◌⊖◌, ◌⊗◌}
-use Rattle.lemmas.proofs.Signs.{Decides-int_lt, int_lt-false, int_lt-from_le, by_order, le_from_lt, le_from_same, lt_lt_trans, le_lt_trans, sub_positive, sub_not_negative, lt_from_sub, le_from_sub, mul_positive, mul_not_negative, not_negative_by, mul_lt_left, lt_from_mul_left, mul_lt_right, lt_from_mul_right, positive_by_second}
+use Rattle.lemmas.proofs.Signs.{Decides-int_lt, int_lt-false, int_lt-from_le, by_order, le_from_lt, le_from_same, lt_lt_trans, le_lt_trans, sub_positive, sub_not_negative, lt_from_sub, le_from_sub, mul_positive, mul_not_negative, not_negative_by, not_negative_from_mul, mul_lt_left, lt_from_mul_left, mul_lt_right, lt_from_mul_right, positive_by_second}
 use Rattle.tgap_model.specs.declared.geometry.Point.{Point}
 use Rattle.tgap_model.specs.declared.geometry.Fraction.{Fraction}
 use Rattle.tgap_model.specs.declared.geometry.Seg.{Seg}
@@ -13,7 +13,7 @@ use Rattle.tgap_model.specs.Segment.{IsBetweenColumns, line_through, goes_right,
 use Rattle.removal_laws.proofs.Between.{is_between, is_on_from}
 use Rattle.slice_laws.proofs.Paths.{flip}
 use Rattle.slice_laws.proofs.Meetings.{on_flip}
-use Rattle.picture_laws.specs.FaceRings.{winding, winding_part}
+use Rattle.picture_laws.specs.FaceRings.{winding, winding_part, IsOnWay}
 use Rattle.picture_laws.proofs.Sums.{int_sum, fold_is_sum, int_sum-agree, int_sum-same, int_sum-sub}
 use Rattle.picture_laws.proofs.RingWinds.{one_if}
 
@@ -22,44 +22,6 @@ use Rattle.picture_laws.proofs.RingWinds.{one_if}
 -- the point a * y + b * z, over the same mean of the denominators
 abbrev pub mix : ℤ → ℤ → Fraction → Fraction → Fraction
 mix a b y z = record { nx = a *ℤ y.nx +ℤ b *ℤ z.nx; ny = a *ℤ y.ny +ℤ b *ℤ z.ny; d = a *ℤ y.d +ℤ b *ℤ z.d }
-
-mix_on : (x : Seg) (a b : ℤ) (y z : Fraction) → pos 0 ≤ℤ a → pos 0 ≤ℤ b → pos 0 <ℤ y.d → pos 0 <ℤ z.d → is_on y x ≡ true → is_on z x ≡ true → is_on (mix a b y z) x ≡ true
-mix_on x a b y z i j k l e f =
-    let g = is_between y x.a x.b k e in
-    let h = is_between z x.a x.b l f in
-    is_on_from (mix a b y z) x.a x.b (record {
-      total = g.total *ℤ h.total;
-      near = (a *ℤ h.total) *ℤ g.near +ℤ (b *ℤ g.total) *ℤ h.near;
-      far = (a *ℤ h.total) *ℤ g.far +ℤ (b *ℤ g.total) *ℤ h.far;
-      positive = mul_positive g.positive h.positive;
-      near_sign = plus (mul_not_negative (mul_not_negative i (le_from_lt h.positive)) g.near_sign) (mul_not_negative (mul_not_negative j (le_from_lt g.positive)) h.near_sign);
-      far_sign = plus (mul_not_negative (mul_not_negative i (le_from_lt h.positive)) g.far_sign) (mul_not_negative (mul_not_negative j (le_from_lt g.positive)) h.far_sign);
-      under = apart g.total h.total y.d z.d
-          ∙ ap₂ (λ (v w : ℤ). (a *ℤ h.total) *ℤ v +ℤ (b *ℤ g.total) *ℤ w) g.under h.under
-          ∙ same_value (a ∷ b ∷ g.total ∷ h.total ∷ g.near ∷ g.far ∷ h.near ∷ h.far ∷ [])
-          ((var 0 ⊗ var 3) ⊗ (var 4 ⊕ var 5) ⊕ (var 1 ⊗ var 2) ⊗ (var 6 ⊕ var 7))
-          (((var 0 ⊗ var 3) ⊗ var 4 ⊕ (var 1 ⊗ var 2) ⊗ var 6) ⊕ ((var 0 ⊗ var 3) ⊗ var 5 ⊕ (var 1 ⊗ var 2) ⊗ var 7)) refl;
-      over_x = apart g.total h.total y.nx z.nx
-          ∙ ap₂ (λ (v w : ℤ). (a *ℤ h.total) *ℤ v +ℤ (b *ℤ g.total) *ℤ w) g.over_x h.over_x
-          ∙ together g.total h.total g.near g.far h.near h.far x.a.x x.b.x;
-      over_y = apart g.total h.total y.ny z.ny
-          ∙ ap₂ (λ (v w : ℤ). (a *ℤ h.total) *ℤ v +ℤ (b *ℤ g.total) *ℤ w) g.over_y h.over_y
-          ∙ together g.total h.total g.near g.far h.near h.far x.a.y x.b.y;
-    })
-  where
-    plus : {u v : ℤ} → pos 0 ≤ℤ u → pos 0 ≤ℤ v → pos 0 ≤ℤ (u +ℤ v)
-    plus h k = omega (arith, ints)
-
-    apart : (s t u v : ℤ) → (s *ℤ t) *ℤ (a *ℤ u +ℤ b *ℤ v) ≡ (a *ℤ t) *ℤ (s *ℤ u) +ℤ (b *ℤ s) *ℤ (t *ℤ v)
-    apart s t u v = same_value (a ∷ b ∷ s ∷ t ∷ u ∷ v ∷ [])
-        ((var 2 ⊗ var 3) ⊗ (var 0 ⊗ var 4 ⊕ var 1 ⊗ var 5)) ((var 0 ⊗ var 3) ⊗ (var 2 ⊗ var 4) ⊕ (var 1 ⊗ var 2) ⊗ (var 3 ⊗ var 5)) refl
-
-    together : (s t m n p q u v : ℤ)
-        → (a *ℤ t) *ℤ (m *ℤ u +ℤ n *ℤ v) +ℤ (b *ℤ s) *ℤ (p *ℤ u +ℤ q *ℤ v)
-        ≡ ((a *ℤ t) *ℤ m +ℤ (b *ℤ s) *ℤ p) *ℤ u +ℤ ((a *ℤ t) *ℤ n +ℤ (b *ℤ s) *ℤ q) *ℤ v
-    together s t m n p q u v = same_value (a ∷ b ∷ s ∷ t ∷ m ∷ n ∷ p ∷ q ∷ u ∷ v ∷ [])
-        ((var 0 ⊗ var 3) ⊗ (var 4 ⊗ var 8 ⊕ var 5 ⊗ var 9) ⊕ (var 1 ⊗ var 2) ⊗ (var 6 ⊗ var 8 ⊕ var 7 ⊗ var 9))
-        (((var 0 ⊗ var 3) ⊗ var 4 ⊕ (var 1 ⊗ var 2) ⊗ var 6) ⊗ var 8 ⊕ ((var 0 ⊗ var 3) ⊗ var 5 ⊕ (var 1 ⊗ var 2) ⊗ var 7) ⊗ var 9) refl
 
 -- a point at the height of a segment, between the abscissas of its ends or at one of them, is on it
 pub on_closed : (z : Fraction) (r : Seg) → pos 0 <ℤ run r → (z.d *ℤ r.a.x) ≤ℤ z.nx → z.nx ≤ℤ (z.d *ℤ r.b.x) → z.ny *ℤ run r ≡ height (line_through z) r → is_on z r ≡ true
@@ -116,22 +78,91 @@ right_alike i j k l e = ap₂ (λ u v. u -ℤ v) (none i) (none j) ∙ sym (by l
     by true = refl
     by false = refl
 
--- ---- the part of a segment between two of its points
+-- ---- the straight way from a point to another one
 
--- the points p and q are on the segment, p not right of q
-pub record IsStrip (x : Seg) (p q : Fraction) : Type 0 where
+-- p is not right of q
+pub record IsRightward (p q : Fraction) : Type 0 where
   pub left : pos 0 <ℤ p.d
   pub right : pos 0 <ℤ q.d
-  pub starts : is_on p x ≡ true
-  pub ends : is_on q x ≡ true
   pub order : (p.nx *ℤ q.d) ≤ℤ (q.nx *ℤ p.d)
 
--- the point is on it between their abscissas
-pub record InStrip (x : Seg) (p q z : Fraction) : Type 0 where
-  pub positive : pos 0 <ℤ z.d
-  pub on : is_on z x ≡ true
-  pub left : (p.nx *ℤ z.d) ≤ℤ (z.nx *ℤ p.d)
-  pub right : (z.nx *ℤ q.d) ≤ℤ (q.nx *ℤ z.d)
+-- the points of a segment have the way between them on it
+pub way_on : (x : Seg) (p q z : Fraction) → pos 0 <ℤ p.d → pos 0 <ℤ q.d → is_on p x ≡ true → is_on q x ≡ true → IsOnWay p q z → is_on z x ≡ true
+way_on x p q z i j e f w =
+    let g = is_between p x.a x.b i e in
+    let h = is_between q x.a x.b j f in
+    let a = w.near *ℤ h.total in
+    let b = w.far *ℤ g.total in
+    is_on_from z x.a x.b (record {
+      total = w.total *ℤ (g.total *ℤ h.total);
+      near = a *ℤ g.near +ℤ b *ℤ h.near;
+      far = a *ℤ g.far +ℤ b *ℤ h.far;
+      positive = mul_positive w.positive (mul_positive g.positive h.positive);
+      near_sign = plus (mul_not_negative (mul_not_negative w.near_sign (le_from_lt h.positive)) g.near_sign) (mul_not_negative (mul_not_negative w.far_sign (le_from_lt g.positive)) h.near_sign);
+      far_sign = plus (mul_not_negative (mul_not_negative w.near_sign (le_from_lt h.positive)) g.far_sign) (mul_not_negative (mul_not_negative w.far_sign (le_from_lt g.positive)) h.far_sign);
+      under = apart w.total g.total h.total z.d ∙ ap (λ (v : ℤ). (g.total *ℤ h.total) *ℤ v) w.under ∙ spread w.near w.far g.total h.total p.d q.d
+          ∙ ap₂ (λ (u v : ℤ). (w.near *ℤ h.total) *ℤ u +ℤ (w.far *ℤ g.total) *ℤ v) g.under h.under
+          ∙ same_value (w.near ∷ w.far ∷ g.total ∷ h.total ∷ g.near ∷ g.far ∷ h.near ∷ h.far ∷ [])
+          ((var 0 ⊗ var 3) ⊗ (var 4 ⊕ var 5) ⊕ (var 1 ⊗ var 2) ⊗ (var 6 ⊕ var 7))
+          (((var 0 ⊗ var 3) ⊗ var 4 ⊕ (var 1 ⊗ var 2) ⊗ var 6) ⊕ ((var 0 ⊗ var 3) ⊗ var 5 ⊕ (var 1 ⊗ var 2) ⊗ var 7)) refl;
+      over_x = apart w.total g.total h.total z.nx ∙ ap (λ (v : ℤ). (g.total *ℤ h.total) *ℤ v) w.over_x ∙ spread w.near w.far g.total h.total p.nx q.nx
+          ∙ ap₂ (λ (u v : ℤ). (w.near *ℤ h.total) *ℤ u +ℤ (w.far *ℤ g.total) *ℤ v) g.over_x h.over_x
+          ∙ together (w.near *ℤ h.total) (w.far *ℤ g.total) g.near g.far h.near h.far x.a.x x.b.x;
+      over_y = apart w.total g.total h.total z.ny ∙ ap (λ (v : ℤ). (g.total *ℤ h.total) *ℤ v) w.over_y ∙ spread w.near w.far g.total h.total p.ny q.ny
+          ∙ ap₂ (λ (u v : ℤ). (w.near *ℤ h.total) *ℤ u +ℤ (w.far *ℤ g.total) *ℤ v) g.over_y h.over_y
+          ∙ together (w.near *ℤ h.total) (w.far *ℤ g.total) g.near g.far h.near h.far x.a.y x.b.y;
+    })
+  where
+    plus : {u v : ℤ} → pos 0 ≤ℤ u → pos 0 ≤ℤ v → pos 0 ≤ℤ (u +ℤ v)
+    plus h k = omega (arith, ints)
+
+    apart : (t r s n : ℤ) → (t *ℤ (r *ℤ s)) *ℤ n ≡ (r *ℤ s) *ℤ (t *ℤ n)
+    apart t r s n = same_value (t ∷ r ∷ s ∷ n ∷ []) ((var 0 ⊗ (var 1 ⊗ var 2)) ⊗ var 3) ((var 1 ⊗ var 2) ⊗ (var 0 ⊗ var 3)) refl
+
+    spread : (m n r s u v : ℤ) → (r *ℤ s) *ℤ (m *ℤ u +ℤ n *ℤ v) ≡ (m *ℤ s) *ℤ (r *ℤ u) +ℤ (n *ℤ r) *ℤ (s *ℤ v)
+    spread m n r s u v = same_value (m ∷ n ∷ r ∷ s ∷ u ∷ v ∷ [])
+        ((var 2 ⊗ var 3) ⊗ (var 0 ⊗ var 4 ⊕ var 1 ⊗ var 5)) ((var 0 ⊗ var 3) ⊗ (var 2 ⊗ var 4) ⊕ (var 1 ⊗ var 2) ⊗ (var 3 ⊗ var 5)) refl
+
+    together : (a b m n r s u v : ℤ) → a *ℤ (m *ℤ u +ℤ n *ℤ v) +ℤ b *ℤ (r *ℤ u +ℤ s *ℤ v) ≡ (a *ℤ m +ℤ b *ℤ r) *ℤ u +ℤ (a *ℤ n +ℤ b *ℤ s) *ℤ v
+    together a b m n r s u v = same_value (a ∷ b ∷ m ∷ n ∷ r ∷ s ∷ u ∷ v ∷ [])
+        (var 0 ⊗ (var 2 ⊗ var 6 ⊕ var 3 ⊗ var 7) ⊕ var 1 ⊗ (var 4 ⊗ var 6 ⊕ var 5 ⊗ var 7))
+        ((var 0 ⊗ var 2 ⊕ var 1 ⊗ var 4) ⊗ var 6 ⊕ (var 0 ⊗ var 3 ⊕ var 1 ⊗ var 5) ⊗ var 7) refl
+
+-- the way back
+pub way_turned : (p q z : Fraction) → IsOnWay p q z → IsOnWay q p z
+way_turned p q z w = record {
+  rational = w.rational;
+  total = w.total;
+  near = w.far;
+  far = w.near;
+  positive = w.positive;
+  near_sign = w.far_sign;
+  far_sign = w.near_sign;
+  over_x = w.over_x ∙ turned (w.near *ℤ p.nx) (w.far *ℤ q.nx);
+  over_y = w.over_y ∙ turned (w.near *ℤ p.ny) (w.far *ℤ q.ny);
+  under = w.under ∙ turned (w.near *ℤ p.d) (w.far *ℤ q.d);
+}
+  where
+    turned : (u v : ℤ) → u +ℤ v ≡ v +ℤ u
+    turned u v = omega (arith, ints)
+
+-- a point of the way is not left of the first one, nor right of the second
+module _ (p q z : Fraction) (rightward : IsRightward p q) (w : IsOnWay p q z) where
+  pub way_left : (p.nx *ℤ z.d) ≤ℤ (z.nx *ℤ p.d)
+  way_left = le_from_sub (p.nx *ℤ z.d) (z.nx *ℤ p.d) (not_negative_from_mul w.total (z.nx *ℤ p.d -ℤ p.nx *ℤ z.d) w.positive
+      (subst (λ (v : ℤ). pos 0 ≤ℤ v) (sym (
+      same_value (w.total ∷ z.nx ∷ z.d ∷ p.nx ∷ p.d ∷ []) (var 0 ⊗ (var 1 ⊗ var 4 ⊖ var 3 ⊗ var 2)) ((var 0 ⊗ var 1) ⊗ var 4 ⊖ var 3 ⊗ (var 0 ⊗ var 2)) refl
+      ∙ ap₂ (λ (u v : ℤ). u *ℤ p.d -ℤ p.nx *ℤ v) w.over_x w.under
+      ∙ same_value (w.near ∷ w.far ∷ p.nx ∷ p.d ∷ q.nx ∷ q.d ∷ []) ((var 0 ⊗ var 2 ⊕ var 1 ⊗ var 4) ⊗ var 3 ⊖ var 2 ⊗ (var 0 ⊗ var 3 ⊕ var 1 ⊗ var 5)) (var 1 ⊗ (var 4 ⊗ var 3 ⊖ var 2 ⊗ var 5)) refl))
+      (mul_not_negative w.far_sign (sub_not_negative rightward.order))))
+
+  pub way_right : (z.nx *ℤ q.d) ≤ℤ (q.nx *ℤ z.d)
+  way_right = le_from_sub (z.nx *ℤ q.d) (q.nx *ℤ z.d) (not_negative_from_mul w.total (q.nx *ℤ z.d -ℤ z.nx *ℤ q.d) w.positive
+      (subst (λ (v : ℤ). pos 0 ≤ℤ v) (sym (
+      same_value (w.total ∷ z.nx ∷ z.d ∷ q.nx ∷ q.d ∷ []) (var 0 ⊗ (var 3 ⊗ var 2 ⊖ var 1 ⊗ var 4)) (var 3 ⊗ (var 0 ⊗ var 2) ⊖ (var 0 ⊗ var 1) ⊗ var 4) refl
+      ∙ ap₂ (λ (u v : ℤ). q.nx *ℤ v -ℤ u *ℤ q.d) w.over_x w.under
+      ∙ same_value (w.near ∷ w.far ∷ p.nx ∷ p.d ∷ q.nx ∷ q.d ∷ []) (var 4 ⊗ (var 0 ⊗ var 3 ⊕ var 1 ⊗ var 5) ⊖ (var 0 ⊗ var 2 ⊕ var 1 ⊗ var 4) ⊗ var 5) (var 0 ⊗ (var 4 ⊗ var 3 ⊖ var 2 ⊗ var 5)) refl))
+      (mul_not_negative w.near_sign (sub_not_negative rightward.order))))
 
 -- the grid point is right of the point
 abbrev pub is_right : Fraction → Point → Bool
@@ -146,23 +177,35 @@ above r z = int_lt (z.ny *ℤ run r) (height (line_through z) r)
 abbrev pub seen : Fraction → Seg → ℤ
 seen z c = cond (is_above c z) (one_if (is_right z c.a) -ℤ one_if (is_right z c.b)) (pos 0)
 
-module _ (x : Seg) (p q : Fraction) where
-  pub mixed : (a b : ℤ) (y z : Fraction) → pos 0 ≤ℤ a → pos 0 <ℤ b → InStrip x p q y → InStrip x p q z → InStrip x p q (mix a b y z)
+module _ (p q : Fraction) where
+  mixed : (a b : ℤ) (y z : Fraction) → pos 0 ≤ℤ a → pos 0 <ℤ b → IsOnWay p q y → IsOnWay p q z → IsOnWay p q (mix a b y z)
   mixed a b y z i j h k = record {
-    positive = positive_by_second i j one (le_from_lt h.positive) k.positive (same_value (a ∷ b ∷ y.d ∷ z.d ∷ []) (var 0 ⊗ var 2 ⊕ var 1 ⊗ var 3) (number (pos 1) ⊗ (var 0 ⊗ var 2 ⊕ var 1 ⊗ var 3)) refl);
-    on = mix_on x a b y z i (le_from_lt j) h.positive k.positive h.on k.on;
-    left = le_from_sub (p.nx *ℤ (mix a b y z).d) ((mix a b y z).nx *ℤ p.d) (not_negative_by i (le_from_lt j) one (sub_not_negative h.left) (sub_not_negative k.left)
-        (same_value (a ∷ b ∷ y.nx ∷ y.d ∷ z.nx ∷ z.d ∷ p.nx ∷ p.d ∷ [])
-        (var 0 ⊗ (var 2 ⊗ var 7 ⊖ var 6 ⊗ var 3) ⊕ var 1 ⊗ (var 4 ⊗ var 7 ⊖ var 6 ⊗ var 5))
-        (number (pos 1) ⊗ ((var 0 ⊗ var 2 ⊕ var 1 ⊗ var 4) ⊗ var 7 ⊖ var 6 ⊗ (var 0 ⊗ var 3 ⊕ var 1 ⊗ var 5))) refl));
-    right = le_from_sub ((mix a b y z).nx *ℤ q.d) (q.nx *ℤ (mix a b y z).d) (not_negative_by i (le_from_lt j) one (sub_not_negative h.right) (sub_not_negative k.right)
-        (same_value (a ∷ b ∷ y.nx ∷ y.d ∷ z.nx ∷ z.d ∷ q.nx ∷ q.d ∷ [])
-        (var 0 ⊗ (var 6 ⊗ var 3 ⊖ var 2 ⊗ var 7) ⊕ var 1 ⊗ (var 6 ⊗ var 5 ⊖ var 4 ⊗ var 7))
-        (number (pos 1) ⊗ (var 6 ⊗ (var 0 ⊗ var 3 ⊕ var 1 ⊗ var 5) ⊖ (var 0 ⊗ var 2 ⊕ var 1 ⊗ var 4) ⊗ var 7)) refl));
+    rational = positive_by_second i j one (le_from_lt h.rational) k.rational (same_value (a ∷ b ∷ y.d ∷ z.d ∷ []) (var 0 ⊗ var 2 ⊕ var 1 ⊗ var 3) (number (pos 1) ⊗ (var 0 ⊗ var 2 ⊕ var 1 ⊗ var 3)) refl);
+    total = h.total *ℤ k.total;
+    near = (a *ℤ k.total) *ℤ h.near +ℤ (b *ℤ h.total) *ℤ k.near;
+    far = (a *ℤ k.total) *ℤ h.far +ℤ (b *ℤ h.total) *ℤ k.far;
+    positive = mul_positive h.positive k.positive;
+    near_sign = plus (mul_not_negative (mul_not_negative i (le_from_lt k.positive)) h.near_sign) (mul_not_negative (mul_not_negative (le_from_lt j) (le_from_lt h.positive)) k.near_sign);
+    far_sign = plus (mul_not_negative (mul_not_negative i (le_from_lt k.positive)) h.far_sign) (mul_not_negative (mul_not_negative (le_from_lt j) (le_from_lt h.positive)) k.far_sign);
+    over_x = joined h.total k.total h.near h.far k.near k.far y.nx z.nx p.nx q.nx h.over_x k.over_x;
+    over_y = joined h.total k.total h.near h.far k.near k.far y.ny z.ny p.ny q.ny h.over_y k.over_y;
+    under = joined h.total k.total h.near h.far k.near k.far y.d z.d p.d q.d h.under k.under;
   }
     where
       one : pos 0 <ℤ pos 1
       one = omega (arith, ints)
+
+      plus : {u v : ℤ} → pos 0 ≤ℤ u → pos 0 ≤ℤ v → pos 0 ≤ℤ (u +ℤ v)
+      plus h k = omega (arith, ints)
+
+      joined : (s t e f g r u v m n : ℤ) → s *ℤ u ≡ e *ℤ m +ℤ f *ℤ n → t *ℤ v ≡ g *ℤ m +ℤ r *ℤ n
+          → (s *ℤ t) *ℤ (a *ℤ u +ℤ b *ℤ v) ≡ ((a *ℤ t) *ℤ e +ℤ (b *ℤ s) *ℤ g) *ℤ m +ℤ ((a *ℤ t) *ℤ f +ℤ (b *ℤ s) *ℤ r) *ℤ n
+      joined s t e f g r u v m n c d =
+          same_value (a ∷ b ∷ s ∷ t ∷ u ∷ v ∷ []) ((var 2 ⊗ var 3) ⊗ (var 0 ⊗ var 4 ⊕ var 1 ⊗ var 5)) ((var 0 ⊗ var 3) ⊗ (var 2 ⊗ var 4) ⊕ (var 1 ⊗ var 2) ⊗ (var 3 ⊗ var 5)) refl
+          ∙ ap₂ (λ (i j : ℤ). (a *ℤ t) *ℤ i +ℤ (b *ℤ s) *ℤ j) c d
+          ∙ same_value (a ∷ b ∷ s ∷ t ∷ e ∷ f ∷ g ∷ r ∷ m ∷ n ∷ [])
+          ((var 0 ⊗ var 3) ⊗ (var 4 ⊗ var 8 ⊕ var 5 ⊗ var 9) ⊕ (var 1 ⊗ var 2) ⊗ (var 6 ⊗ var 8 ⊕ var 7 ⊗ var 9))
+          (((var 0 ⊗ var 3) ⊗ var 4 ⊕ (var 1 ⊗ var 2) ⊗ var 6) ⊗ var 8 ⊕ ((var 0 ⊗ var 3) ⊗ var 5 ⊕ (var 1 ⊗ var 2) ⊗ var 7) ⊗ var 9) refl
 
   -- ---- a segment that goes to the right
 
@@ -171,11 +214,11 @@ module _ (x : Seg) (p q : Fraction) where
     pub left : (z.d *ℤ r.a.x) ≤ℤ z.nx
     pub right : z.nx ≤ℤ (z.d *ℤ r.b.x)
 
-  module _ (r : Seg) (runs : pos 0 <ℤ run r) (apart : (z : Fraction) → InStrip x p q z → is_on z r ≡ true → ⊥) where
+  module _ (r : Seg) (runs : pos 0 <ℤ run r) (apart : (z : Fraction) → IsOnWay p q z → is_on z r ≡ true → ⊥) where
     abbrev gap : Fraction → ℤ
     gap z = height (line_through z) r -ℤ z.ny *ℤ run r
 
-    stays_above : (y z : Fraction) → InStrip x p q y → InStrip x p q z → Spanned r y → Spanned r z → above r y ≡ true → above r z ≡ true
+    stays_above : (y z : Fraction) → IsOnWay p q y → IsOnWay p q z → Spanned r y → Spanned r z → above r y ≡ true → above r z ≡ true
     stays_above y z h k s t e = by (above r z) refl
       where
         up : pos 0 <ℤ gap y
@@ -220,7 +263,7 @@ module _ (x : Seg) (p q : Fraction) where
                 over : Polynomial
                 over = (var 0 ⊗ var 7 ⊖ var 2 ⊗ var 8) ⊖ var 1 ⊗ var 6
 
-    pub same_above : (y z : Fraction) → InStrip x p q y → InStrip x p q z → Spanned r y → Spanned r z → above r y ≡ above r z
+    pub same_above : (y z : Fraction) → IsOnWay p q y → IsOnWay p q z → Spanned r y → Spanned r z → above r y ≡ above r z
     same_above y z h k s t = by (above r y) (above r z) refl refl
       where
         by : (b c : Bool) → above r y ≡ b → above r z ≡ c → b ≡ c
@@ -244,14 +287,42 @@ module _ (x : Seg) (p q : Fraction) where
       ((var 2 ⊖ var 3 ⊗ var 4) ⊗ var 0 ⊕ (var 1 ⊗ var 4 ⊖ var 0) ⊗ var 2)
       (((var 2 ⊖ var 3 ⊗ var 4) ⊗ var 1 ⊕ (var 1 ⊗ var 4 ⊖ var 0) ⊗ var 3) ⊗ var 4) refl
 
-  module _ (strip : IsStrip x p q) where
-    pub at_left : InStrip x p q p
-    at_left = record { positive = strip.left; on = strip.starts; left = le_from_same refl; right = strip.order }
+  module _ (strip : IsRightward p q) where
+    at_left : IsOnWay p q p
+    at_left = record {
+      rational = strip.left;
+      total = pos 1;
+      near = pos 1;
+      far = pos 0;
+      positive = record { lt = tt };
+      near_sign = le_from_lt (record { lt = tt });
+      far_sign = le_from_same refl;
+      over_x = itself p.nx q.nx;
+      over_y = itself p.ny q.ny;
+      under = itself p.d q.d;
+    }
+      where
+        itself : (m n : ℤ) → pos 1 *ℤ m ≡ pos 1 *ℤ m +ℤ pos 0 *ℤ n
+        itself m n = same_value (m ∷ n ∷ []) (number (pos 1) ⊗ var 0) (number (pos 1) ⊗ var 0 ⊕ number (pos 0) ⊗ var 1) refl
 
-    pub at_right : InStrip x p q q
-    at_right = record { positive = strip.right; on = strip.ends; left = strip.order; right = le_from_same refl }
+    at_right : IsOnWay p q q
+    at_right = record {
+      rational = strip.right;
+      total = pos 1;
+      near = pos 0;
+      far = pos 1;
+      positive = record { lt = tt };
+      near_sign = le_from_same refl;
+      far_sign = le_from_lt (record { lt = tt });
+      over_x = itself p.nx q.nx;
+      over_y = itself p.ny q.ny;
+      under = itself p.d q.d;
+    }
+      where
+        itself : (m n : ℤ) → pos 1 *ℤ n ≡ pos 0 *ℤ m +ℤ pos 1 *ℤ n
+        itself m n = same_value (m ∷ n ∷ []) (number (pos 1) ⊗ var 1) (number (pos 0) ⊗ var 0 ⊕ number (pos 1) ⊗ var 1) refl
 
-    bead_in : (w : Point) → is_right p w ≡ true → is_right q w ≡ false → InStrip x p q (bead w)
+    bead_in : (w : Point) → is_right p w ≡ true → is_right q w ≡ false → IsOnWay p q (bead w)
     bead_in w e f = mixed (q.nx -ℤ q.d *ℤ w.x) (p.d *ℤ w.x -ℤ p.nx) p q (sub_not_negative (int_lt-false q.nx (q.d *ℤ w.x) f))
         (sub_positive ((Decides-int_lt p.nx (p.d *ℤ w.x)).0 e)) at_left at_right
 
@@ -269,7 +340,7 @@ module _ (x : Seg) (p q : Fraction) where
     abbrev pub weight : Point → ℤ
     weight w = cond (is_up w) (one_if (is_right p w) -ℤ one_if (is_right q w)) (pos 0)
 
-    module _ (r : Seg) (runs : pos 0 <ℤ run r) (apart : (z : Fraction) → InStrip x p q z → is_on z r ≡ true → ⊥) where
+    module _ (r : Seg) (runs : pos 0 <ℤ run r) (apart : (z : Fraction) → IsOnWay p q z → is_on z r ≡ true → ⊥) where
       abbrev B : Point → Fraction
       B w = bead w
 
@@ -282,15 +353,15 @@ module _ (x : Seg) (p q : Fraction) where
       across : (z : Fraction) → is_right z r.a ≡ false → is_right z r.b ≡ true → Spanned r z
       across z e f = record { left = int_lt-false z.nx (z.d *ℤ r.a.x) e; right = le_from_lt ((Decides-int_lt z.nx (z.d *ℤ r.b.x)).0 f) }
 
-      first_spanned : InStrip x p q (B r.a) → Spanned r (B r.a)
+      first_spanned : IsOnWay p q (B r.a) → Spanned r (B r.a)
       first_spanned h = record {
         left = le_from_same (sym (bead_abscissa r.a));
-        right = subst (λ (z : ℤ). z ≤ℤ ((B r.a).d *ℤ r.b.x)) (sym (bead_abscissa r.a)) (le_from_lt (mul_lt_left h.positive ascends));
+        right = subst (λ (z : ℤ). z ≤ℤ ((B r.a).d *ℤ r.b.x)) (sym (bead_abscissa r.a)) (le_from_lt (mul_lt_left h.rational ascends));
       }
 
-      last_spanned : InStrip x p q (B r.b) → Spanned r (B r.b)
+      last_spanned : IsOnWay p q (B r.b) → Spanned r (B r.b)
       last_spanned h = record {
-        left = subst (λ (z : ℤ). ((B r.b).d *ℤ r.a.x) ≤ℤ z) (sym (bead_abscissa r.b)) (le_from_lt (mul_lt_left h.positive ascends));
+        left = subst (λ (z : ℤ). ((B r.b).d *ℤ r.a.x) ≤ℤ z) (sym (bead_abscissa r.b)) (le_from_lt (mul_lt_left h.rational ascends));
         right = le_from_same (bead_abscissa r.b);
       }
 
@@ -312,7 +383,7 @@ module _ (x : Seg) (p q : Fraction) where
           ∙ same_value ((B r.b).d ∷ r.a.x ∷ r.a.y ∷ r.b.x ∷ r.b.y ∷ [])
           ((var 0 ⊗ var 3) ⊗ (var 4 ⊖ var 2) ⊖ var 0 ⊗ (var 1 ⊗ var 4 ⊖ var 3 ⊗ var 2)) ((var 0 ⊗ var 4) ⊗ (var 3 ⊖ var 1)) refl)
 
-      agree : (y z : Fraction) → InStrip x p q y → InStrip x p q z → Spanned r y → Spanned r z → above r y ≡ above r z
+      agree : (y z : Fraction) → IsOnWay p q y → IsOnWay p q z → Spanned r y → Spanned r z → above r y ≡ above r z
       agree = same_above r runs apart
 
       abbrev Moved : Bool → Bool → Bool → Bool → Type 0
@@ -346,7 +417,7 @@ module _ (x : Seg) (p q : Fraction) where
     -- ---- any segment that does not meet the part
 
     abbrev pub Clear : Seg → Type 0
-    Clear c = (z : Fraction) → InStrip x p q z → is_on z c ≡ true → ⊥
+    Clear c = (z : Fraction) → IsOnWay p q z → is_on z c ≡ true → ⊥
 
     flipped : (i j : Bool) (a b c d u v : ℤ) → cond i (b -ℤ a) (pos 0) -ℤ cond j (d -ℤ c) (pos 0) ≡ v -ℤ u → cond i (a -ℤ b) (pos 0) -ℤ cond j (c -ℤ d) (pos 0) ≡ u -ℤ v
     flipped true true a b c d u v e = omega (arith, ints, e)
@@ -361,7 +432,7 @@ module _ (x : Seg) (p q : Fraction) where
         B : Fraction
         B = bead c.a
 
-        inside : InStrip x p q (bead c.a)
+        inside : IsOnWay p q (bead c.a)
         inside = bead_in c.a i j
 
         same : bead c.a ≡ bead c.b
@@ -376,7 +447,7 @@ module _ (x : Seg) (p q : Fraction) where
           total = c.a.y -ℤ c.b.y;
           near = (bead c.a).ny -ℤ (bead c.a).d *ℤ c.b.y;
           far = (bead c.a).d *ℤ c.a.y -ℤ (bead c.a).ny;
-          positive = sub_positive (lt_from_mul_left (bead c.a).d inside.positive (le_lt_trans low high));
+          positive = sub_positive (lt_from_mul_left (bead c.a).d inside.rational (le_lt_trans low high));
           near_sign = sub_not_negative low;
           far_sign = le_from_lt (sub_positive high);
           under = same_value ((bead c.a).ny ∷ (bead c.a).d ∷ c.a.y ∷ c.b.y ∷ []) ((var 2 ⊖ var 3) ⊗ var 1) ((var 0 ⊖ var 1 ⊗ var 3) ⊕ (var 1 ⊗ var 2 ⊖ var 0)) refl;
@@ -478,3 +549,15 @@ winding_seen z between c =
 
 pub winding_is_seen : (z : Fraction) → IsBetweenColumns (line_through z) → (segments : List Seg) → winding z segments ≡ int_sum (seen z) segments
 winding_is_seen z between segments = fold_is_sum (winding_part z) segments ∙ int_sum-same (winding_part z) (seen z) (winding_seen z between) segments
+
+-- ---- two points
+
+-- a closed row that does not meet the way between two points goes round both equally often
+pub wound_alike : (p q : Fraction) → pos 0 <ℤ p.d → pos 0 <ℤ q.d → (segments : List Seg) → All (λ c. (z : Fraction) → IsOnWay p q z → is_on z c ≡ true → ⊥) segments
+    → ((value : Point → ℤ) → int_sum (λ s. value s.b -ℤ value s.a) segments ≡ pos 0) → int_sum (seen p) segments ≡ int_sum (seen q) segments
+wound_alike p q i j segments clear closed = by_lt_z (q.nx *ℤ p.d) (p.nx *ℤ q.d)
+    (λ less.
+    let back : IsRightward q p = record { left = j; right = i; order = le_from_lt less } in
+    sym (same_seen q p back segments (All-weaker (λ (c : Seg). (z : Fraction) → IsOnWay p q z → is_on z c ≡ true → ⊥) (λ c. (z : Fraction) → IsOnWay q p z → is_on z c ≡ true → ⊥)
+    (λ c h z w. h z (way_turned q p z w)) segments clear) (closed (weight q p back))))
+    (λ le. let there : IsRightward p q = record { left = i; right = j; order = le } in same_seen p q there segments clear (closed (weight p q there)))

@@ -39,13 +39,13 @@ use Rattle.ring_walk.specs.Spans.{IsSide}
 use Rattle.ring_walk.proofs.RingOrbits.{rings_are_orbits}
 use Rattle.topo_write.specs.Polygons.{lines_of}
 use Rattle.topo_laws.specs.RingFaces.{slice_spans}
-use Rattle.picture_laws.specs.FaceRings.{RingsPassEdges}
+use Rattle.picture_laws.specs.FaceRings.{IsOnWay, RingsWindAlike, RingsPassEdges}
 use Rattle.picture_laws.proofs.Sums.{int_sum}
 use Rattle.picture_laws.proofs.SameMembers.{among}
 use Rattle.picture_laws.proofs.RingSums.{segments_are, length-spans, line_points}
 use Rattle.picture_laws.proofs.RingWinds.{paired}
 use Rattle.picture_laws.proofs.ClosedRings.{closed_ring}
-use Rattle.picture_laws.proofs.AlongSegment.{IsStrip, InStrip, seen, weight, same_seen, winding_is_seen}
+use Rattle.picture_laws.proofs.AlongSegment.{IsRightward, seen, way_on, way_left, way_right, way_turned, wound_alike, winding_is_seen}
 
 -- ---- ends of segments
 
@@ -111,39 +111,37 @@ module _ (segments : List Seg) (closed : (value : Point → ℤ) → int_sum (λ
   total z = int_sum (seen z) segments
 
   module _ (x : LabelledSegment) (free : IsFree segments x) where
-    in_order : (p q : Fraction) → IsInner x p → IsInner x q → (p.nx *ℤ q.d) ≤ℤ (q.nx *ℤ p.d) → total p ≡ total q
-    in_order p q h k le =
-        same_seen x.segment p q (record { left = h.positive; right = k.positive; starts = h.on; ends = k.on; order = le }) segments
-        (All-from_members (λ c. (z : Fraction) → InStrip x.segment p q z → is_on z c ≡ true → ⊥) segments clear)
-        (closed (weight x.segment p q (record { left = h.positive; right = k.positive; starts = h.on; ends = k.on; order = le })))
+    same_on : (p q : Fraction) → IsInner x p → IsInner x q → total p ≡ total q
+    same_on p q h k =
+        wound_alike p q h.positive k.positive segments
+        (All-from_members (λ c. (z : Fraction) → IsOnWay p q z → is_on z c ≡ true → ⊥) segments (λ c m z w o.
+        let end = free c m z w.rational (way_on x.segment p q z h.positive k.positive h.on k.on w) o in
+        let here = at_x z end.0 end.1 in
+        by_lt_z (q.nx *ℤ p.d) (p.nx *ℤ q.d)
+        (λ less.
+        let back : IsRightward q p = record { left = k.positive; right = h.positive; order = le_from_lt less } in
+        passed q p k h end.0 (not_left q p z end.0 back (way_turned p q z w) here) (not_right q p z end.0 back (way_turned p q z w) here) end.2)
+        (λ le.
+        let there : IsRightward p q = record { left = h.positive; right = k.positive; order = le } in
+        passed p q h k end.0 (not_left p q z end.0 there w here) (not_right p q z end.0 there w here) end.2)))
+        closed
       where
         -- where the point is at a grid point, that is not left of the first and not right of the second
-        not_left : (z : Fraction) (v : Point) → InStrip x.segment p q z → z.nx ≡ z.d *ℤ v.x → p.nx ≤ℤ (p.d *ℤ v.x)
-        not_left z v i e = le_from_mul_right z.d i.positive (subst (λ (w : ℤ). (p.nx *ℤ z.d) ≤ℤ w)
-            (ap (λ (n : ℤ). n *ℤ p.d) e ∙ same_value (z.d ∷ v.x ∷ p.d ∷ []) ((var 0 ⊗ var 1) ⊗ var 2) ((var 2 ⊗ var 1) ⊗ var 0) refl) i.left)
+        not_left : (p q z : Fraction) (v : Point) → IsRightward p q → IsOnWay p q z → z.nx ≡ z.d *ℤ v.x → p.nx ≤ℤ (p.d *ℤ v.x)
+        not_left p q z v there w e = le_from_mul_right z.d w.rational (subst (λ (n : ℤ). (p.nx *ℤ z.d) ≤ℤ n)
+            (ap (λ (n : ℤ). n *ℤ p.d) e ∙ same_value (z.d ∷ v.x ∷ p.d ∷ []) ((var 0 ⊗ var 1) ⊗ var 2) ((var 2 ⊗ var 1) ⊗ var 0) refl) (way_left p q z there w))
 
-        not_right : (z : Fraction) (v : Point) → InStrip x.segment p q z → z.nx ≡ z.d *ℤ v.x → (q.d *ℤ v.x) ≤ℤ q.nx
-        not_right z v i e = le_from_mul_right z.d i.positive (subst (λ (w : ℤ). w ≤ℤ (q.nx *ℤ z.d))
-            (ap (λ (n : ℤ). n *ℤ q.d) e ∙ same_value (z.d ∷ v.x ∷ q.d ∷ []) ((var 0 ⊗ var 1) ⊗ var 2) ((var 2 ⊗ var 1) ⊗ var 0) refl) i.right)
+        not_right : (p q z : Fraction) (v : Point) → IsRightward p q → IsOnWay p q z → z.nx ≡ z.d *ℤ v.x → (q.d *ℤ v.x) ≤ℤ q.nx
+        not_right p q z v there w e = le_from_mul_right z.d w.rational (subst (λ (n : ℤ). n ≤ℤ (q.nx *ℤ z.d))
+            (ap (λ (n : ℤ). n *ℤ q.d) e ∙ same_value (z.d ∷ v.x ∷ q.d ∷ []) ((var 0 ⊗ var 1) ⊗ var 2) ((var 2 ⊗ var 1) ⊗ var 0) refl) (way_right p q z there w))
 
-        clear : (c : Seg) → Contains segments c → (z : Fraction) → InStrip x.segment p q z → is_on z c ≡ true → ⊥
-        clear c m z i o =
-            let end = free c m z i.positive i.on o in
-            let here = at_x z end.0 end.1 in
-            by end.0 (not_left z end.0 i here) (not_right z end.0 i here) end.2
-          where
-            by : (v : Point) → p.nx ≤ℤ (p.d *ℤ v.x) → (q.d *ℤ v.x) ≤ℤ q.nx → IsEnd x v → ⊥
-            by v l r (inl (s, e)) =
-                beyond x.segment.a x.segment.b p q h.positive k.positive h.on k.on (h.start s) (k.start s)
-                (subst (λ (w : Point). p.nx ≤ℤ (p.d *ℤ w.x)) (sym e) l) (subst (λ (w : Point). (q.d *ℤ w.x) ≤ℤ q.nx) (sym e) r)
-            by v l r (inr (s, e)) =
-                beyond x.segment.b x.segment.a p q h.positive k.positive (on_flip p x.segment h.on) (on_flip q x.segment k.on) (h.end s) (k.end s)
-                (subst (λ (w : Point). p.nx ≤ℤ (p.d *ℤ w.x)) (sym e) l) (subst (λ (w : Point). (q.d *ℤ w.x) ≤ℤ q.nx) (sym e) r)
-
-    same_on : (p q : Fraction) → IsInner x p → IsInner x q → total p ≡ total q
-    same_on p q h k = by_lt_z (q.nx *ℤ p.d) (p.nx *ℤ q.d)
-        (λ less. sym (in_order q p k h (le_from_lt less)))
-        (λ le. in_order p q h k le)
+        passed : (p q : Fraction) → IsInner x p → IsInner x q → (v : Point) → p.nx ≤ℤ (p.d *ℤ v.x) → (q.d *ℤ v.x) ≤ℤ q.nx → IsEnd x v → ⊥
+        passed p q h k v l r (inl (s, e)) =
+            beyond x.segment.a x.segment.b p q h.positive k.positive h.on k.on (h.start s) (k.start s)
+            (subst (λ (w : Point). p.nx ≤ℤ (p.d *ℤ w.x)) (sym e) l) (subst (λ (w : Point). (q.d *ℤ w.x) ≤ℤ q.nx) (sym e) r)
+        passed p q h k v l r (inr (s, e)) =
+            beyond x.segment.b x.segment.a p q h.positive k.positive (on_flip p x.segment h.on) (on_flip q x.segment k.on) (h.end s) (k.end s)
+            (subst (λ (w : Point). p.nx ≤ℤ (p.d *ℤ w.x)) (sym e) l) (subst (λ (w : Point). (q.d *ℤ w.x) ≤ℤ q.nx) (sym e) r)
 
   -- ---- along a path
 
@@ -369,3 +367,11 @@ rings_pass_edges m base planar k within ring has i e short is none s t in_s in_t
         let u = labelled_in f.key f.left f.right 0 f.points there.0 there.1 in
         let apart = apart_from side.0.span l (All-contains (λ (s : Side). s.span ≢ i) ring side.0 none side.1) x u.0 n u.1 in
         meets_at_end x u.0 apart.0 apart.1 z positive on_x (subst (λ (c : Seg). is_on z c ≡ true) (sym u.2) (there.2 z on_c))
+
+pub rings_wind_alike : RingsWindAlike
+rings_wind_alike m base planar k within ring has p q h g clear =
+    let segments = ring_segments (lines_of (slice m k).edges) ring in
+    winding_is_seen p h segments
+    ∙ wound_alike p q h.rational g.rational segments (All-from_members (λ c. (z : Fraction) → IsOnWay p q z → is_on z c ≡ true → ⊥) segments (λ c n z w on.
+    true≢false (sym on ∙ All-contains (λ c. is_on z c ≡ false) segments c (clear z w) n))) (closed_ring m k ring has)
+    ∙ sym (winding_is_seen q g segments)

@@ -1,5 +1,5 @@
 -- Laws of the rings of a face: which points they enclose, and how often they go round a point.
-use Rattle.std.specs.Prelude.{◌≡◌, ◌≢◌, ◌≤◌, ◌<◌, ℕ, true, ℤ, pos, neg_ℤ, ◌+ℤ◌, List, flat_map, fold, length, count_by, get_or, All, Contains, if◌then◌else◌, IsTrue}
+use Rattle.std.specs.Prelude.{◌≡◌, ◌≢◌, ◌≤◌, ◌<◌, ℕ, true, false, ℤ, pos, neg_ℤ, ◌+ℤ◌, ◌*ℤ◌, ◌<ℤ◌, ◌≤ℤ◌, List, flat_map, fold, length, count_by, get_or, All, Contains, if◌then◌else◌, IsTrue}
 use Rattle.lemmas.specs.Parity.{is_odd}
 use Rattle.tgap_model.specs.declared.geometry.Fraction.{Fraction}
 use Rattle.tgap_model.specs.declared.geometry.Point.{Point}
@@ -73,4 +73,26 @@ RingsPassEdges =
     → (i : ℕ) (e : Edge) → i < length (slice m k).edges → get_or (slice m k).edges i e ≡ e → All (λ s. s.span ≢ i) ring
     → (s t : Seg) → Contains (segments_of e.points) s → Contains (segments_of e.points) t
     → (p q : Fraction) → IsBetweenColumns (line_through p) → IsBetweenColumns (line_through q) → is_on p s ≡ true → is_on q t ≡ true
+    → winding p (ring_segments (lines_of (slice m k).edges) ring) ≡ winding q (ring_segments (lines_of (slice m k).edges) ring)
+
+-- a point on the straight way from p to q: a mean of the two, with weights that are not negative
+pub record IsOnWay (p q z : Fraction) : Type 0 where
+  pub rational : pos 0 <ℤ z.d
+  pub total : ℤ
+  pub near : ℤ
+  pub far : ℤ
+  pub positive : pos 0 <ℤ total
+  pub near_sign : pos 0 ≤ℤ near
+  pub far_sign : pos 0 ≤ℤ far
+  pub over_x : total *ℤ z.nx ≡ near *ℤ p.nx +ℤ far *ℤ q.nx
+  pub over_y : total *ℤ z.ny ≡ near *ℤ p.ny +ℤ far *ℤ q.ny
+  pub under : total *ℤ z.d ≡ near *ℤ p.d +ℤ far *ℤ q.d
+
+-- A ring goes equally often round two points where no segment of it meets the straight way between them.
+abbrev pub RingsWindAlike : Type 0
+RingsWindAlike =
+    (m : BaseMap) → IsTrue (is_base m) → IsPartition (base_segments m) → (k : ℕ) → k ≤ length (history_of m)
+    → (ring : List Side) → Contains (rings_of (slice_spans m k)) ring
+    → (p q : Fraction) → IsBetweenColumns (line_through p) → IsBetweenColumns (line_through q)
+    → ((z : Fraction) → IsOnWay p q z → All (λ s. is_on z s ≡ false) (ring_segments (lines_of (slice m k).edges) ring))
     → winding p (ring_segments (lines_of (slice m k).edges) ring) ≡ winding q (ring_segments (lines_of (slice m k).edges) ring)

@@ -1,6 +1,6 @@
 //! Laws of the rings of a face.
 
-ghost use Rattle.picture_laws.specs.FaceRings.{RingsCoverFaces, RingsWindOnce, RingAreasAdd, RingsAreClosed, RingsPassEdges};
+ghost use Rattle.picture_laws.specs.FaceRings.{RingsCoverFaces, RingsWindOnce, RingAreasAdd, RingsAreClosed, RingsWindAlike, RingsPassEdges};
 
 /// A point is inside a face of a slice exactly where the ray up from it crosses an odd number of the segments of the face's rings.
 pub fn rings_cover_faces()
@@ -20,6 +20,11 @@ pub fn ring_areas_add()
 /// A ring of a slice is closed: at each point as many of its segments begin as end.
 pub fn rings_are_closed()
     ensures { RingsAreClosed }
+{}
+
+/// A ring of a slice goes equally often round two points where no segment of it meets the straight way between them.
+pub fn rings_wind_alike()
+    ensures { RingsWindAlike }
 {}
 
 /// Along an edge of a slice a ring that has none of its sides goes round each point equally often.
