@@ -21,3 +21,5 @@ pub mod PolygonSums
 pub mod PolygonExamples
 pub mod AlongSegment
 pub mod PassedEdges
+pub mod AreaColumns
+pub mod AreaSigns

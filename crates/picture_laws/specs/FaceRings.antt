@@ -96,3 +96,18 @@ RingsWindAlike =
     → (p q : Fraction) → IsBetweenColumns (line_through p) → IsBetweenColumns (line_through q)
     → ((z : Fraction) → IsOnWay p q z → All (λ s. is_on z s ≡ false) (ring_segments (lines_of (slice m k).edges) ring))
     → winding p (ring_segments (lines_of (slice m k).edges) ring) ≡ winding q (ring_segments (lines_of (slice m k).edges) ring)
+
+-- the segments of some rings of a slice, and their areas together
+abbrev pub all_segments : BaseMap → ℕ → List (List Side) → List Seg
+all_segments m k rings = flat_map (ring_segments (lines_of (slice m k).edges)) rings
+
+abbrev pub all_areas : BaseMap → ℕ → List (List Side) → ℤ
+all_areas m k rings = fold (λ sum r. sum +ℤ ring_area (lines_of (slice m k).edges) r) (pos 0) rings
+
+-- Rings that go round no point more often than others have no greater area together.
+abbrev pub RingAreasFollowWinding : Type 0
+RingAreasFollowWinding =
+    (m : BaseMap) → IsTrue (is_base m) → IsPartition (base_segments m) → (k : ℕ) → k ≤ length (history_of m)
+    → (qs rs : List (List Side)) → All (Contains (rings_of (slice_spans m k))) qs → All (Contains (rings_of (slice_spans m k))) rs
+    → ((p : Fraction) → IsBetweenColumns (line_through p) → winding p (all_segments m k qs) ≤ℤ winding p (all_segments m k rs))
+    → all_areas m k qs ≤ℤ all_areas m k rs

@@ -1,6 +1,6 @@
 //! Laws of the rings of a face.
 
-ghost use Rattle.picture_laws.specs.FaceRings.{RingsCoverFaces, RingsWindOnce, RingAreasAdd, RingsAreClosed, RingsWindAlike, RingsPassEdges};
+ghost use Rattle.picture_laws.specs.FaceRings.{RingsCoverFaces, RingsWindOnce, RingAreasAdd, RingAreasFollowWinding, RingsAreClosed, RingsWindAlike, RingsPassEdges};
 
 /// A point is inside a face of a slice exactly where the ray up from it crosses an odd number of the segments of the face's rings.
 pub fn rings_cover_faces()
@@ -15,6 +15,12 @@ pub fn rings_wind_once()
 /// The areas of the rings of a face together, of which those round holes are negative, are the area of the face.
 pub fn ring_areas_add()
     ensures { RingAreasAdd }
+{}
+
+/// Rings that go round no point more often than others have no greater area together: so one that goes round none clockwise has no
+/// negative area.
+pub fn ring_areas_follow_winding()
+    ensures { RingAreasFollowWinding }
 {}
 
 /// A ring of a slice is closed: at each point as many of its segments begin as end.
