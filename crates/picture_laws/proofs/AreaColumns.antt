@@ -43,6 +43,30 @@ up_sum-not_negative f h low (suc n) = plus (h low) (up_sum-not_negative f h (low
     plus : {u v : ℤ} → pos 0 ≤ℤ u → pos 0 ≤ℤ v → pos 0 ≤ℤ (u +ℤ v)
     plus h k = omega (arith, ints)
 
+up_sum-positive : (f : ℤ → ℤ) → ((z : ℤ) → pos 0 ≤ℤ f z) → (w low : ℤ) (n : ℕ) → low ≤ℤ w → w <ℤ (low +ℤ pos n) → pos 0 <ℤ f w → pos 0 <ℤ up_sum f low n
+up_sum-positive f h w low zero i j k = absurd (none w low i j)
+  where
+    none : (w low : ℤ) → low ≤ℤ w → w <ℤ (low +ℤ pos 0) → ⊥
+    none w low i j = omega (arith, ints)
+up_sum-positive f h w low (suc n) i j k = by_lt_z low w
+    (λ less. second (h low) (up_sum-positive f h w (low +ℤ pos 1) n (next less) (further j) k))
+    (λ le. first (subst (λ (z : ℤ). pos 0 <ℤ f z) (same le i) k) (up_sum-not_negative f h (low +ℤ pos 1) n))
+  where
+    next : low <ℤ w → (low +ℤ pos 1) ≤ℤ w
+    next less = omega (arith, ints)
+
+    further : w <ℤ (low +ℤ pos (suc n)) → w <ℤ ((low +ℤ pos 1) +ℤ pos n)
+    further k = omega (arith, ints)
+
+    same : w ≤ℤ low → low ≤ℤ w → w ≡ low
+    same h k = omega (arith, ints)
+
+    first : {u v : ℤ} → pos 0 <ℤ u → pos 0 ≤ℤ v → pos 0 <ℤ (u +ℤ v)
+    first h k = omega (arith, ints)
+
+    second : {u v : ℤ} → pos 0 ≤ℤ u → pos 0 <ℤ v → pos 0 <ℤ (u +ℤ v)
+    second h k = omega (arith, ints)
+
 int_sum-add : {A : Type 0} (f g : A → ℤ) (xs : List A) → int_sum (λ x. f x +ℤ g x) xs ≡ int_sum f xs +ℤ int_sum g xs
 int_sum-add f g [] = refl
 int_sum-add f g (x ∷ xs) = let rest = int_sum-add f g xs in omega (arith, ints, rest)
@@ -116,34 +140,34 @@ high_of m z h = omega (arith, ints, h)
 
 -- ---- segments with a common multiple of their runs
 
-abbrev Scaled : Type 0
+abbrev pub Scaled : Type 0
 Scaled = Seg × ℤ
 
 -- the number is how often the run of the segment goes into the common multiple, where it is not 0
-abbrev IsScaled : ℤ → Scaled → Type 0
+abbrev pub IsScaled : ℤ → Scaled → Type 0
 IsScaled n e = (e.1 *ℤ run e.0 ≡ n) ⊎ (run e.0 ≡ pos 0)
 
-record HasMultiple (segments : List Seg) : Type 0 where
-  common : ℤ
-  positive : pos 0 <ℤ common
-  scaled : List Scaled
-  same : map (λ (e : Scaled). e.0) scaled ≡ segments
-  each : All (IsScaled common) scaled
+pub record HasMultiple (segments : List Seg) : Type 0 where
+  pub common : ℤ
+  pub positive : pos 0 <ℤ common
+  pub scaled : List Scaled
+  pub same : map (λ (e : Scaled). e.0) scaled ≡ segments
+  pub each : All (IsScaled common) scaled
 
-abbrev larger : ℤ → Scaled → Scaled
+abbrev pub larger : ℤ → Scaled → Scaled
 larger k e = (e.0, k *ℤ e.1)
 
-firsts : (k : ℤ) (es : List Scaled) → map (λ (e : Scaled). e.0) (map (larger k) es) ≡ map (λ (e : Scaled). e.0) es
+pub firsts : (k : ℤ) (es : List Scaled) → map (λ (e : Scaled). e.0) (map (larger k) es) ≡ map (λ (e : Scaled). e.0) es
 firsts k [] = refl
 firsts k (e ∷ es) = ap (λ ss. e.0 ∷ ss) (firsts k es)
 
-larger_each : (k n : ℤ) (es : List Scaled) → All (IsScaled n) es → All (IsScaled (k *ℤ n)) (map (larger k) es)
+pub larger_each : (k n : ℤ) (es : List Scaled) → All (IsScaled n) es → All (IsScaled (k *ℤ n)) (map (larger k) es)
 larger_each k n [] h = All-nil (IsScaled (k *ℤ n))
 larger_each k n (e ∷ es) h = All-cons (IsScaled (k *ℤ n)) (larger k e) (map (larger k) es)
     (⊎_elim (λ f. inl (same_value (k ∷ e.1 ∷ run e.0 ∷ []) ((var 0 ⊗ var 1) ⊗ var 2) (var 0 ⊗ (var 1 ⊗ var 2)) refl ∙ ap (λ z. k *ℤ z) f)) (λ f. inr f) (All-head (IsScaled n) e es h))
     (larger_each k n es (All-tail (IsScaled n) e es h))
 
-has_multiple : (segments : List Seg) → HasMultiple segments
+pub has_multiple : (segments : List Seg) → HasMultiple segments
 has_multiple [] = record { common = pos 1; positive = record { lt = tt }; scaled = []; same = refl; each = All-nil (IsScaled (pos 1)) }
 has_multiple (s ∷ segments) =
     let rest = has_multiple segments in
@@ -172,15 +196,15 @@ has_multiple (s ∷ segments) =
 -- ---- columns of points
 
 -- the point one half right of the abscissa x, one half over the ordinate y where that is in parts of 2 * n
-abbrev spot : ℤ → ℤ → ℤ → Fraction
+abbrev pub spot : ℤ → ℤ → ℤ → Fraction
 spot n x y = record { nx = (pos 2 *ℤ x +ℤ pos 1) *ℤ (pos 2 *ℤ n); ny = pos 2 *ℤ y +ℤ pos 1; d = pos 4 *ℤ n }
 
 -- what a segment adds on the line one half right of x, wherever its height is
-abbrev across : ℤ → Seg → ℤ
+abbrev pub across : ℤ → Seg → ℤ
 across x s = one_if (int_lt x s.a.x) -ℤ one_if (int_lt x s.b.x)
 
 -- its height there, in parts of 2 * n
-abbrev level : ℤ → Scaled → ℤ
+abbrev pub level : ℤ → Scaled → ℤ
 level x e = e.1 *ℤ height (line_after x) e.0
 
 abbrev itself : ℤ → ℤ
@@ -210,14 +234,14 @@ module _ (n : ℤ) (positive : pos 0 <ℤ n) where
       odd : (x v : ℤ) → pos 2 *ℤ x +ℤ pos 1 ≡ pos 2 *ℤ v → ⊥
       odd x v e = omega (arith, ints, e)
 
-  half_less : (a b : ℤ) → a <ℤ b → (pos 2 *ℤ a +ℤ pos 1) <ℤ (pos 2 *ℤ b)
+  pub half_less : (a b : ℤ) → a <ℤ b → (pos 2 *ℤ a +ℤ pos 1) <ℤ (pos 2 *ℤ b)
   half_less a b h = omega (arith, ints)
 
-  half_back : (a b : ℤ) → (pos 2 *ℤ a +ℤ pos 1) <ℤ (pos 2 *ℤ b) → a <ℤ b
+  pub half_back : (a b : ℤ) → (pos 2 *ℤ a +ℤ pos 1) <ℤ (pos 2 *ℤ b) → a <ℤ b
   half_back a b h = omega (arith, ints)
 
   -- which grid points are right of it
-  right_same : (x y : ℤ) (w : Point) → is_right (spot n x y) w ≡ int_lt x w.x
+  pub right_same : (x y : ℤ) (w : Point) → is_right (spot n x y) w ≡ int_lt x w.x
   right_same x y w = both_ways (is_right (spot n x y) w) (int_lt x w.x)
       (λ e. (Decides-int_lt x w.x).1 (half_back x w.x (lt_from_mul_left (pos 2 *ℤ n) twice (moved (sym left) (sym right) ((Decides-int_lt (spot n x y).nx ((spot n x y).d *ℤ w.x)).0 e)))))
       (λ e. (Decides-int_lt (spot n x y).nx ((spot n x y).d *ℤ w.x)).1 (moved left right (mul_lt_left twice (half_less x w.x ((Decides-int_lt x w.x).0 e)))))
@@ -255,7 +279,7 @@ module _ (n : ℤ) (positive : pos 0 <ℤ n) where
           (var 0 ⊗ (((number (pos 2) ⊗ var 2 ⊕ number (pos 1)) ⊗ (number (pos 2) ⊗ var 1)) ⊗ var 3 ⊖ (number (pos 4) ⊗ var 1) ⊗ var 4))
           (var 1 ⊗ (number (pos 2) ⊗ (var 0 ⊗ ((number (pos 2) ⊗ var 2 ⊕ number (pos 1)) ⊗ var 3 ⊖ number (pos 2) ⊗ var 4)))) refl
 
-  over_same : (x y : ℤ) (e : Scaled) → e.1 *ℤ run e.0 ≡ n → is_above e.0 (spot n x y) ≡ int_lt y (level x e)
+  pub over_same : (x y : ℤ) (e : Scaled) → e.1 *ℤ run e.0 ≡ n → is_above e.0 (spot n x y) ≡ int_lt y (level x e)
   unfolding is_above
   over_same x y (s, k) f = by_order s.a.x s.b.x
       (λ h. ap (λ (b : Bool). int_lt ((spot n x y).ny *ℤ run (cond b s (flip s))) (height (line_through (spot n x y)) (cond b s (flip s)))) ((Decides-int_lt s.a.x s.b.x).1 h)
@@ -369,7 +393,7 @@ module _ (segments : List Seg) (closed : (value : Point → ℤ) → int_sum (λ
   abbrev scaled : List Scaled
   scaled = common.scaled
 
-  over_first : (f : Seg → ℤ) → int_sum (λ (e : Scaled). f e.0) scaled ≡ int_sum f segments
+  pub over_first : (f : Seg → ℤ) → int_sum (λ (e : Scaled). f e.0) scaled ≡ int_sum f segments
   over_first f = sym (int_sum-map f (λ (e : Scaled). e.0) scaled) ∙ ap (int_sum f) common.same
 
   none_across : (x : ℤ) → int_sum (across x) segments ≡ pos 0
@@ -382,13 +406,10 @@ module _ (segments : List Seg) (closed : (value : Point → ℤ) → int_sum (λ
       turned : (d u v t : ℤ) → d ≡ u -ℤ v → t ≡ v -ℤ u → t ≡ pos 0 → d ≡ pos 0
       turned d u v t e f g = omega (arith, ints, e, f, g)
 
-  abbrev column : ℤ → ℤ
+  abbrev pub column : ℤ → ℤ
   column x = int_sum (λ (e : Scaled). across x e.0 *ℤ level x e) scaled
 
-  module _ (x : ℤ) where
-    abbrev size : ℕ
-    size = sizes (level x) scaled
-
+  module _ (x : ℤ) (size : ℕ) (enough : sizes (level x) scaled ≤ size) where
     abbrev low : ℤ
     low = neg_ℤ (pos size)
 
@@ -413,7 +434,8 @@ module _ (segments : List Seg) (closed : (value : Point → ℤ) → int_sum (λ
     column_is =
         int_sum-agree (λ (e : Scaled). across x e.0 *ℤ level x e) (λ e. low *ℤ across x e.0 +ℤ up_sum (λ y. across x e.0 *ℤ below itself (level x e) y) low (size + size)) scaled
         (All-weaker (λ e. unsigned_abs (level x e) ≤ size)
-        (λ e. across x e.0 *ℤ level x e ≡ low *ℤ across x e.0 +ℤ up_sum (λ y. across x e.0 *ℤ below itself (level x e) y) low (size + size)) raised scaled (small (level x) scaled))
+        (λ e. across x e.0 *ℤ level x e ≡ low *ℤ across x e.0 +ℤ up_sum (λ y. across x e.0 *ℤ below itself (level x e) y) low (size + size)) raised scaled
+        (All-weaker (λ e. unsigned_abs (level x e) ≤ sizes (level x) scaled) (λ e. unsigned_abs (level x e) ≤ size) (λ e h. omega (arith, h, enough)) scaled (small (level x) scaled)))
         ∙ int_sum-add (λ (e : Scaled). low *ℤ across x e.0) (λ e. up_sum (λ y. across x e.0 *ℤ below itself (level x e) y) low (size + size)) scaled
         ∙ ap₂ (λ u v. u +ℤ v)
         (int_sum-mul low (λ (e : Scaled). across x e.0) scaled ∙ ap (λ z. low *ℤ z) (over_first (across x) ∙ none_across x) ∙ same_value (low ∷ []) (var 0 ⊗ number (pos 0)) (number (pos 0)) refl)
@@ -424,31 +446,61 @@ module _ (segments : List Seg) (closed : (value : Point → ℤ) → int_sum (λ
         front : (z : ℤ) → pos 0 +ℤ z ≡ z
         front z = omega (arith, ints)
 
-    column_sign : pos 0 ≤ℤ column x
-    column_sign = subst (λ (z : ℤ). pos 0 ≤ℤ z) (sym column_is)
-        (up_sum-not_negative (λ y. int_sum (seen (spot n x y)) segments) (λ y. round (spot n x y) (spot_between n common.positive x y)) low (size + size))
+  column_sign : (x : ℤ) → pos 0 ≤ℤ column x
+  column_sign x =
+      let size = sizes (level x) scaled in
+      subst (λ (z : ℤ). pos 0 ≤ℤ z) (sym (column_is x size (omega arith)))
+      (up_sum-not_negative (λ y. int_sum (seen (spot n x y)) segments) (λ y. round (spot n x y) (spot_between n common.positive x y)) (neg_ℤ (pos size)) (size + size))
 
   abbrev wide : ℕ
   wide = sizes (λ (e : Scaled). e.0.a.x) scaled + sizes (λ (e : Scaled). e.0.b.x) scaled
 
-  columns_are : n *ℤ int_sum (λ (s : Seg). shoelace_term s.a s.b) segments ≡ up_sum column (neg_ℤ (pos wide)) (wide + wide)
-  columns_are =
+  columns_are : (width : ℕ) → wide ≤ width → n *ℤ int_sum (λ (s : Seg). shoelace_term s.a s.b) segments ≡ up_sum column (neg_ℤ (pos width)) (width + width)
+  columns_are width enough =
       ap (λ z. n *ℤ z) (sym (less_nothing _ _ _ (int_sum-sub (λ (s : Seg). shoelace_term s.a s.b) (λ s. s.b.x *ℤ s.b.y -ℤ s.a.x *ℤ s.a.y) segments) (closed (λ w. w.x *ℤ w.y))))
       ∙ sym (int_sum-mul n share segments)
       ∙ sym (over_first (λ s. n *ℤ share s))
-      ∙ sym (int_sum-agree (λ (e : Scaled). up_sum (λ x. across x e.0 *ℤ level x e) (neg_ℤ (pos wide)) (wide + wide)) (λ e. n *ℤ share e.0) scaled (λ k d l.
+      ∙ sym (int_sum-agree (λ (e : Scaled). up_sum (λ x. across x e.0 *ℤ level x e) (neg_ℤ (pos width)) (width + width)) (λ e. n *ℤ share e.0) scaled (λ k d l.
       let e = get_or scaled k d in
       let a = small (λ (e : Scaled). e.0.a.x) scaled k d l in
       let b = small (λ (e : Scaled). e.0.b.x) scaled k d l in
-      row_share n e wide (common.each k d l) (omega (arith, a)) (omega (arith, b))))
-      ∙ up_sum-swap (λ (e : Scaled) x. across x e.0 *ℤ level x e) scaled (neg_ℤ (pos wide)) (wide + wide)
+      row_share n e width (common.each k d l) (omega (arith, a, enough)) (omega (arith, b, enough))))
+      ∙ up_sum-swap (λ (e : Scaled) x. across x e.0 *ℤ level x e) scaled (neg_ℤ (pos width)) (width + width)
     where
       less_nothing : (d u v : ℤ) → d ≡ u -ℤ v → v ≡ pos 0 → d ≡ u
       less_nothing d u v e f = omega (arith, ints, e, f)
 
-  area_sign : pos 0 ≤ℤ int_sum (λ (s : Seg). shoelace_term s.a s.b) segments
+  pub area_sign : pos 0 ≤ℤ int_sum (λ (s : Seg). shoelace_term s.a s.b) segments
   area_sign = not_negative_from_mul n (int_sum (λ (s : Seg). shoelace_term s.a s.b) segments) common.positive
-      (subst (λ (z : ℤ). pos 0 ≤ℤ z) (sym columns_are) (up_sum-not_negative column column_sign (neg_ℤ (pos wide)) (wide + wide)))
+      (subst (λ (z : ℤ). pos 0 ≤ℤ z) (sym (columns_are wide (omega arith))) (up_sum-not_negative column column_sign (neg_ℤ (pos wide)) (wide + wide)))
+
+  -- where one column adds something, so does the whole
+  pub area_positive : (x : ℤ) → pos 0 <ℤ column x → pos 0 <ℤ int_sum (λ (s : Seg). shoelace_term s.a s.b) segments
+  area_positive x h =
+      let width = wide + (unsigned_abs x + 1) in
+      positive_from_mul n (int_sum (λ (s : Seg). shoelace_term s.a s.b) segments) common.positive
+      (subst (λ (z : ℤ). pos 0 <ℤ z) (sym (columns_are width (omega arith)))
+      (up_sum-positive column column_sign x (neg_ℤ (pos width)) (width + width) (start x wide) (end x wide) h))
+    where
+      start : (x : ℤ) (m : ℕ) → neg_ℤ (pos (m + (unsigned_abs x + 1))) ≤ℤ x
+      start x m = omega (arith, ints)
+
+      end : (x : ℤ) (m : ℕ) → x <ℤ (neg_ℤ (pos (m + (unsigned_abs x + 1))) +ℤ pos ((m + (unsigned_abs x + 1)) + (m + (unsigned_abs x + 1))))
+      end x m = omega (arith, ints)
+
+  -- and where one point does, so does its column
+  pub column_positive : (x y : ℤ) → pos 0 <ℤ int_sum (seen (spot n x y)) segments → pos 0 <ℤ column x
+  column_positive x y h =
+      let m = sizes (level x) scaled in
+      let size = m + (unsigned_abs y + 1) in
+      subst (λ (z : ℤ). pos 0 <ℤ z) (sym (column_is x size (omega arith)))
+      (up_sum-positive (λ y. int_sum (seen (spot n x y)) segments) (λ y. round (spot n x y) (spot_between n common.positive x y)) y (neg_ℤ (pos size)) (size + size) (start y m) (end y m) h)
+    where
+      start : (x : ℤ) (m : ℕ) → neg_ℤ (pos (m + (unsigned_abs x + 1))) ≤ℤ x
+      start x m = omega (arith, ints)
+
+      end : (x : ℤ) (m : ℕ) → x <ℤ (neg_ℤ (pos (m + (unsigned_abs x + 1))) +ℤ pos ((m + (unsigned_abs x + 1)) + (m + (unsigned_abs x + 1))))
+      end x m = omega (arith, ints)
 
 -- closed segments that go round no point clockwise have no negative area
 pub area_not_negative : (segments : List Seg) → ((value : Point → ℤ) → int_sum (λ s. value s.b -ℤ value s.a) segments ≡ pos 0)

@@ -1,5 +1,5 @@
 -- The areas of rings follow how often they go round points.
-use Rattle.std.proofs.Common.{◌≡◌, ℕ, Bool, true, false, cond, not, ◌&&◌, List, [], ◌∷◌, ◌++◌, map, flat_map, All, Contains, ℤ, pos, negsuc, neg_ℤ, ◌+ℤ◌, ◌-ℤ◌, ◌*ℤ◌, ◌≤ℤ◌, refl, sym, ap, ap₂, ◌∙◌, subst, arith}
+use Rattle.std.proofs.Common.{◌≡◌, ℕ, Bool, true, false, cond, not, ◌&&◌, List, [], ◌∷◌, ◌++◌, map, flat_map, All, Contains, ℤ, pos, negsuc, neg_ℤ, ◌+ℤ◌, ◌-ℤ◌, ◌*ℤ◌, ◌<ℤ◌, ◌≤ℤ◌, refl, sym, ap, ap₂, ◌∙◌, subst, arith}
 use Rattle.std.proofs.lemmas.Int.{ints}
 use Rattle.std.proofs.lemmas.List.Elements.{All-weaker}
 use Rattle.lemmas.proofs.Polynomials.{same_value, var, minus, ◌⊖◌, ◌⊗◌}
@@ -17,12 +17,13 @@ use Rattle.ring_walk.specs.Rings.{rings_of}
 use Rattle.ring_walk.specs.Areas.{ring_area, ring_segments}
 use Rattle.topo_write.specs.Polygons.{lines_of}
 use Rattle.topo_laws.specs.RingFaces.{slice_spans}
-use Rattle.picture_laws.specs.FaceRings.{winding, winding_part, all_segments, all_areas, RingAreasFollowWinding}
+use Rattle.picture_laws.specs.FaceRings.{winding, winding_part, all_segments, all_areas, IsMidway, RingAreasFollowWinding, RingAreasGrow}
 use Rattle.picture_laws.proofs.Sums.{int_sum, fold_is_sum, int_sum-append, int_sum-agree, int_sum-same, int_sum-zero, int_sum-sub, int_sum-map, int_sum-flat_map}
 use Rattle.picture_laws.proofs.ClosedRings.{closed_ring}
 use Rattle.picture_laws.proofs.RingAreas.{ring_terms}
 use Rattle.picture_laws.proofs.AlongSegment.{seen, winding_is_seen}
 use Rattle.picture_laws.proofs.AreaColumns.{area_not_negative}
+use Rattle.picture_laws.proofs.AreaGrowth.{midway_between, area_is_positive}
 
 -- ---- segments the other way round
 
@@ -64,47 +65,71 @@ module _ (m : BaseMap) (k : ℕ) where
       ∙ int_sum-same (ring_area (lines_of (slice m k).edges)) (λ r. int_sum (λ (s : Seg). shoelace_term s.a s.b) (ring_segments (lines_of (slice m k).edges) r)) (ring_terms (lines_of (slice m k).edges)) rings
       ∙ sym (int_sum-flat_map (λ (s : Seg). shoelace_term s.a s.b) (ring_segments (lines_of (slice m k).edges)) rings)
 
-pub ring_areas_follow_winding : RingAreasFollowWinding
-ring_areas_follow_winding m base planar k l qs rs in_q in_r less =
-    below _ _ _ (int_sum-append term more (map flip fewer) ∙ ap (λ z. int_sum term more +ℤ z) (int_sum-map term flip fewer ∙ int_sum-same (λ s. term (flip s)) (λ s. neg_ℤ (term s)) turned_term fewer ∙ int_sum-neg term fewer))
-    (areas_are m k qs) (areas_are m k rs) (area_not_negative (more ++ map flip fewer) closed round)
-  where
-    term : Seg → ℤ
-    term = λ s. shoelace_term s.a s.b
+  module _ (qs rs : List (List Side)) (in_q : All (Contains (rings_of (slice_spans m k))) qs) (in_r : All (Contains (rings_of (slice_spans m k))) rs)
+      (less : (p : Fraction) → IsBetweenColumns (line_through p) → winding p (all_segments m k qs) ≤ℤ winding p (all_segments m k rs)) where
+    -- the second rings, and the first ones the other way round
+    abbrev both : List Seg
+    both = all_segments m k rs ++ map flip (all_segments m k qs)
 
-    more : List Seg
-    more = all_segments m k rs
+    abbrev term : Seg → ℤ
+    term s = shoelace_term s.a s.b
 
-    fewer : List Seg
-    fewer = all_segments m k qs
-
-    below : {q r : ℤ} (whole a b : ℤ) → whole ≡ b +ℤ neg_ℤ a → q ≡ a → r ≡ b → pos 0 ≤ℤ whole → q ≤ℤ r
-    below whole a b e f g h = omega (arith, ints, e, f, g)
-
-    turned_term : (s : Seg) → shoelace_term s.b s.a ≡ neg_ℤ (shoelace_term s.a s.b)
-    turned_term s = same_value (s.a.x ∷ s.a.y ∷ s.b.x ∷ s.b.y ∷ []) (var 2 ⊗ var 1 ⊖ var 0 ⊗ var 3) (minus (var 0 ⊗ var 3 ⊖ var 2 ⊗ var 1)) refl
-
-    closed : (value : Point → ℤ) → int_sum (λ s. value s.b -ℤ value s.a) (all_segments m k rs ++ map flip (all_segments m k qs)) ≡ pos 0
-    closed value =
+    both_closed : (value : Point → ℤ) → int_sum (λ s. value s.b -ℤ value s.a) both ≡ pos 0
+    both_closed value =
         int_sum-append (λ (s : Seg). value s.b -ℤ value s.a) (all_segments m k rs) (map flip (all_segments m k qs))
-        ∙ ap₂ (λ u v. u +ℤ v) (all_closed m k rs in_r value)
+        ∙ ap₂ (λ u v. u +ℤ v) (all_closed rs in_r value)
         (int_sum-map (λ (s : Seg). value s.b -ℤ value s.a) flip (all_segments m k qs)
-        ∙ int_sum-same (λ s. value s.a -ℤ value s.b) (λ s. neg_ℤ (value s.b -ℤ value s.a)) (λ s. back (value s.a) (value s.b)) (all_segments m k qs)
-        ∙ int_sum-neg (λ (s : Seg). value s.b -ℤ value s.a) (all_segments m k qs) ∙ ap neg_ℤ (all_closed m k qs in_q value))
+        ∙ int_sum-same (λ (s : Seg). value s.a -ℤ value s.b) (λ s. neg_ℤ (value s.b -ℤ value s.a)) (λ s. back (value s.a) (value s.b)) (all_segments m k qs)
+        ∙ int_sum-neg (λ (s : Seg). value s.b -ℤ value s.a) (all_segments m k qs) ∙ ap neg_ℤ (all_closed qs in_q value))
       where
         back : (a b : ℤ) → a -ℤ b ≡ neg_ℤ (b -ℤ a)
         back a b = omega (arith, ints)
 
-    round : (p : Fraction) → IsBetweenColumns (line_through p) → pos 0 ≤ℤ int_sum (seen p) (all_segments m k rs ++ map flip (all_segments m k qs))
-    round p between =
-        subst (λ (z : ℤ). pos 0 ≤ℤ z) (sym (
-        sym (winding_is_seen p between (all_segments m k rs ++ map flip (all_segments m k qs)))
-        ∙ fold_is_sum (winding_part p) (all_segments m k rs ++ map flip (all_segments m k qs))
+    both_seen : (p : Fraction) → IsBetweenColumns (line_through p) → int_sum (seen p) both ≡ winding p (all_segments m k rs) +ℤ neg_ℤ (winding p (all_segments m k qs))
+    both_seen p between =
+        sym (winding_is_seen p between both)
+        ∙ fold_is_sum (winding_part p) both
         ∙ int_sum-append (winding_part p) (all_segments m k rs) (map flip (all_segments m k qs))
         ∙ ap₂ (λ u v. u +ℤ v) (sym (fold_is_sum (winding_part p) (all_segments m k rs)))
         (int_sum-map (winding_part p) flip (all_segments m k qs) ∙ int_sum-same (λ s. winding_part p (flip s)) (λ s. neg_ℤ (winding_part p s)) (turned_part p) (all_segments m k qs)
-        ∙ int_sum-neg (winding_part p) (all_segments m k qs) ∙ ap neg_ℤ (sym (fold_is_sum (winding_part p) (all_segments m k qs))))))
-        (more_than (winding p (all_segments m k rs)) (winding p (all_segments m k qs)) (less p between))
+        ∙ int_sum-neg (winding_part p) (all_segments m k qs) ∙ ap neg_ℤ (sym (fold_is_sum (winding_part p) (all_segments m k qs))))
+
+    both_round : (p : Fraction) → IsBetweenColumns (line_through p) → pos 0 ≤ℤ int_sum (seen p) both
+    both_round p between = subst (λ (z : ℤ). pos 0 ≤ℤ z) (sym (both_seen p between)) (more_than (winding p (all_segments m k rs)) (winding p (all_segments m k qs)) (less p between))
       where
         more_than : (a b : ℤ) → b ≤ℤ a → pos 0 ≤ℤ (a +ℤ neg_ℤ b)
         more_than a b h = omega (arith, ints)
+
+    both_area : int_sum (λ (s : Seg). shoelace_term s.a s.b) both ≡ all_areas m k rs +ℤ neg_ℤ (all_areas m k qs)
+    both_area =
+        int_sum-append (λ (s : Seg). shoelace_term s.a s.b) (all_segments m k rs) (map flip (all_segments m k qs))
+        ∙ ap₂ (λ u v. u +ℤ v) (sym (areas_are rs))
+        (int_sum-map (λ (s : Seg). shoelace_term s.a s.b) flip (all_segments m k qs)
+        ∙ int_sum-same (λ (s : Seg). shoelace_term s.b s.a) (λ s. neg_ℤ (shoelace_term s.a s.b)) turned_term (all_segments m k qs)
+        ∙ int_sum-neg (λ (s : Seg). shoelace_term s.a s.b) (all_segments m k qs) ∙ ap neg_ℤ (sym (areas_are qs)))
+      where
+        turned_term : (s : Seg) → shoelace_term s.b s.a ≡ neg_ℤ (shoelace_term s.a s.b)
+        turned_term s = same_value (s.a.x ∷ s.a.y ∷ s.b.x ∷ s.b.y ∷ []) (var 2 ⊗ var 1 ⊖ var 0 ⊗ var 3) (minus (var 0 ⊗ var 3 ⊖ var 2 ⊗ var 1)) refl
+
+    no_less : all_areas m k qs ≤ℤ all_areas m k rs
+    no_less = below (all_areas m k rs) (all_areas m k qs) (subst (λ (z : ℤ). pos 0 ≤ℤ z) both_area (area_not_negative both both_closed both_round))
+      where
+        below : (a b : ℤ) → pos 0 ≤ℤ (a +ℤ neg_ℤ b) → b ≤ℤ a
+        below a b h = omega (arith, ints)
+
+    more : (v : ℤ) (p : Fraction) → IsMidway p v → winding p (all_segments m k qs) <ℤ winding p (all_segments m k rs) → all_areas m k qs <ℤ all_areas m k rs
+    more v p midway h =
+        below (all_areas m k rs) (all_areas m k qs) (subst (λ (z : ℤ). pos 0 <ℤ z) both_area (area_is_positive p v midway both both_closed both_round
+        (subst (λ (z : ℤ). pos 0 <ℤ z) (sym (both_seen p (midway_between p v midway))) (more_than (winding p (all_segments m k rs)) (winding p (all_segments m k qs)) h))))
+      where
+        below : (a b : ℤ) → pos 0 <ℤ (a +ℤ neg_ℤ b) → b <ℤ a
+        below a b h = omega (arith, ints)
+
+        more_than : (a b : ℤ) → b <ℤ a → pos 0 <ℤ (a +ℤ neg_ℤ b)
+        more_than a b h = omega (arith, ints)
+
+pub ring_areas_follow_winding : RingAreasFollowWinding
+ring_areas_follow_winding m base planar k l qs rs in_q in_r less = no_less m k qs rs in_q in_r less
+
+pub ring_areas_grow : RingAreasGrow
+ring_areas_grow m base planar k l qs rs in_q in_r less v p midway h = more m k qs rs in_q in_r less v p midway h

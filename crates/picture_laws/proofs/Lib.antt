@@ -23,3 +23,4 @@ pub mod AlongSegment
 pub mod PassedEdges
 pub mod AreaColumns
 pub mod AreaSigns
+pub mod AreaGrowth

@@ -111,3 +111,17 @@ RingAreasFollowWinding =
     → (qs rs : List (List Side)) → All (Contains (rings_of (slice_spans m k))) qs → All (Contains (rings_of (slice_spans m k))) rs
     → ((p : Fraction) → IsBetweenColumns (line_through p) → winding p (all_segments m k qs) ≤ℤ winding p (all_segments m k rs))
     → all_areas m k qs ≤ℤ all_areas m k rs
+
+-- the point is midway between the abscissa v and the next whole one
+pub record IsMidway (p : Fraction) (v : ℤ) : Type 0 where
+  pub rational : pos 0 <ℤ p.d
+  pub half : pos 2 *ℤ p.nx ≡ p.d *ℤ (pos 2 *ℤ v +ℤ pos 1)
+
+-- Where they go round some point midway between two whole abscissas less often, they have less area together.
+abbrev pub RingAreasGrow : Type 0
+RingAreasGrow =
+    (m : BaseMap) → IsTrue (is_base m) → IsPartition (base_segments m) → (k : ℕ) → k ≤ length (history_of m)
+    → (qs rs : List (List Side)) → All (Contains (rings_of (slice_spans m k))) qs → All (Contains (rings_of (slice_spans m k))) rs
+    → ((p : Fraction) → IsBetweenColumns (line_through p) → winding p (all_segments m k qs) ≤ℤ winding p (all_segments m k rs))
+    → (v : ℤ) (p : Fraction) → IsMidway p v → winding p (all_segments m k qs) <ℤ winding p (all_segments m k rs)
+    → all_areas m k qs <ℤ all_areas m k rs

@@ -1,6 +1,6 @@
 //! Laws of the rings of a face.
 
-ghost use Rattle.picture_laws.specs.FaceRings.{RingsCoverFaces, RingsWindOnce, RingAreasAdd, RingAreasFollowWinding, RingsAreClosed, RingsWindAlike, RingsPassEdges};
+ghost use Rattle.picture_laws.specs.FaceRings.{RingsCoverFaces, RingsWindOnce, RingAreasAdd, RingAreasFollowWinding, RingAreasGrow, RingsAreClosed, RingsWindAlike, RingsPassEdges};
 
 /// A point is inside a face of a slice exactly where the ray up from it crosses an odd number of the segments of the face's rings.
 pub fn rings_cover_faces()
@@ -21,6 +21,11 @@ pub fn ring_areas_add()
 /// negative area.
 pub fn ring_areas_follow_winding()
     ensures { RingAreasFollowWinding }
+{}
+
+/// And where these go round some point midway between two whole abscissas less often, they have less area together.
+pub fn ring_areas_grow()
+    ensures { RingAreasGrow }
 {}
 
 /// A ring of a slice is closed: at each point as many of its segments begin as end.
