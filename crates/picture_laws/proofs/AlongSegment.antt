@@ -1,5 +1,5 @@
 -- A closed row of segments goes equally often round two points where it does not meet the straight way between them.
-use Rattle.std.proofs.Common.{◌≡◌, ◌≢◌, ◌⊎◌, inl, inr, Bool, true, false, cond, not, ◌&&◌, ◌||◌, List, [], ◌∷◌, All, ℤ, pos, negsuc, neg_ℤ, ◌+ℤ◌, ◌-ℤ◌, ◌*ℤ◌, ◌<ℤ◌, ◌≤ℤ◌, int_lt, refl, sym, ap, ap₂, ◌∙◌, subst, true≢false, arith}
+use Rattle.std.proofs.Common.{◌≡◌, Bool, true, false, cond, not, ◌&&◌, ◌||◌, List, [], ◌∷◌, All, ℤ, pos, negsuc, neg_ℤ, ◌+ℤ◌, ◌-ℤ◌, ◌*ℤ◌, ◌<ℤ◌, ◌≤ℤ◌, int_lt, refl, sym, ap, ap₂, ◌∙◌, subst, true≢false, arith}
 use Rattle.std.specs.Cmp.{both_ways}
 use Rattle.std.proofs.lemmas.Int.{ints, by_lt_z}
 use Rattle.std.proofs.lemmas.List.Elements.{All-weaker}
@@ -9,7 +9,7 @@ use Rattle.tgap_model.specs.declared.geometry.Point.{Point}
 use Rattle.tgap_model.specs.declared.geometry.Fraction.{Fraction}
 use Rattle.tgap_model.specs.declared.geometry.Seg.{Seg}
 use Rattle.tgap_model.specs.Point.{shoelace_term}
-use Rattle.tgap_model.specs.Segment.{IsBetweenColumns, line_through, goes_right, rightward, run, rise, height, is_on, is_above}
+use Rattle.tgap_model.specs.Segment.{IsBetweenColumns, line_through, goes_right, run, rise, height, is_on, is_above}
 use Rattle.removal_laws.proofs.Between.{is_between, is_on_from}
 use Rattle.slice_laws.proofs.Paths.{flip}
 use Rattle.slice_laws.proofs.Meetings.{on_flip}

@@ -10,7 +10,7 @@ use Rattle.tgap_model.specs.declared.geometry.Point.{Point}
 use Rattle.tgap_model.specs.declared.geometry.Fraction.{Fraction}
 use Rattle.tgap_model.specs.declared.geometry.Seg.{Seg}
 use Rattle.tgap_model.specs.Point.{shoelace_term}
-use Rattle.tgap_model.specs.Segment.{IsBetweenColumns, line_through, line_after, rightward, run, rise, height, is_above}
+use Rattle.tgap_model.specs.Segment.{IsBetweenColumns, line_through, line_after, run, rise, height, is_above}
 use Rattle.slice_laws.proofs.Paths.{flip}
 use Rattle.picture_laws.proofs.Sums.{int_sum, int_sum-agree, int_sum-map, int_sum-sub}
 use Rattle.picture_laws.proofs.RingWinds.{one_if}

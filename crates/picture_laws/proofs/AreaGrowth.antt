@@ -1,5 +1,5 @@
 -- Where closed segments that go round no point clockwise go round some point midway between whole abscissas, their area is positive.
-use Rattle.std.proofs.Common.{◌≡◌, ◌⊎◌, inl, inr, ⊎_elim, Bool, true, false, cond, List, [], ◌∷◌, map, All, ℤ, pos, neg_ℤ, ◌+ℤ◌, ◌-ℤ◌, ◌*ℤ◌, ◌<ℤ◌, ◌≤ℤ◌, int_lt, refl, sym, ap, ap₂, ◌∙◌, subst, true≢false, arith}
+use Rattle.std.proofs.Common.{◌≡◌, ⊎_elim, Bool, true, false, cond, List, [], ◌∷◌, map, ℤ, pos, neg_ℤ, ◌+ℤ◌, ◌-ℤ◌, ◌*ℤ◌, ◌<ℤ◌, ◌≤ℤ◌, int_lt, refl, sym, ap, ap₂, ◌∙◌, subst, true≢false, arith}
 use Rattle.std.specs.Cmp.{both_ways}
 use Rattle.std.proofs.lemmas.Int.{ints}
 use Rattle.std.proofs.lemmas.List.Elements.{All-weaker}
@@ -12,10 +12,10 @@ use Rattle.tgap_model.specs.Point.{shoelace_term}
 use Rattle.tgap_model.specs.Segment.{IsBetweenColumns, line_through, line_after, run, rise, height, is_above}
 use Rattle.slice_laws.proofs.Paths.{flip}
 use Rattle.picture_laws.specs.FaceRings.{IsMidway}
-use Rattle.picture_laws.proofs.Sums.{int_sum, int_sum-agree, int_sum-map}
+use Rattle.picture_laws.proofs.Sums.{int_sum, int_sum-agree}
 use Rattle.picture_laws.proofs.RingWinds.{one_if}
 use Rattle.picture_laws.proofs.AlongSegment.{is_right, seen}
-use Rattle.picture_laws.proofs.AreaColumns.{Scaled, IsScaled, HasMultiple, larger, firsts, larger_each, has_multiple, spot, level, half_less, half_back, right_same, over_same, over_first, area_positive, column_positive}
+use Rattle.picture_laws.proofs.AreaColumns.{Scaled, IsScaled, HasMultiple, larger, firsts, larger_each, has_multiple, spot, level, right_same, over_same, over_first, area_positive, column_positive}
 
 module _ (p : Fraction) (v : ℤ) (midway : IsMidway p v) where
   half : (a b : ℤ) → a <ℤ b → (pos 2 *ℤ a +ℤ pos 1) <ℤ (pos 2 *ℤ b)

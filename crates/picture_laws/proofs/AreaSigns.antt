@@ -1,5 +1,5 @@
 -- The areas of rings follow how often they go round points.
-use Rattle.std.proofs.Common.{◌≡◌, ℕ, Bool, true, false, cond, not, ◌&&◌, List, [], ◌∷◌, ◌++◌, map, flat_map, All, Contains, ℤ, pos, negsuc, neg_ℤ, ◌+ℤ◌, ◌-ℤ◌, ◌*ℤ◌, ◌<ℤ◌, ◌≤ℤ◌, refl, sym, ap, ap₂, ◌∙◌, subst, arith}
+use Rattle.std.proofs.Common.{◌≡◌, ℕ, Bool, true, false, cond, not, ◌&&◌, List, [], ◌∷◌, ◌++◌, map, All, Contains, ℤ, pos, neg_ℤ, ◌+ℤ◌, ◌-ℤ◌, ◌<ℤ◌, ◌≤ℤ◌, refl, sym, ap, ap₂, ◌∙◌, subst, arith}
 use Rattle.std.proofs.lemmas.Int.{ints}
 use Rattle.std.proofs.lemmas.List.Elements.{All-weaker}
 use Rattle.lemmas.proofs.Polynomials.{same_value, var, minus, ◌⊖◌, ◌⊗◌}
@@ -18,7 +18,7 @@ use Rattle.ring_walk.specs.Areas.{ring_area, ring_segments}
 use Rattle.topo_write.specs.Polygons.{lines_of}
 use Rattle.topo_laws.specs.RingFaces.{slice_spans}
 use Rattle.picture_laws.specs.FaceRings.{winding, winding_part, all_segments, all_areas, IsMidway, RingAreasFollowWinding, RingAreasGrow}
-use Rattle.picture_laws.proofs.Sums.{int_sum, fold_is_sum, int_sum-append, int_sum-agree, int_sum-same, int_sum-zero, int_sum-sub, int_sum-map, int_sum-flat_map}
+use Rattle.picture_laws.proofs.Sums.{int_sum, fold_is_sum, int_sum-append, int_sum-agree, int_sum-same, int_sum-zero, int_sum-map, int_sum-flat_map}
 use Rattle.picture_laws.proofs.ClosedRings.{closed_ring}
 use Rattle.picture_laws.proofs.RingAreas.{ring_terms}
 use Rattle.picture_laws.proofs.AlongSegment.{seen, winding_is_seen}

@@ -1,12 +1,12 @@
 -- Along an edge a ring that has none of its sides goes round each point equally often.
-use Rattle.std.proofs.Common.{◌≡◌, ◌≢◌, ◌⊎◌, inl, inr, ⊎_elim, ℕ, suc, ◌+◌, ◌<◌, ◌≤◌, ◌==◌, ◌&&◌, ◌||◌, Bool, true, false, List, [], ◌∷◌, map, reverse, flat_map, get_or, length, All, AllPairs, Contains, ℤ, pos, ◌+ℤ◌, ◌-ℤ◌, ◌*ℤ◌, ◌<ℤ◌, ◌≤ℤ◌, refl, sym, ap, ap₂, ◌∙◌, subst, eqb-true, true≢false, arith}
+use Rattle.std.proofs.Common.{◌≡◌, ◌≢◌, ◌⊎◌, inl, inr, ℕ, ◌+◌, ◌<◌, ◌≤◌, ◌==◌, ◌&&◌, ◌||◌, true, false, List, [], ◌∷◌, map, reverse, get_or, length, Contains, ℤ, pos, ◌-ℤ◌, ◌*ℤ◌, ◌<ℤ◌, ◌≤ℤ◌, refl, sym, ap, ap₂, ◌∙◌, subst, eqb-true, true≢false, arith}
 use Rattle.std.specs.Ordering.{int_eq}
 use Rattle.std.proofs.lemmas.Int.{ints, by_lt_z}
-use Rattle.std.proofs.lemmas.Bool.{and_parts, and_from, or_cases, cases_lt, cases_eq}
-use Rattle.std.proofs.lemmas.Bool.Decides.{Decides-int_eq, nat_tests}
+use Rattle.std.proofs.lemmas.Bool.{and_parts, and_from, or_cases, cases_lt}
+use Rattle.std.proofs.lemmas.Bool.Decides.{Decides-int_eq}
 use Rattle.std.proofs.lemmas.List.Elements.{All-contains, Contains-get_or}
 use Rattle.lemmas.proofs.Integers.{one-*ℤ}
-use Rattle.lemmas.proofs.Members.{All-from_members, in_cases, in_none, related_members, Contains-flat_map, Contains-from_flat_map}
+use Rattle.lemmas.proofs.Members.{All-from_members, related_members, Contains-flat_map, Contains-from_flat_map}
 use Rattle.lemmas.proofs.Polynomials.{same_value, var, ◌⊕◌, ◌⊖◌, ◌⊗◌}
 use Rattle.lemmas.proofs.Signs.{le_from_lt, le_from_same, same_from_le, le_from_sub, sub_not_negative, not_negative_from_mul, mul_not_negative, le_from_mul_right}
 use Rattle.tgap_model.specs.declared.geometry.Fraction.{Fraction}
@@ -16,12 +16,12 @@ use Rattle.tgap_model.specs.declared.segment.LabelledSegment.{LabelledSegment}
 use Rattle.tgap_model.specs.declared.slice.Edge.{Edge}
 use Rattle.tgap_model.specs.Base.{same_point}
 use Rattle.tgap_model.specs.Partition.{AreApart, is_empty, shared_ends, follows, path_segments, edge_segments}
-use Rattle.tgap_model.specs.Segment.{IsBetweenColumns, line_through, is_at, is_on, is_permitted}
+use Rattle.tgap_model.specs.Segment.{IsBetweenColumns, line_through, is_at, is_on}
 use Rattle.tgap_model.specs.Slice.{slice}
 use Rattle.map_laws.proofs.ChainMembers.{Among, append_among}
 use Rattle.map_laws.proofs.Lists.{map_among}
 use Rattle.removal_laws.proofs.Apart.{apart_turned, permitted_common, at_first, at_last}
-use Rattle.removal_laws.proofs.Between.{IsBetween, is_between}
+use Rattle.removal_laws.proofs.Between.{is_between}
 use Rattle.removal_laws.proofs.ChainEnds.{contained}
 use Rattle.slice_laws.proofs.Paths.{flip, path_reversed, reverse_cons}
 use Rattle.tgap_model.specs.Removals.{path}
