@@ -24,3 +24,4 @@ pub mod PassedEdges
 pub mod AreaColumns
 pub mod AreaSigns
 pub mod AreaGrowth
+pub mod FaceRingsPass

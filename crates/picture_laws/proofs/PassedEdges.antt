@@ -298,7 +298,7 @@ meets_at_end x t apart other z positive on and_on =
 -- ---- the law
 
 -- a segment of a side is one of its edge, in either direction
-side_segment : (edges : List Edge) (j : ℕ) (w : Way) (d : Edge) → j < length edges → (c : Seg) → Contains (segments_of (points_of (lines_of edges) (record { span = j; way = w }))) c
+pub side_segment : (edges : List Edge) (j : ℕ) (w : Way) (d : Edge) → j < length edges → (c : Seg) → Contains (segments_of (points_of (lines_of edges) (record { span = j; way = w }))) c
     → (t : Seg) × Among t (path (get_or edges j d).points) × ((z : Fraction) → is_on z c ≡ true → is_on z t ≡ true)
 side_segment edges j Along d l c m =
     let there = subst (λ (ps : List Point). Contains (segments_of ps) c) (line_points edges j d l) m in

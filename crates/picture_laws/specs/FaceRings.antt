@@ -13,8 +13,8 @@ use Rattle.tgap_model.specs.Slice.{slice}
 use Rattle.map_laws.specs.Inside.{is_inside}
 use Rattle.removal_laws.specs.InsideLaws.{is_over}
 use Rattle.ring_walk.specs.declared.side.Side.{Side}
-use Rattle.ring_walk.specs.Rings.{rings_of}
-use Rattle.ring_walk.specs.Areas.{ring_area, ring_segments, segments_of}
+use Rattle.ring_walk.specs.Rings.{rings_of, ring_face}
+use Rattle.ring_walk.specs.Areas.{points_of, ring_area, ring_segments, segments_of}
 use Rattle.topo_write.specs.Polygons.{lines_of, of_face}
 use Rattle.topo_laws.specs.RingFaces.{slice_spans}
 use Rattle.picture_laws.specs.Areas.{area_in}
@@ -96,6 +96,16 @@ RingsWindAlike =
     → (p q : Fraction) → IsBetweenColumns (line_through p) → IsBetweenColumns (line_through q)
     → ((z : Fraction) → IsOnWay p q z → All (λ s. is_on z s ≡ false) (ring_segments (lines_of (slice m k).edges) ring))
     → winding p (ring_segments (lines_of (slice m k).edges) ring) ≡ winding q (ring_segments (lines_of (slice m k).edges) ring)
+
+-- So of two rings of one face the one goes equally often round all points of an edge of the other.
+abbrev pub RingsOfFacePass : Type 0
+RingsOfFacePass =
+    (m : BaseMap) → IsTrue (is_base m) → IsPartition (base_segments m) → (k : ℕ) → k ≤ length (history_of m)
+    → (q r : List Side) → Contains (rings_of (slice_spans m k)) q → Contains (rings_of (slice_spans m k)) r
+    → q ≢ r → ring_face (slice_spans m k) q ≡ ring_face (slice_spans m k) r → (a : Side) → Contains r a
+    → (s t : Seg) → Contains (segments_of (points_of (lines_of (slice m k).edges) a)) s → Contains (segments_of (points_of (lines_of (slice m k).edges) a)) t
+    → (p z : Fraction) → IsBetweenColumns (line_through p) → IsBetweenColumns (line_through z) → is_on p s ≡ true → is_on z t ≡ true
+    → winding p (ring_segments (lines_of (slice m k).edges) q) ≡ winding z (ring_segments (lines_of (slice m k).edges) q)
 
 -- the segments of some rings of a slice, and their areas together
 abbrev pub all_segments : BaseMap → ℕ → List (List Side) → List Seg
