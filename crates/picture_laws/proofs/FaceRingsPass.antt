@@ -1,9 +1,8 @@
 -- Of two rings of one face, one winds equally often round all points of each edge of the other.
-use Rattle.std.proofs.Common.{◌≡◌, ◌≢◌, ◌⊎◌, inl, inr, ℕ, ◌<◌, Bool, true, false, List, [], ◌∷◌, ◌++◌, length, get_or, All, Contains, refl, sym, ap, ◌∙◌, subst, arith}
+use Rattle.std.proofs.Common.{◌≡◌, ◌≢◌, inl, inr, ℕ, ◌<◌, List, [], ◌∷◌, ◌++◌, length, get_or, All, Contains, refl, sym, ap, ◌∙◌, subst, arith}
 use Rattle.std.proofs.lemmas.List.{get_or_default}
 use Rattle.std.proofs.lemmas.List.Elements.{All-contains}
 use Rattle.lemmas.proofs.Members.{All-from_members, Contains-flat_map}
-use Rattle.tgap_model.specs.declared.geometry.Fraction.{Fraction}
 use Rattle.tgap_model.specs.declared.geometry.Seg.{Seg}
 use Rattle.tgap_model.specs.declared.slice.Edge.{Edge}
 use Rattle.tgap_model.specs.Removals.{path}
@@ -15,7 +14,6 @@ use Rattle.ring_walk.specs.declared.span.Span.{Span}
 use Rattle.ring_walk.specs.declared.side.Side.{Side}
 use Rattle.ring_walk.specs.declared.side.Way.{Way}
 use Rattle.ring_walk.specs.declared.side.Way.TheVariants.{Along, Against}
-use Rattle.ring_walk.specs.Areas.{segments_of}
 use Rattle.ring_walk.specs.Orbits.{sides_of}
 use Rattle.ring_walk.specs.Rings.{rings_of, ring_face}
 use Rattle.ring_walk.specs.Sides.{face_of, span_number}

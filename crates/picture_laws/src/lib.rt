@@ -1,5 +1,6 @@
 //! Laws of what a client draws: which face lies at a point, told by the edges of a window alone; what the windows of several areas make
-//! together; the areas of the faces of a slice, and the points that their rings enclose. The functions do nothing: the contract of
+//! together; the areas of the faces of a slice, and the points that their rings enclose, or the polygons that they are exported as;
+//! and how the areas of rings follow which points they go round. The functions do nothing: the contract of
 //! each is a law, which is proved with the crate. It stands on `tgap_model`, whose definitions the laws are about, on the laws of
 //! slices, of their windows and of the vertex removal, and on the rings that an export writes and their laws.
 #![tactic(auto)]
