@@ -1,14 +1,14 @@
 -- A ring is closed: what its segments gain of any value of points is nothing.
-use Rattle.std.proofs.Common.{◌≡◌, ℕ, zero, suc, ◌+◌, ◌<◌, Bool, false, cond, nat_lt, ℤ, pos, ◌+ℤ◌, ◌-ℤ◌, List, [], ◌∷◌, map, get_or, length, reverse, All, refl, sym, ap, ap₂, ◌∙◌, arith}
+use Rattle.std.proofs.Common.{◌≡◌, ℕ, zero, suc, ◌+◌, ◌<◌, Bool, false, cond, nat_lt, ℤ, pos, ◌+ℤ◌, ◌-ℤ◌, List, [], ◌∷◌, map, get_or, length, reverse, All, Contains, refl, sym, ap, ap₂, ◌∙◌, arith}
 use Rattle.std.proofs.lemmas.Int.{ints}
 use Rattle.std.proofs.lemmas.Bool.{lt-ltb}
 use Rattle.std.proofs.lemmas.Bool.Decides.{nat_tests}
 use Rattle.std.proofs.lemmas.List.Elements.{All-contains, Contains-get_or}
-use Rattle.lemmas.proofs.Members.{Contains-flat_map}
+use Rattle.lemmas.proofs.Members.{All-from_members, Contains-flat_map}
 use Rattle.tgap_model.specs.declared.geometry.Point.{Point}
 use Rattle.tgap_model.specs.declared.geometry.Seg.{Seg}
 use Rattle.tgap_model.specs.declared.slice.Edge.{Edge}
-use Rattle.tgap_model.specs.Base.{same_point}
+use Rattle.tgap_model.specs.Base.{BaseMap, same_point}
 use Rattle.tgap_model.specs.Chains.{first_point, last_point}
 use Rattle.tgap_model.specs.Removals.{path}
 use Rattle.tgap_model.specs.Slice.{slice}
@@ -140,19 +140,25 @@ module _ (value : Point → ℤ) (edges : List Edge) (ends : List EdgeEnds) (sam
       cancelled : (whole flat both ends next starts : ℤ) → whole ≡ flat → flat ≡ both → both ≡ ends -ℤ starts → ends ≡ next → next ≡ starts → whole ≡ pos 0
       cancelled whole flat both ends next starts e f g h i = omega (arith, ints, e, f, g, h, i)
 
+-- the segments of a ring of a slice gain nothing
+pub closed_ring : (m : BaseMap) (k : ℕ) (ring : List Side) → Contains (rings_of (slice_spans m k)) ring → (value : Point → ℤ)
+    → int_sum (λ s. value s.b -ℤ value s.a) (ring_segments (lines_of (slice m k).edges) ring) ≡ pos 0
+closed_ring m k ring has value =
+    let spans = slice_spans m k in
+    let orbits = rings_are_orbits spans in
+    let within : All (IsSide (length spans)) ring = All-from_members (IsSide (length spans)) ring (λ s c.
+    All-contains (IsSide (length spans)) (sides_of (rings_of spans)) s orbits.within (Contains-flat_map (λ (q : List Side). q) (rings_of spans) ring s has c)) in
+    ring_gain value (slice m k).edges (slice_ends m k) (paired m k) ring within (All-contains (IsRound (next_side spans)) (rings_of spans) ring orbits.round has)
+
 -- ---- the law
 
 pub rings_are_closed : RingsAreClosed
 rings_are_closed m base planar k l = λ i d n v.
     let edges = (slice m k).edges in
     let spans = slice_spans m k in
-    let orbits = rings_are_orbits spans in
     let ring = get_or (rings_of spans) i d in
-    let within : All (IsSide (length spans)) ring = λ j e o.
-    All-contains (IsSide (length spans)) (sides_of (rings_of spans)) (get_or ring j e) orbits.within
-    (Contains-flat_map (λ (q : List Side). q) (rings_of spans) ring (get_or ring j e) (Contains-get_or (rings_of spans) i d n) (Contains-get_or ring j e o)) in
     let segments = ring_segments (lines_of edges) ring in
-    let gained = ring_gain (λ p. one_if (same_point p v)) edges (slice_ends m k) (paired m k) ring within (orbits.round i d n) in
+    let gained = closed_ring m k ring (Contains-get_or (rings_of spans) i d n) (λ p. one_if (same_point p v)) in
     let parts = int_sum-sub (λ (s : Seg). one_if (same_point s.b v)) (λ s. one_if (same_point s.a v)) segments in
     let begun = count_is_sum (λ (s : Seg). same_point s.a v) segments in
     let ended = count_is_sum (λ (s : Seg). same_point s.b v) segments in

@@ -17,3 +17,11 @@ pub mod RingSums
 pub mod RingWinds
 pub mod RingAreas
 pub mod ClosedRings
+pub mod PolygonSums
+pub mod PolygonExamples
+pub mod AlongSegment
+pub mod PassedEdges
+pub mod AreaColumns
+pub mod AreaSigns
+pub mod AreaGrowth
+pub mod FaceRingsPass

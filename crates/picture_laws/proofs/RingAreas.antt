@@ -27,7 +27,7 @@ row_terms [] = refl
 row_terms (a ∷ []) = refl
 row_terms (a ∷ b ∷ points) = ap (λ z. shoelace_term a b +ℤ z) (row_terms (b ∷ points))
 
-ring_terms : (lines : List (List Point)) (ring : List Side) → ring_area lines ring ≡ int_sum term (ring_segments lines ring)
+pub ring_terms : (lines : List (List Point)) (ring : List Side) → ring_area lines ring ≡ int_sum term (ring_segments lines ring)
 ring_terms lines [] = refl
 ring_terms lines (s ∷ ring) =
     ap₂ (λ y z. y +ℤ z) (row_terms (points_of lines s)) (ring_terms lines ring)

@@ -1,19 +1,20 @@
 -- Laws of the rings of a face: which points they enclose, and how often they go round a point.
-use Rattle.std.specs.Prelude.{◌≡◌, ◌≢◌, ◌≤◌, ℕ, ℤ, pos, neg_ℤ, ◌+ℤ◌, List, flat_map, fold, length, count_by, All, if◌then◌else◌, IsTrue}
+use Rattle.std.specs.Prelude.{◌≡◌, ◌≢◌, ◌≤◌, ◌<◌, ℕ, true, false, ℤ, pos, neg_ℤ, ◌+ℤ◌, ◌*ℤ◌, ◌<ℤ◌, ◌≤ℤ◌, List, flat_map, fold, length, count_by, get_or, All, Contains, if◌then◌else◌, IsTrue}
 use Rattle.lemmas.specs.Parity.{is_odd}
 use Rattle.tgap_model.specs.declared.geometry.Fraction.{Fraction}
 use Rattle.tgap_model.specs.declared.geometry.Point.{Point}
 use Rattle.tgap_model.specs.declared.geometry.Seg.{Seg}
+use Rattle.tgap_model.specs.declared.slice.Edge.{Edge}
 use Rattle.tgap_model.specs.Base.{BaseMap, is_base, same_point}
-use Rattle.tgap_model.specs.Segment.{IsBetweenColumns, line_through, goes_right}
+use Rattle.tgap_model.specs.Segment.{IsBetweenColumns, line_through, goes_right, is_on}
 use Rattle.tgap_model.specs.Partition.{IsPartition, base_segments, edge_segments}
 use Rattle.tgap_model.specs.History.{history_of}
 use Rattle.tgap_model.specs.Slice.{slice}
 use Rattle.map_laws.specs.Inside.{is_inside}
 use Rattle.removal_laws.specs.InsideLaws.{is_over}
 use Rattle.ring_walk.specs.declared.side.Side.{Side}
-use Rattle.ring_walk.specs.Rings.{rings_of}
-use Rattle.ring_walk.specs.Areas.{ring_area, ring_segments}
+use Rattle.ring_walk.specs.Rings.{rings_of, ring_face}
+use Rattle.ring_walk.specs.Areas.{points_of, ring_area, ring_segments, segments_of}
 use Rattle.topo_write.specs.Polygons.{lines_of, of_face}
 use Rattle.topo_laws.specs.RingFaces.{slice_spans}
 use Rattle.picture_laws.specs.Areas.{area_in}
@@ -63,3 +64,74 @@ RingsAreClosed =
     → All (λ ring. (v : Point)
     → count_by (λ s. same_point s.a v) (ring_segments (lines_of (slice m k).edges) ring)
     ≡ count_by (λ s. same_point s.b v) (ring_segments (lines_of (slice m k).edges) ring)) (rings_of (slice_spans m k))
+
+-- Along an edge a ring that has none of its sides goes round each point equally often: at any two points between whole abscissas.
+abbrev pub RingsPassEdges : Type 0
+RingsPassEdges =
+    (m : BaseMap) → IsTrue (is_base m) → IsPartition (base_segments m) → (k : ℕ) → k ≤ length (history_of m)
+    → (ring : List Side) → Contains (rings_of (slice_spans m k)) ring
+    → (i : ℕ) (e : Edge) → i < length (slice m k).edges → get_or (slice m k).edges i e ≡ e → All (λ s. s.span ≢ i) ring
+    → (s t : Seg) → Contains (segments_of e.points) s → Contains (segments_of e.points) t
+    → (p q : Fraction) → IsBetweenColumns (line_through p) → IsBetweenColumns (line_through q) → is_on p s ≡ true → is_on q t ≡ true
+    → winding p (ring_segments (lines_of (slice m k).edges) ring) ≡ winding q (ring_segments (lines_of (slice m k).edges) ring)
+
+-- a point on the straight way from p to q: a mean of the two, with weights that are not negative
+pub record IsOnWay (p q z : Fraction) : Type 0 where
+  pub rational : pos 0 <ℤ z.d
+  pub total : ℤ
+  pub near : ℤ
+  pub far : ℤ
+  pub positive : pos 0 <ℤ total
+  pub near_sign : pos 0 ≤ℤ near
+  pub far_sign : pos 0 ≤ℤ far
+  pub over_x : total *ℤ z.nx ≡ near *ℤ p.nx +ℤ far *ℤ q.nx
+  pub over_y : total *ℤ z.ny ≡ near *ℤ p.ny +ℤ far *ℤ q.ny
+  pub under : total *ℤ z.d ≡ near *ℤ p.d +ℤ far *ℤ q.d
+
+-- A ring goes equally often round two points where no segment of it meets the straight way between them.
+abbrev pub RingsWindAlike : Type 0
+RingsWindAlike =
+    (m : BaseMap) → IsTrue (is_base m) → IsPartition (base_segments m) → (k : ℕ) → k ≤ length (history_of m)
+    → (ring : List Side) → Contains (rings_of (slice_spans m k)) ring
+    → (p q : Fraction) → IsBetweenColumns (line_through p) → IsBetweenColumns (line_through q)
+    → ((z : Fraction) → IsOnWay p q z → All (λ s. is_on z s ≡ false) (ring_segments (lines_of (slice m k).edges) ring))
+    → winding p (ring_segments (lines_of (slice m k).edges) ring) ≡ winding q (ring_segments (lines_of (slice m k).edges) ring)
+
+-- So of two rings of one face the one goes equally often round all points of an edge of the other.
+abbrev pub RingsOfFacePass : Type 0
+RingsOfFacePass =
+    (m : BaseMap) → IsTrue (is_base m) → IsPartition (base_segments m) → (k : ℕ) → k ≤ length (history_of m)
+    → (q r : List Side) → Contains (rings_of (slice_spans m k)) q → Contains (rings_of (slice_spans m k)) r
+    → q ≢ r → ring_face (slice_spans m k) q ≡ ring_face (slice_spans m k) r → (a : Side) → Contains r a
+    → (s t : Seg) → Contains (segments_of (points_of (lines_of (slice m k).edges) a)) s → Contains (segments_of (points_of (lines_of (slice m k).edges) a)) t
+    → (p z : Fraction) → IsBetweenColumns (line_through p) → IsBetweenColumns (line_through z) → is_on p s ≡ true → is_on z t ≡ true
+    → winding p (ring_segments (lines_of (slice m k).edges) q) ≡ winding z (ring_segments (lines_of (slice m k).edges) q)
+
+-- the segments of some rings of a slice, and their areas together
+abbrev pub all_segments : BaseMap → ℕ → List (List Side) → List Seg
+all_segments m k rings = flat_map (ring_segments (lines_of (slice m k).edges)) rings
+
+abbrev pub all_areas : BaseMap → ℕ → List (List Side) → ℤ
+all_areas m k rings = fold (λ sum r. sum +ℤ ring_area (lines_of (slice m k).edges) r) (pos 0) rings
+
+-- Rings that go round no point more often than others have no greater area together.
+abbrev pub RingAreasFollowWinding : Type 0
+RingAreasFollowWinding =
+    (m : BaseMap) → IsTrue (is_base m) → IsPartition (base_segments m) → (k : ℕ) → k ≤ length (history_of m)
+    → (qs rs : List (List Side)) → All (Contains (rings_of (slice_spans m k))) qs → All (Contains (rings_of (slice_spans m k))) rs
+    → ((p : Fraction) → IsBetweenColumns (line_through p) → winding p (all_segments m k qs) ≤ℤ winding p (all_segments m k rs))
+    → all_areas m k qs ≤ℤ all_areas m k rs
+
+-- the point is midway between the abscissa v and the next whole one
+pub record IsMidway (p : Fraction) (v : ℤ) : Type 0 where
+  pub rational : pos 0 <ℤ p.d
+  pub half : pos 2 *ℤ p.nx ≡ p.d *ℤ (pos 2 *ℤ v +ℤ pos 1)
+
+-- Where they go round some point midway between two whole abscissas less often, they have less area together.
+abbrev pub RingAreasGrow : Type 0
+RingAreasGrow =
+    (m : BaseMap) → IsTrue (is_base m) → IsPartition (base_segments m) → (k : ℕ) → k ≤ length (history_of m)
+    → (qs rs : List (List Side)) → All (Contains (rings_of (slice_spans m k))) qs → All (Contains (rings_of (slice_spans m k))) rs
+    → ((p : Fraction) → IsBetweenColumns (line_through p) → winding p (all_segments m k qs) ≤ℤ winding p (all_segments m k rs))
+    → (v : ℤ) (p : Fraction) → IsMidway p v → winding p (all_segments m k qs) <ℤ winding p (all_segments m k rs)
+    → all_areas m k qs <ℤ all_areas m k rs

@@ -4,3 +4,4 @@ pub mod Joined
 pub mod PlaceLaws
 pub mod Areas
 pub mod FaceRings
+pub mod FacePolygons
