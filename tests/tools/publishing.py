@@ -180,7 +180,7 @@ def served_maps(tests, examples):
     """A map that is served gives the archive of its file, with its version; after an edit that of the next one."""
     with lib.Server(tests.executable, examples / "two_squares.tgap", 2, 4) as server:
         made = tests.tool("publish", "--from", f"http://127.0.0.1:{server.port}/", "served")
-        tests.done("publish a map that is served", made, "map-9df972933948aac5.archive: 2 faces, 1 step")
+        tests.done("publish a map that is served", made, "map-19d83e60a64b1cef.archive: 2 faces, 1 step")
         found = json.loads((tests.folder / "served/map.json").read_text())
         tests.same("what map.json tells", (found["version"], found["history"], found["metadata"]), (0, None, None))
         tests.same("an edit", lib.asked_once(server, "POST", "/edit", b"move 20 10 24 10\n")[:3], (200, 1, b"published 1\n"))

@@ -6,10 +6,11 @@ import json
 import os
 import re
 
+from archive_format import FORMAT
+from archive_metadata import compact
 from command import OUTPUT, REFUSED, Failure
 
 MAP, NAME, NEW = "map.json", re.compile(r"map-[0-9a-f]{16}\.archive"), ".tgap-new-"
-FORMAT = 1
 
 
 def name_of(data):
@@ -90,7 +91,7 @@ def put(folder, data, told):
         os.fsync(handle)
         document = {"format": FORMAT, "archive": name, "bytes": len(data), **told}
         try:
-            written_whole(folder / MAP, (json.dumps(document, ensure_ascii=False) + "\n").encode())
+            written_whole(folder / MAP, compact(document) + b"\n")
         except Failure:
             if not before or before["archive"] != name:
                 (folder / name).unlink()
