@@ -1,7 +1,7 @@
 // A map without a server of maps: an archive of it, a file that any web server gives, read by ranges of bytes (docs/formats.md, "An archive"). What it gives is what
 // `Client` gives of a version, and the same calls read it.
 
-import { ArchiveFile, BadArchive, DiskBytes, FORMAT, LocalBytes, RemoteBytes, fromDisk, read, reached } from "./archive_file.js";
+import { ArchiveFile, BadArchive, DiskBytes, FORMAT, LocalBytes, RemoteBytes, fromDisk, read, reached, readInPieces } from "./archive_file.js";
 import { Cells, View } from "./cells.js";
 import { OtherHistory, OtherVersion, Refused, Told, Unreachable, sentenceOf } from "./errors.js";
 import { geojsonOf } from "./geojson.js";
@@ -9,7 +9,7 @@ import { metadataOf } from "./metadata.js";
 import { pictureOfWindow } from "./pictures.js";
 import { edgesOfFace, holdsPlace, lowestAbove, within } from "./places.js";
 import { joined } from "./requests.js";
-import { readCell, readSlice } from "./wire.js";
+import { cellInPieces, readSlice } from "./wire.js";
 
 export { BadArchive } from "./archive_file.js";
 export { View } from "./cells.js";
@@ -374,14 +374,11 @@ export class Archive extends EventTarget {
   }
 }
 
-/** Reads cells one after the other, so that between two of them a frame can be drawn, and gives each on to `take`. */
+/** Reads cells one after the other, so that frames can be drawn meanwhile, and gives each on to `take`. */
 async function readCells(file, cells, signal, take) {
   const nameOf = ({ number }) => `cell ${number}`;
   const texts = await file.texts(cells, nameOf, signal);
-  for (const [i, text] of texts.entries()) {
-    if (i > 0) await new Promise((resolve) => setTimeout(resolve));
-    take(cells[i], read(nameOf(cells[i]), readCell, text));
-  }
+  for (const [i, text] of texts.entries()) take(cells[i], await readInPieces(nameOf(cells[i]), cellInPieces(text)));
 }
 
 /** The metadata of an archive. */

@@ -3,6 +3,7 @@
 
 import { BadText, Lines } from "./lines.js";
 import { Refused, Unreachable, sentenceOf } from "./errors.js";
+import { inPieces } from "./pieces.js";
 import { joined } from "./requests.js";
 
 /** The version of the format that is read here. */
@@ -51,9 +52,22 @@ export function read(what, reader, text) {
   try {
     return reader(text);
   } catch (error) {
-    if (!(error instanceof BadText)) throw error;
-    throw new BadArchive(`${what} of the archive is not of its form: ${error.message}`);
+    throw ofArchive(what, error);
   }
+}
+
+/** What is read of the archive piece by piece. */
+export async function readInPieces(what, work) {
+  try {
+    return await inPieces(work);
+  } catch (error) {
+    throw ofArchive(what, error);
+  }
+}
+
+/** A text that is none of its kind makes no archive. */
+function ofArchive(what, error) {
+  return error instanceof BadText ? new BadArchive(`${what} of the archive is not of its form: ${error.message}`) : error;
 }
 
 /** The length and the sum of the index, as the first line of the file tells them. */

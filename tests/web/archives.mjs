@@ -7,7 +7,7 @@ import { Archive, BadArchive } from "../../clients/js/archive.js";
 import { Client, OtherHistory, OtherVersion, Refused, Unreachable } from "../../clients/js/client.js";
 import { metadataOf } from "../../clients/js/metadata.js";
 import { twiceAreaOf } from "../../clients/js/rings.js";
-import { sliceText, windowText } from "../../clients/js/wire.js";
+import { cellInPieces, readCell, sliceText, windowText } from "../../clients/js/wire.js";
 import { Tally, dice, endServing, examples, fetchAlone, gridListing, serve, thrown } from "./lib.mjs";
 import { PlainServer, publish } from "./published.mjs";
 
@@ -263,6 +263,53 @@ const NO_COLUMNS = [
   ...[[], [0], [0, 2], [2, 1], [-1, 1], [1, 1, 0, 1], [0, -1], [0, "1"], 7].map((of) => ({ id: [1, 2], attributes: { a: { of, values: [1] } } })),
 ];
 
+/** A scale stands for the finest step that the table of the metadata has for it. */
+async function findsStepsOfScales() {
+  const folder = path.join(room, "scales");
+  const known = JSON.parse(readFileSync(path.join(examples, "columbus.meta.json"), "utf8"));
+  const steps = [[0, 1000], [20, 5000], [40, 20000]].map(([step, scale]) => ({ step, faces: 49 - step, least: 1, scale }));
+  await publish(executable, folder, "columbus.json", "areas", "columbus.rules.json", "--meta", written("scales.meta.json", JSON.stringify({ ...known, steps })));
+  const plain = await PlainServer.start(folder);
+  try {
+    const archive = new Archive(plain.root);
+    for (const [scale, step] of [[1, 0], [1000, 0], [1001, 20], [5000, 20], [6000, 40], [20000, 40], [1e9, 40]]) {
+      const view = await archive.view(null, { scale });
+      tally.equal(`at 1 : ${scale}`, `${view.step} ${sliceText({ step, faces: view.faces, edges: view.edges }) === sliceText(await archive.slice(step))}`, `${step} true`);
+    }
+  } finally {
+    plain.stop();
+  }
+}
+
+/** A cell is read, and a view put together, in pieces of a record, between which a page draws its frames. */
+async function worksInPieces() {
+  const plain = await PlainServer.start(path.join(room, "map3"));
+  try {
+    const archive = new Archive(plain.root);
+    const { steps } = await archive.info();
+    const text = `window-packet 3 0 0 0 1 1\n${[3, 2, 1].map((step) => `step ${step} ${2 * step} ${2 * step + 1} ${9 * step} 1 0 0\nface ${2 * step} 0\n`).join("")}end\ninside 0\nend\n`;
+    const work = cellInPieces(text);
+    const seen = [work.next(), work.next(), work.next()].map(({ done }) => done);
+    tally.equal("a piece of a cell is a record", `${seen} ${JSON.stringify(work.next().value) === JSON.stringify(readCell(text))}`, "false,false,false true");
+    // A clock by which each piece takes as long as a frame.
+    const { now } = performance;
+    let [ticks, frames] = [0, 0];
+    let isOver = false;
+    const frame = () => isOver || (frames += 1, setTimeout(frame));
+    performance.now = () => (ticks += 5);
+    try {
+      frame();
+      await archive.view(null, 0);
+    } finally {
+      isOver = true;
+      performance.now = now;
+    }
+    tally.holds(`frames are drawn on the way to ${steps} steps: ${frames}`, frames > steps);
+  } finally {
+    plain.stop();
+  }
+}
+
 /** The metadata of an archive are those of its map, for one request at most, and a feature has the name and the attributes of its area; columns that are none are refused. */
 async function readsMetadata() {
   const plain = await PlainServer.start(path.join(room, "map0"));
@@ -282,6 +329,7 @@ async function readsMetadata() {
   } finally {
     plain.stop();
   }
+  await findsStepsOfScales();
   const example = { id: [7, 8, "sea"], name: ["Wood", null, null], made: { of: [2, 1], values: ["sea"] }, sources: { of: [2, 1], values: [[]] }, attributes: { height: { of: [0, 2], values: [12, 30] } } };
   const rows = [{ id: 7, name: "Wood", attributes: { height: 12 } }, { id: 8, name: null, attributes: { height: 30 } }, { id: "sea", name: null, made: "sea", sources: [], attributes: {} }];
   tally.equal("areas by columns", JSON.stringify(metadataOf({ faces: { first: 5, by: [1, -2] }, areas: example })), JSON.stringify({ faces: [5, 6, 4], areas: rows }));
@@ -423,6 +471,7 @@ try {
   await refusesWhatIsNotWhole();
   await refusesOtherFiles();
   await takesWholeFiles();
+  await worksInPieces();
   await goesOnFromTheNewest();
   await keepsToOneArchive();
   await givesUp();
