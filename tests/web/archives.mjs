@@ -293,7 +293,7 @@ async function worksInPieces() {
     tally.equal("a piece of a cell is a record", `${seen} ${JSON.stringify(work.next().value) === JSON.stringify(readCell(text))}`, "false,false,false true");
     // A clock by which each piece takes as long as a frame.
     const { now } = performance;
-    let [ticks, frames] = [0, 0];
+    let [ticks, frames] = [performance.now(), 0];
     let isOver = false;
     const frame = () => isOver || (frames += 1, setTimeout(frame));
     performance.now = () => (ticks += 5);
