@@ -1,14 +1,15 @@
 // A map without a server of maps: an archive of it, a file that any web server gives, read by ranges of bytes (docs/formats.md, "An archive"). What it gives is what
 // `Client` gives of a version, and the same calls read it.
 
-import { ArchiveFile, BadArchive, DiskBytes, LocalBytes, RemoteBytes, fromDisk, read, reached } from "./archive_file.js";
+import { ArchiveFile, BadArchive, DiskBytes, FORMAT, LocalBytes, RemoteBytes, fromDisk, read, reached, readInPieces } from "./archive_file.js";
 import { Cells, View } from "./cells.js";
 import { OtherHistory, OtherVersion, Refused, Told, Unreachable, sentenceOf } from "./errors.js";
 import { geojsonOf } from "./geojson.js";
+import { metadataOf } from "./metadata.js";
 import { pictureOfWindow } from "./pictures.js";
 import { edgesOfFace, holdsPlace, lowestAbove, within } from "./places.js";
 import { joined } from "./requests.js";
-import { readCell, readSlice } from "./wire.js";
+import { cellInPieces, readSlice } from "./wire.js";
 
 export { BadArchive } from "./archive_file.js";
 export { View } from "./cells.js";
@@ -31,7 +32,7 @@ const arePair = (it) => Array.isArray(it) && it.length === 2 && it.every(Number.
 function mustBeTold(told) {
   const wrong = (what) => new BadArchive(`map.json ${what}`);
   if (typeof told !== "object" || told === null) throw wrong("is no object of JSON");
-  if (told.format !== 1) throw wrong(`is of the format ${told.format}, and this client knows the format 1`);
+  if (told.format !== FORMAT) throw wrong(`is of the format ${told.format}, and this client knows the format ${FORMAT}`);
   if (typeof told.archive !== "string" || !NAME.test(told.archive)) throw wrong("names no archive beside it");
   if (![told.bytes, told.version, told.steps, told.faces].every(isCount)) throw wrong("does not tell length, version, steps and faces");
   if (told.history !== null && typeof told.history !== "string") throw wrong("has a history that is no text");
@@ -373,14 +374,11 @@ export class Archive extends EventTarget {
   }
 }
 
-/** Reads cells one after the other, so that between two of them a frame can be drawn, and gives each on to `take`. */
+/** Reads cells one after the other, so that frames can be drawn meanwhile, and gives each on to `take`. */
 async function readCells(file, cells, signal, take) {
   const nameOf = ({ number }) => `cell ${number}`;
   const texts = await file.texts(cells, nameOf, signal);
-  for (const [i, text] of texts.entries()) {
-    if (i > 0) await new Promise((resolve) => setTimeout(resolve));
-    take(cells[i], read(nameOf(cells[i]), readCell, text));
-  }
+  for (const [i, text] of texts.entries()) take(cells[i], await readInPieces(nameOf(cells[i]), cellInPieces(text)));
 }
 
 /** The metadata of an archive. */
@@ -388,7 +386,7 @@ async function metadataIn({ metadata }, file, signal) {
   // Where there are none, there are no bytes of them.
   if (metadata.length === 0) return null;
   const [text] = await file.texts([metadata], () => "the metadata", signal);
-  return parsed(text, "the metadata of the archive");
+  return metadataOf(parsed(text, "the metadata of the archive"));
 }
 
 /** The finest step whose faces, but for those that no step merges, have four square millimetres at 1 : N, by the table of the metadata. */

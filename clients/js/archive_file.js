@@ -3,8 +3,11 @@
 
 import { BadText, Lines } from "./lines.js";
 import { Refused, Unreachable, sentenceOf } from "./errors.js";
+import { inPieces } from "./pieces.js";
 import { joined } from "./requests.js";
 
+/** The version of the format that is read here. */
+export const FORMAT = 2;
 // The first request takes so much: head, index and slice of most maps, and their first cells.
 const FIRST_BYTES = 16384;
 const LONGEST_HEAD = 64;
@@ -49,9 +52,22 @@ export function read(what, reader, text) {
   try {
     return reader(text);
   } catch (error) {
-    if (!(error instanceof BadText)) throw error;
-    throw new BadArchive(`${what} of the archive is not of its form: ${error.message}`);
+    throw ofArchive(what, error);
   }
+}
+
+/** What is read of the archive piece by piece. */
+export async function readInPieces(what, work) {
+  try {
+    return await inPieces(work);
+  } catch (error) {
+    throw ofArchive(what, error);
+  }
+}
+
+/** A text that is none of its kind makes no archive. */
+function ofArchive(what, error) {
+  return error instanceof BadText ? new BadArchive(`${what} of the archive is not of its form: ${error.message}`) : error;
 }
 
 /** The length and the sum of the index, as the first line of the file tells them. */
@@ -59,8 +75,8 @@ function readHead(bytes) {
   const line = new TextDecoder("latin1").decode(bytes.subarray(0, LONGEST_HEAD)).split("\n", 1)[0];
   const kind = /^tgap-archive ([0-9]+) /.exec(line);
   if (!kind) throw new BadArchive("this is no archive of a map: it does not begin as one");
-  if (kind[1] !== "1") throw new BadArchive(`the archive has the format ${kind[1]}, and this client knows the format 1`);
-  const words = /^(tgap-archive 1 (0|[1-9][0-9]{0,9}) ([0-9a-f]{8})) ([0-9a-f]{8})$/.exec(line);
+  if (kind[1] !== String(FORMAT)) throw new BadArchive(`the archive has the format ${kind[1]}, and this client knows the format ${FORMAT}`);
+  const words = /^(tgap-archive [0-9]+ (0|[1-9][0-9]{0,9}) ([0-9a-f]{8})) ([0-9a-f]{8})$/.exec(line);
   if (!words || words[4] !== sumOf(bytes.subarray(0, words[1].length))) throw new BadArchive("the head of the archive is damaged");
   return { at: line.length + 1, length: Number(words[2]), sum: words[3] };
 }

@@ -2,6 +2,7 @@
 
 import { BadArchive } from "./archive_file.js";
 import { faceWithin } from "./pictures.js";
+import { atOnce, inPieces } from "./pieces.js";
 import { RefinedWindow, Unfit, clipped, touches } from "./replay.js";
 
 /** Whether two boxes overlap or touch. */
@@ -57,8 +58,6 @@ class Recent {
 // So many cells are kept as records, and the last windows of so many.
 const PARSED = 96;
 const LASTS = 64;
-// After so long a frame may be drawn.
-const MILLISECONDS_AT_ONCE = 4;
 
 /** The cells of one archive, of which the texts are read as they are wanted. */
 export class Cells {
@@ -122,36 +121,45 @@ export class Cells {
   }
 
   /** The window that a cell begins with. `records` has those of its parents. */
-  #first(cell, records) {
+  *#first(cell, records) {
     if (!cell.parent) return new RefinedWindow({ ...this.#slice, area: this.bounds });
-    return clipped(this.last(cell.parent, records), cell.area);
+    return clipped(yield* this.last(cell.parent, records), cell.area);
   }
 
-  /** The window of a cell at a step, by its records and those of its parents. */
-  at(cell, step, records) {
-    const window = this.#first(cell, records);
-    if (step < cell.from) advance(window, records.get(cell), step);
+  /** The window of a cell at a step, by its records and those of its parents: in pieces, as what follows. */
+  *at(cell, step, records) {
+    const window = yield* this.#first(cell, records);
+    yield;
+    if (step < cell.from) yield* advance(window, records.get(cell), step);
     return window;
   }
 
   /** The window that a cell ends with, which is not to be changed. */
-  last(cell, records) {
+  *last(cell, records) {
     const known = this.#lasts.get(cell);
     if (known) return known;
-    const window = this.at(cell, cell.to, records);
+    const window = yield* this.at(cell, cell.to, records);
     this.#lasts.set(cell, window);
     return window;
   }
+
+  /** The windows of the cells that show an area at a step, by cell. */
+  *live(area, step, records) {
+    const live = new Map();
+    for (const cell of this.showing(area, step)) live.set(cell, yield* this.at(cell, step, records));
+    return live;
+  }
 }
 
-/** Takes the window of a cell to a finer step, by the records of the cell above that. */
-function advance(window, { records }, step) {
+/** Takes the window of a cell to a finer step, by the records of the cell above that; a record is a piece. */
+function* advance(window, { records }, step) {
   try {
     // They stand by descending step, and those above the window's have been undone.
     let at = firstUpTo(records, window.step);
     for (; at < records.length && records[at].step > step; at++) {
       window.step = records[at].step;
       window.undo(records[at]);
+      yield;
     }
     window.step = step;
   } catch (error) {
@@ -192,25 +200,9 @@ export class View {
     this.add(records, step);
   }
 
-  /** What an area shows at a step, by the records that lead there. It is put together cell by cell, and frames can be drawn between. */
+  /** What an area shows at a step, by the records that lead there. It is put together piece by piece, and frames can be drawn between. */
   static async of(cells, area, step, records) {
-    let end = performance.now() + MILLISECONDS_AT_ONCE;
-    const rest = async () => {
-      if (performance.now() < end) return;
-      await new Promise((resolve) => setTimeout(resolve));
-      end = performance.now() + MILLISECONDS_AT_ONCE;
-    };
-    // Parents come first, so that none has to wait for its own.
-    for (const cell of records.keys()) {
-      if (cell.to > step) cells.last(cell, records);
-      await rest();
-    }
-    const live = new Map();
-    for (const cell of cells.showing(area, step)) {
-      live.set(cell, cells.at(cell, step, records));
-      await rest();
-    }
-    return new View(cells, area, step, records, live);
+    return new View(cells, area, step, records, await inPieces(cells.live(area, step, records)));
   }
 
   /** What a smaller area within its own shows at its step. */
@@ -244,7 +236,7 @@ export class View {
   /** Where a cell ends before the step, its children that meet the area go on from it. */
   #onward(cell, window, step, live) {
     const last = Math.max(step, cell.to);
-    if (last < window.step) advance(window, this.#records.get(cell), last);
+    if (last < window.step) atOnce(advance(window, this.#records.get(cell), last));
     if (step >= cell.to) return live.set(cell, window);
     for (const child of this.#cells.childrenOf(cell).filter((it) => meet(it.area, this.area))) {
       this.#onward(child, clipped(window, child.area), step, live);

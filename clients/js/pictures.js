@@ -67,13 +67,24 @@ export function pictureAtOnce(window, seen, found = null) {
   return new Picture({ seen, step: window.step, area: { ...window.area }, faces, edges: [...window.edges.values()], ...drawn, corner });
 }
 
+// The parts of lines in the box of which they were asked for last, by their points: from one frame to the next most lines stay.
+const known = new WeakMap();
+
+function partsKnown(points, box) {
+  const last = known.get(points);
+  if (last && ["x0", "y0", "x1", "y1"].every((end) => last.box[end] === box[end])) return last.parts;
+  const parts = partsIn(points, box);
+  known.set(points, { box, parts });
+  return parts;
+}
+
 /** Half a unit within a window no vertex lies on the frame, and no border runs along it. */
 const frameOf = ({ x0, y0, x1, y1 }) => ({ x0: x0 + 0.5, y0: y0 + 0.5, x1: x1 - 0.5, y1: y1 - 0.5 });
 
 /** What is drawn of a window: the parts of its edges in a box, and the face in the upper left corner of this; null where no border runs through it. */
 function drawnOf(window) {
   const box = frameOf(window.area);
-  const lines = [...window.edges.values()].flatMap((edge) => partsIn(edge.points, box).map((points) => ({ points, left: edge.left, right: edge.right })));
+  const lines = [...window.edges.values()].flatMap((edge) => partsKnown(edge.points, box).map((points) => ({ points, left: edge.left, right: edge.right })));
   return { lines, box, corner: faceOfCorner(lines, box) };
 }
 

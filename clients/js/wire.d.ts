@@ -116,3 +116,5 @@ export interface CellText extends WindowPacket {
 }
 
 export function readCell(text: string): CellText;
+/** The same in pieces: it yields behind each record. */
+export function cellInPieces(text: string): Generator<void, CellText>;

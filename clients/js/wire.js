@@ -1,6 +1,7 @@
 // The texts of slices, windows and packets, read and written (docs/formats.md). A reader throws BadText with the first line that is not of its form.
 
 import { BadText, Lines } from "./lines.js";
+import { atOnce } from "./pieces.js";
 
 export { BadText };
 
@@ -136,14 +137,15 @@ export function readWindowPacket(text) {
   return { from, to, area, records };
 }
 
-/** The records of a packet from which those that change nothing may be left out. */
-function readSparseRecords(lines, from, to) {
+/** The records of a packet from which those that change nothing may be left out; a record is a piece. */
+function* sparseRecords(lines, from, to) {
   const records = [];
   while (lines.begins("step")) {
     const record = readWindowRecord(lines);
     const last = records.length === 0 ? from + 1 : records.at(-1).step;
     if (record.step >= last || record.step <= to) lines.fail();
     records.push(record);
+    yield;
   }
   lines.next("end", 0);
   return records;
@@ -162,10 +164,13 @@ function readInside(lines, from, to) {
 }
 
 /** A cell of an archive: a packet of a window without the records that change nothing, and the faces of its `inside`. */
-export function readCell(text) {
+export const readCell = (text) => atOnce(cellInPieces(text));
+
+/** The same in pieces, between which something else may be done. */
+export function* cellInPieces(text) {
   const lines = new Lines(text);
   const { from, to, area } = readPacketOfWindow(lines);
-  const records = readSparseRecords(lines, from, to);
+  const records = yield* sparseRecords(lines, from, to);
   const inside = readInside(lines, from, to);
   lines.end();
   return { from, to, area, records, inside };

@@ -5,12 +5,13 @@ import subprocess
 import sys
 
 import lib
-from plain_archive import PlainArchive, face_inside, file_of, runs_through, told
+from plain_archive import PlainArchive, face_inside, file_of, read_metadata, runs_through, told
 
 # Behind the folder of these tests, which has modules of names that the others have too.
 sys.path += [str(lib.TOP / path) for path in ("tests/sweep", "tests/trials", "bench", "tools/lib")]
 import archive_check  # noqa: E402
 import archive_format  # noqa: E402
+import archive_metadata  # noqa: E402
 import command  # noqa: E402
 from maps import bent_cells, cells, coast, islands, jagged_cells, nested_rings, star, write  # noqa: E402
 from plain_windows import window  # noqa: E402
@@ -36,6 +37,11 @@ end
 MAPS = [(bent_cells, 5, 16, 4), (jagged_cells, 4, 1000, 2), (coast, 8, 16, 2), (islands, 3, 16, 3), (nested_rings, 6, 16, 2), (star, 4, 1, 2), (cells, 4, 0, 1),
         (bent_cells, 1, 16, 1)]
 VIEWS = 20
+# The example of docs/formats.md: areas, and how they stand in an archive.
+AREAS = [{"id": 7, "name": "Wood", "attributes": {"height": 12}}, {"id": 8, "name": None, "attributes": {"height": 30}},
+         {"id": "sea", "name": None, "made": "sea", "sources": [], "attributes": {}}]
+COLUMNS = (b'"areas":{"id":[7,8,"sea"],"name":["Wood",null,null],"made":{"of":[2,1],"values":["sea"]},"sources":{"of":[2,1],"values":[[]]},'
+           b'"attributes":{"height":{"of":[0,2],"values":[12,30]}}}')
 
 
 def test(tests, examples):
@@ -47,6 +53,7 @@ def test(tests, examples):
     for number in range(3):
         patches(tests, number)
     topologies(tests, examples)
+    by_columns(tests)
     turned_bytes(tests, examples)
     unsound(tests, examples)
 
@@ -66,9 +73,9 @@ def two_squares(tests, examples):
     tests.same("the lengths and sums of its chunks", (of_slice, of_cell), ("70 c97edf18", "124 81b368bf"))
     path, found = published(tests, [examples / "two_squares.tgap"], "squares")
     tests.same("the archive of two squares", path.read_bytes(), file_of(index, first, second))
-    tests.same("its length and head", (len(path.read_bytes()), path.read_bytes().split(b"\n")[0]), (327, b"tgap-archive 1 97 2e78ca49 ec51faec"))
-    tests.same("its name", path.name, "map-9df972933948aac5.archive")
-    tests.same("map.json", found, {"format": 1, "archive": "map-9df972933948aac5.archive", "bytes": 327, "version": 0, "history": None, "steps": 1, "faces": 2,
+    tests.same("its length and head", (len(path.read_bytes()), path.read_bytes().split(b"\n")[0]), (327, b"tgap-archive 2 97 2e78ca49 519b9622"))
+    tests.same("its name", path.name, "map-19d83e60a64b1cef.archive")
+    tests.same("map.json", found, {"format": 2, "archive": "map-19d83e60a64b1cef.archive", "bytes": 327, "version": 0, "history": None, "steps": 1, "faces": 2,
                                    "bounds": [0, 0, 20, 10], "transform": {"scale": [1, 1], "translate": [0, 0]}, "metadata": None})
     made = tests.tool("publish", "--check", path)
     tests.same("the check of it", (made.returncode, made.stdout), (0, "ok 2 faces 1 step 1 cell\n"))
@@ -155,22 +162,64 @@ def patches(tests, number):
 
 
 def topologies(tests, examples):
-    """The metadata of a topology go with it: those beside it, byte for byte, or what it tells by itself."""
+    """The metadata of a topology go with it: those beside it, each value of them, or what it tells by itself."""
     words = [examples / "columbus.json", "areas", examples / "columbus.rules.json"]
     path, found = published(tests, words, "columbus")
-    text = (examples / "columbus.meta.json").read_bytes()
-    tests.same("the metadata in the archive", PlainArchive(path.read_bytes()).metadata, text)
-    whole = json.loads(text)
+    whole = json.loads((examples / "columbus.meta.json").read_bytes())
+    tests.same("the metadata in the archive", json.dumps(read_metadata(PlainArchive(path.read_bytes()).metadata)), json.dumps(whole))
     tests.same("those of map.json", found["metadata"], {key: value for key, value in whole.items() if key not in ("faces", "areas")})
     tests.same("the transform", found["transform"], whole["transform"])
     tests.done("the check of a topology", tests.tool("publish", "--check", path, *words), "ok 49 faces 48 steps 1 cell")
     before = path.read_bytes()
     path, found = published(tests, words, "columbus", "--meta", "none")
-    told_ = json.loads(PlainArchive(path.read_bytes()).metadata)
+    told_ = read_metadata(PlainArchive(path.read_bytes()).metadata)
     tests.same("without a file", (len(told_["areas"]), told_["faces"], found["metadata"]["name"]), (49, list(range(49)), "columbus"))
     tests.same("the cells are the same", PlainArchive(before).cells[0].text, PlainArchive(path.read_bytes()).cells[0].text)
     made = tests.tool("publish", *words, "columbus", "--meta", examples / "columbus.rules.json")
     tests.refused("metadata that are none", made, 4, "is no metadata of a map")
+    whole["areas"][0]["attributes"]["odd"] = float("nan")
+    made = tests.tool("publish", *words, "columbus", "--meta", tests.write("odd.meta.json", whole))
+    tests.refused("a number that JSON has not", made, 4, f"the metadata of {words[0]} are no JSON object")
+
+
+def some_value(chance):
+    return chance.choice([None, True, "", "\u00e9\"\\", "\ud800", 0, -1, 7, 2**52 - 1, 2**60, -(2**70), 0.1, 1e300, 74.0, [1, {"a": None}], {"first": 1, "by": []}])
+
+
+def some_areas(chance, count):
+    """Areas of which each has an id, and some of them any other members."""
+    ids = [place + 1 for place in range(count)] if chance.random() < 0.5 else [some_value(chance) for _ in range(count)]
+    names = ["name", "made", "__proto__", "7", "of", "first"]
+
+    def some():
+        return {name: some_value(chance) for name in names if chance.random() < 0.6}
+    return [{"id": one, **some(), "attributes": some()} for one in ids]
+
+
+def by_columns(tests):
+    """Metadata are written by columns: the example of docs/formats.md, any others, and those whose columns are none."""
+    tests.same("the areas by columns", archive_metadata.text_of({"areas": AREAS}), b"{" + COLUMNS + b"}")
+    tests.same("faces that count up", archive_metadata.text_of({"faces": list(range(100, 140))}), b'{"faces":{"first":100,"by":[' + b",".join([b"1"] * 39) + b"]}}")
+    for stays in ([], ["a"], [2**52] * 9, [True] * 9, [0.5] * 9, [3, 1, 2]):
+        tests.same(f"faces {stays} stay a list", json.loads(archive_metadata.text_of({"faces": stays}))["faces"], stays)
+    for areas in ([7], [{"attributes": {}}], [{"id": 1}], [{"id": 1, "attributes": None}], "none", None):
+        text = archive_metadata.text_of({"areas": areas})
+        tests.same(f"the areas {areas} stand as they are", [json.loads(text), archive_metadata.document_of(text)], [{"areas": areas}] * 2)
+    chance = random.Random("columns")
+    for number in range(200):
+        areas = some_areas(chance, number // 8)
+        document = {"name": "map", "faces": [chance.randint(0, 10 ** chance.randint(1, 12)) for _ in range(number // 8)], "areas": areas}
+        text = archive_metadata.text_of(document)
+        same = [json.dumps(found, sort_keys=True) for found in (document, read_metadata(text), archive_metadata.document_of(text))]
+        tests.same(f"metadata of {len(areas)} areas, {number}", same[1:], [same[0]] * 2)
+    for areas in ({}, {"id": [1]}, {"attributes": {}}, {"id": [1], "attributes": []}, {"id": [1], "name": [1, 2], "attributes": {}}, {"id": 7, "attributes": {}},
+                  {"id": [1], "attributes": {"a": []}}, {"id": {"first": 1, "by": ["1"]}, "attributes": {}}, {"id": {"first": 0.5, "by": []}, "attributes": {}},
+                  {"id": {"of": [0, 1], "values": [1]}, "attributes": {}}, *({"id": [1, 2], "attributes": {"a": {"of": runs, "values": [1]}}} for runs in
+                  ([], [0], [0, 2], [2, 1], [-1, 1], [1, 1, 0, 1], [0, -1], [0, "1"], 7))):
+        try:
+            tests.same(f"columns that are none: {areas}", archive_metadata.document_of(json.dumps({"areas": areas})), "refused")
+        except ValueError as error:
+            tests.same(f"columns that are none: {areas}", str(error), "metadata")
 
 
 # ---- archives with a fault
@@ -198,7 +247,7 @@ def turned_bytes(tests, examples):
     tests.tell("cut at each byte", [f"let through at {passed}"] * bool(passed))
     tests.tell("sentences of one line", [f"{one!r}" for one in sentences if "\n" in one or not one.startswith("file is ")])
     for name, changed, part in [("cut", data[:-1], "is cut: it ends within the cell"), ("long", data + b"\0", "its end is followed by 1 byte"),
-                                ("head", b"tgap-archive 2" + data[14:], "of the format 2, and this tool reads format 1"), ("empty", b"", "is no archive"),
+                                ("head", b"tgap-archive 1" + data[14:], "of the format 1, and this tool reads format 2"), ("empty", b"", "is no archive"),
                                 ("text", b"tgap 1\n", "is no archive"), ("turned", data[:-1] + bytes([data[-1] ^ 1]), "is damaged: its cell")]:
         (tests.folder / "faulty").write_bytes(changed)
         tests.refused(f"an archive with another {name}", tests.tool("publish", "--check", "faulty"), 4, part)
@@ -234,7 +283,8 @@ def unsound(tests, examples):
              ("more steps than faces", dict(index=b"archive 3 2 0 0 20 10 1"), "line 1 of its index"),
              ("children that are not there", dict(row=b"cell 1 1"), "line 5 of its index"),
              ("metadata of another map", dict(metadata=b'{"faces": [0]}'), "its metadata are not those"),
-             ("metadata that are no JSON", dict(metadata=b"{"), "its metadata are not those")]
+             ("metadata that are no JSON", dict(metadata=b"{"), "its metadata are not those"),
+             ("columns that are none", dict(metadata=b'{"areas":{"id":[1],"name":[],"attributes":{}}}'), "its metadata are not those")]
     for name, changed, part in cases:
         sentence = refusal(made(**changed))
         tests.tell(f"an archive with {name}", [f"{sentence!r}, and not {part!r}"] * (sentence is None or part not in sentence))

@@ -1,5 +1,6 @@
 """A slow plain reader of archives by docs/formats.md. It is made to be compared with the tool, and shares nothing with it."""
 import fractions
+import json
 import struct
 import sys
 import zlib
@@ -34,7 +35,7 @@ def told(text):
 def file_of(index, *chunks):
     """The bytes of an archive with this text as its index."""
     words, data = told(index)
-    head = f"tgap-archive 1 {words}".encode()
+    head = f"tgap-archive 2 {words}".encode()
     return head + f" {zlib.crc32(head):08x}\n".encode() + b"".join([data, *chunks])
 
 
@@ -51,7 +52,7 @@ class PlainArchive:
     def __init__(self, data):
         head, rest = data.split(b"\n", 1)
         word, form, *numbers = head.split(b" ")
-        assert (word, form) == (b"tgap-archive", b"1") and len(head) < 64 and b"%08x" % zlib.crc32(head[:-9]) == numbers[2]
+        assert (word, form) == (b"tgap-archive", b"2") and len(head) < 64 and b"%08x" % zlib.crc32(head[:-9]) == numbers[2]
         length = int(numbers[0])
         assert b"%08x" % zlib.crc32(rest[:length]) == numbers[1]
         self.rest = rest[length:]
@@ -120,6 +121,42 @@ def read_cell(cell):
     rows = [lines.words(b"at", [ANY] * 3) for _ in range(*lines.words(b"inside", [ANY]))]
     lines.end()
     return records, rows
+
+
+# ---- the metadata
+
+
+def read_metadata(text):
+    """The metadata that a text of an archive tells, as the map has them."""
+    found = json.loads(text)
+    areas = found.get("areas")
+    if isinstance(found.get("faces"), dict):
+        found["faces"] = list(column(found["faces"], None).values())
+    if not isinstance(areas, dict):
+        return found
+    places = range(len(column(areas["id"], None)))
+    found["areas"] = [row(areas, place, len(places)) for place in places]
+    return found
+
+
+def row(columns, place, count):
+    """What columns have of one place; those of `attributes` are the columns of an object of its own."""
+    columns = {name: row(one, place, count) if name == "attributes" else column(one, count) for name, one in columns.items()}
+    return {name: one if name == "attributes" else one[place] for name, one in columns.items() if name == "attributes" or place in one}
+
+
+def column(told_of, count):
+    """The values of a column by their places."""
+    if isinstance(told_of, list):
+        values = told_of
+    elif "of" in told_of:
+        runs = told_of["of"]
+        places = [place for at in range(0, len(runs), 2) for place in range(runs[at], runs[at] + runs[at + 1])]
+        return dict(zip(places, column(told_of["values"], None).values(), strict=True))
+    else:
+        values = [told_of["first"] + sum(told_of["by"][:at]) for at in range(len(told_of["by"]) + 1)]
+    assert count in (None, len(values))
+    return dict(enumerate(values))
 
 
 # ---- the inside of a cell, in fractions

@@ -1,4 +1,6 @@
 """Tests how tools/publish puts an archive into a folder: whole or not at all, whatever stops it, and how it reads a server whose map is edited meanwhile."""
+import contextlib
+import errno
 import http.server
 import json
 import os
@@ -24,7 +26,9 @@ def test(tests, examples):
     stopped_anywhere(tests)
     killed(tests, examples)
     several_at_once(tests, examples)
+    interrupted(tests, examples)
     no_room(tests, examples)
+    full_disk(tests, examples)
     what_stays(tests, examples)
     served_maps(tests, examples)
     edited_meanwhile(tests, examples)
@@ -77,17 +81,19 @@ def stopped_anywhere(tests):
     tests.same("old and new were seen", len(seen), 2)
 
 
-def stops_at(folder, data, count):
-    """Puts an archive by a process that kills itself before its call of this number; False where it came to its end."""
+def stops_at(folder, data, count, fault=None):
+    """Puts an archive by a process that kills itself before its call of this number, or to which this call has the fault; False where it came to its end."""
     child = os.fork()
     if child == 0:
         left = [count]
 
         def stopping(call):
             def called(*words, **more):
-                if left[0] == 0:
-                    os.kill(os.getpid(), signal.SIGKILL)
                 left[0] -= 1
+                if left[0] == -1 and fault:
+                    raise fault
+                if left[0] == -1:
+                    os.kill(os.getpid(), signal.SIGKILL)
                 return call(*words, **more)
             return called
 
@@ -95,9 +101,11 @@ def stops_at(folder, data, count):
             setattr(os, name, stopping(getattr(os, name)))
         archive_folder.open = stopping(open)
         pathlib.Path.unlink = stopping(pathlib.Path.unlink)
-        archive_folder.put(folder, data, {})
-        os._exit(0)
-    return os.WIFSIGNALED(os.waitpid(child, 0)[1])
+        with contextlib.suppress(KeyboardInterrupt, command.Failure):
+            archive_folder.put(folder, data, {})
+            os._exit(int(left[0] < 0))
+        os._exit(1)
+    return os.waitpid(child, 0)[1] != 0
 
 
 def killed(tests, examples):
@@ -126,6 +134,79 @@ def several_at_once(tests, examples):
     tests.tell("the last one is whole", whole(folder))
     tests.within("how many archives are left", len(list(folder.glob("*.archive"))), 1, 2)
     tests.tell("it is one of them", [] if any(json.loads((folder / "map.json").read_text())["archive"] in out for out, _ in said) else ["another"])
+
+
+def interrupted(tests, examples):
+    """An interrupt, or a disk with a fault, at any call: the old map or the new one, whole, and nothing beside it; what was there for readers stays."""
+    first, second, third = archives_of(tests, examples)
+    for number, (new, fault) in enumerate((new, fault) for new in (third, first) for fault in (KeyboardInterrupt(), OSError(errno.EIO, "Input/output error"))):
+        folder, count, goes_on = tests.folder / f"interrupted{number}", 0, True
+        while goes_on:
+            for data in (first, second):
+                archive_folder.put(folder, data, {})
+            before = set(names(folder))
+            goes_on = stops_at(folder, new, count, fault)
+            tests.tell(f"{fault!r} at call {count}", whole(folder) + beside(folder, before, archive_folder.name_of(second), archive_folder.name_of(new)))
+            count += 1
+        tests.tell(f"{fault!r}: there were calls", [] if count > 8 else [f"{count}"])
+    interrupted_tool(tests, examples)
+
+
+def beside(folder, before, old, new):
+    """What is wrong with the names in a folder: with the old map those of before, and with the new one that and the old one, and no others than were there."""
+    there, found = set(names(folder)), json.loads((folder / "map.json").read_text())["archive"]
+    sound = there == before if found == old else {"map.json", old, new} <= there <= before | {new}
+    return [] if sound else [f"{sorted(there)}, before that {sorted(before)}"]
+
+
+def interrupted_tool(tests, examples):
+    """The tool ends by the signal that it gets, without a word."""
+    words = [lib.TOP / "tools/publish", examples / "columbus.json", "areas", examples / "columbus.rules.json", "ended", "--faces", "2", "--program", tests.executable]
+    for number in (signal.SIGINT, signal.SIGTERM):
+        with subprocess.Popen(list(map(str, words)), cwd=tests.folder, stdout=subprocess.PIPE, stderr=subprocess.PIPE, stdin=subprocess.DEVNULL) as process:
+            with contextlib.suppress(subprocess.TimeoutExpired):
+                process.wait(0.6)
+            process.send_signal(number)
+            _, said = process.communicate(timeout=lib.SECONDS)
+        ended = process.returncode == 0 or (process.returncode, said) == (-number, b"")
+        faults = [] if ended else [f"{process.returncode}: {said!r:.600}"]
+        tests.tell(f"the tool at signal {number}", faults + (whole(tests.folder / "ended") if (tests.folder / "ended").exists() else []))
+
+
+@contextlib.contextmanager
+def small_disk(tests, size):
+    """A file system of so many bytes; None where no other may be put into the tree."""
+    folder = tests.folder / "disk"
+    folder.mkdir(exist_ok=True)
+    made = subprocess.run(["mount", "-t", "tmpfs", "-o", f"size={size},mode=755", "tmpfs", folder], capture_output=True, check=False)
+    try:
+        yield folder if made.returncode == 0 else None
+    finally:
+        if made.returncode == 0:
+            subprocess.run(["umount", folder], check=True)
+
+
+def full_disk(tests, examples):
+    """A disk with room for some pages alone: either all is published, or a sentence tells that it is full, and the old map stays with nothing beside it."""
+    words = [examples / "columbus.json", "areas", examples / "columbus.rules.json", "disk/map"]
+    page, said = resource.getpagesize(), set()
+    for free in range(8):
+        with small_disk(tests, 16 * page) as disk:
+            if not disk:
+                tests.skip("a full disk", "no file system may be mounted here")
+                return
+            tests.tool("publish", examples / "two_squares.tgap", "disk/map")
+            before = names(disk / "map")
+            room = os.statvfs(disk)
+            (disk / "other").write_bytes(bytes((room.f_bavail - free) * room.f_bsize))
+            made = tests.tool("publish", *words)
+            name = "map.json" if "map.json" in made.stderr else ".archive"
+            if made.returncode:
+                tests.refused(f"publish with {free} pages free", made, 6, f"{name} cannot be written: No space left on device")
+                tests.same(f"what is left, with {free} pages free", names(disk / "map"), before)
+            said.add(name if made.returncode else "published")
+            tests.tell(f"the map with {free} pages free", whole(disk / "map"))
+    tests.same("what became of them", sorted(said), [".archive", "map.json", "published"])
 
 
 def no_room(tests, examples):
@@ -180,7 +261,7 @@ def served_maps(tests, examples):
     """A map that is served gives the archive of its file, with its version; after an edit that of the next one."""
     with lib.Server(tests.executable, examples / "two_squares.tgap", 2, 4) as server:
         made = tests.tool("publish", "--from", f"http://127.0.0.1:{server.port}/", "served")
-        tests.done("publish a map that is served", made, "map-9df972933948aac5.archive: 2 faces, 1 step")
+        tests.done("publish a map that is served", made, "map-19d83e60a64b1cef.archive: 2 faces, 1 step")
         found = json.loads((tests.folder / "served/map.json").read_text())
         tests.same("what map.json tells", (found["version"], found["history"], found["metadata"]), (0, None, None))
         tests.same("an edit", lib.asked_once(server, "POST", "/edit", b"move 20 10 24 10\n")[:3], (200, 1, b"published 1\n"))

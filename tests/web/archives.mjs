@@ -5,9 +5,10 @@ import { tmpdir } from "node:os";
 import path from "node:path";
 import { Archive, BadArchive } from "../../clients/js/archive.js";
 import { Client, OtherHistory, OtherVersion, Refused, Unreachable } from "../../clients/js/client.js";
+import { metadataOf } from "../../clients/js/metadata.js";
 import { twiceAreaOf } from "../../clients/js/rings.js";
-import { sliceText, windowText } from "../../clients/js/wire.js";
-import { Tally, dice, endServing, fetchAlone, gridListing, serve, thrown } from "./lib.mjs";
+import { cellInPieces, readCell, sliceText, windowText } from "../../clients/js/wire.js";
+import { Tally, dice, endServing, examples, fetchAlone, gridListing, serve, thrown } from "./lib.mjs";
 import { PlainServer, publish } from "./published.mjs";
 
 const executable = path.resolve(process.argv[2]);
@@ -208,9 +209,9 @@ async function refusesWhatIsNotWhole() {
 
 const MAP_JSON = [
   ["", "map.json is no JSON"],
-  ["[]", "map.json is of the format undefined, and this client knows the format 1"],
+  ["[]", "map.json is of the format undefined, and this client knows the format 2"],
   ["null", "map.json is no object of JSON"],
-  [{ format: 2 }, "map.json is of the format 2, and this client knows the format 1"],
+  [{ format: 1 }, "map.json is of the format 1, and this client knows the format 2"],
   [{ archive: "../map.archive" }, "map.json names no archive beside it"],
   [{ archive: "http://evil.example/map.archive" }, "map.json names no archive beside it"],
   [{ bytes: -1 }, "map.json does not tell length, version, steps and faces"],
@@ -235,8 +236,8 @@ async function refusesOtherFiles() {
     }
     plain.change = (name, bytes) => (name.endsWith(".archive") ? Buffer.from("<html>nothing here</html>") : bytes);
     tally.equal("a page in place of an archive", (await thrown(new Archive(`${plain.root}${told.archive}`).info())).message, "this is no archive of a map: it does not begin as one");
-    plain.change = (name, bytes) => (name.endsWith(".archive") ? Buffer.from("tgap-archive 2 1 00000000 00000000\n") : bytes);
-    tally.equal("an archive of a later format", (await thrown(new Archive(`${plain.root}${told.archive}`).info())).message, "the archive has the format 2, and this client knows the format 1");
+    plain.change = (name, bytes) => (name.endsWith(".archive") ? Buffer.from("tgap-archive 1 1 00000000 00000000\n") : bytes);
+    tally.equal("an archive of another format", (await thrown(new Archive(`${plain.root}${told.archive}`).info())).message, "the archive has the format 1, and this client knows the format 2");
     plain.change = (_name, bytes) => bytes;
     const none = await thrown(new Archive(`${plain.root}nowhere/`).info());
     tally.holds(`where nothing is: ${none}`, none instanceof Refused && none.status === 404 && none.message === "there is no map.json at this address");
@@ -253,6 +254,92 @@ async function refusesOtherFiles() {
   }
   const gone = await thrown(new Archive(plain.root).info());
   tally.holds(`a server that is gone: ${gone}`, gone instanceof Unreachable);
+}
+
+// Columns of areas that are none.
+const NO_COLUMNS = [
+  {}, { id: [1] }, { attributes: {} }, { id: [1], attributes: [] }, { id: [1], name: [1, 2], attributes: {} }, { id: 7, attributes: {} }, { id: [1], attributes: { a: [] } },
+  { id: { first: 1, by: ["1"] }, attributes: {} }, { id: { first: 0.5, by: [] }, attributes: {} }, { id: { of: [0, 1], values: [1] }, attributes: {} },
+  ...[[], [0], [0, 2], [2, 1], [-1, 1], [1, 1, 0, 1], [0, -1], [0, "1"], 7].map((of) => ({ id: [1, 2], attributes: { a: { of, values: [1] } } })),
+];
+
+/** A scale stands for the finest step that the table of the metadata has for it. */
+async function findsStepsOfScales() {
+  const folder = path.join(room, "scales");
+  const known = JSON.parse(readFileSync(path.join(examples, "columbus.meta.json"), "utf8"));
+  const steps = [[0, 1000], [20, 5000], [40, 20000]].map(([step, scale]) => ({ step, faces: 49 - step, least: 1, scale }));
+  await publish(executable, folder, "columbus.json", "areas", "columbus.rules.json", "--meta", written("scales.meta.json", JSON.stringify({ ...known, steps })));
+  const plain = await PlainServer.start(folder);
+  try {
+    const archive = new Archive(plain.root);
+    for (const [scale, step] of [[1, 0], [1000, 0], [1001, 20], [5000, 20], [6000, 40], [20000, 40], [1e9, 40]]) {
+      const view = await archive.view(null, { scale });
+      tally.equal(`at 1 : ${scale}`, `${view.step} ${sliceText({ step, faces: view.faces, edges: view.edges }) === sliceText(await archive.slice(step))}`, `${step} true`);
+    }
+  } finally {
+    plain.stop();
+  }
+}
+
+/** A cell is read, and a view put together, in pieces of a record, between which a page draws its frames. */
+async function worksInPieces() {
+  const plain = await PlainServer.start(path.join(room, "map3"));
+  try {
+    const archive = new Archive(plain.root);
+    const { steps } = await archive.info();
+    const text = `window-packet 3 0 0 0 1 1\n${[3, 2, 1].map((step) => `step ${step} ${2 * step} ${2 * step + 1} ${9 * step} 1 0 0\nface ${2 * step} 0\n`).join("")}end\ninside 0\nend\n`;
+    const work = cellInPieces(text);
+    const seen = [work.next(), work.next(), work.next()].map(({ done }) => done);
+    tally.equal("a piece of a cell is a record", `${seen} ${JSON.stringify(work.next().value) === JSON.stringify(readCell(text))}`, "false,false,false true");
+    // A clock by which each piece takes as long as a frame.
+    const { now } = performance;
+    let [ticks, frames] = [performance.now(), 0];
+    let isOver = false;
+    const frame = () => isOver || (frames += 1, setTimeout(frame));
+    performance.now = () => (ticks += 5);
+    try {
+      frame();
+      await archive.view(null, 0);
+    } finally {
+      isOver = true;
+      performance.now = now;
+    }
+    tally.holds(`frames are drawn on the way to ${steps} steps: ${frames}`, frames > steps);
+  } finally {
+    plain.stop();
+  }
+}
+
+/** The metadata of an archive are those of its map, for one request at most, and a feature has the name and the attributes of its area; columns that are none are refused. */
+async function readsMetadata() {
+  const plain = await PlainServer.start(path.join(room, "map0"));
+  try {
+    const whole = JSON.parse(readFileSync(path.join(examples, "columbus.meta.json"), "utf8"));
+    const archive = new Archive(plain.root);
+    const view = await archive.view(null, 0);
+    const before = plain.heard.length;
+    tally.equal("the metadata of a map", JSON.stringify(await archive.metadata()), JSON.stringify(whole));
+    const { features } = await archive.geojson(view);
+    tally.holds("one request brings them", plain.heard.length - before <= 1);
+    const wrong = features.filter(({ id, properties }) => {
+      const { id: ofArea, name, attributes } = whole.areas[whole.faces[id - 1]];
+      return properties.id !== ofArea || properties.name !== name || Object.entries(attributes).some(([key, value]) => properties[key] !== value);
+    });
+    tally.equal("each feature has what is known of its area", `${features.length} ${wrong.map(({ id }) => id)}`, "49 ");
+  } finally {
+    plain.stop();
+  }
+  await findsStepsOfScales();
+  const example = { id: [7, 8, "sea"], name: ["Wood", null, null], made: { of: [2, 1], values: ["sea"] }, sources: { of: [2, 1], values: [[]] }, attributes: { height: { of: [0, 2], values: [12, 30] } } };
+  const rows = [{ id: 7, name: "Wood", attributes: { height: 12 } }, { id: 8, name: null, attributes: { height: 30 } }, { id: "sea", name: null, made: "sea", sources: [], attributes: {} }];
+  tally.equal("areas by columns", JSON.stringify(metadataOf({ faces: { first: 5, by: [1, -2] }, areas: example })), JSON.stringify({ faces: [5, 6, 4], areas: rows }));
+  const odd = metadataOf(JSON.parse('{"areas":{"id":[1],"attributes":{"__proto__":[{"a":1}]}}}')).areas[0];
+  tally.equal("a name is nothing but a name", `${Object.getPrototypeOf(odd.attributes) === Object.prototype} ${JSON.stringify(odd)}`, 'true {"id":1,"attributes":{"__proto__":{"a":1}}}');
+  tally.equal("what is no list of areas stays", JSON.stringify(metadataOf({ areas: [7] })), '{"areas":[7]}');
+  for (const areas of NO_COLUMNS) {
+    const error = await thrown((async () => metadataOf({ areas }))());
+    tally.holds(`columns that are none: ${JSON.stringify(areas)}: ${error}`, error instanceof BadArchive && error.message === "the metadata of the archive are not of their form");
+  }
 }
 
 /** A server without ranges, and a file that was chosen from a disk. */
@@ -380,9 +467,11 @@ async function givesUp() {
 
 try {
   for (const [number, words] of maps().entries()) await followsTheProgram(words, number);
+  await readsMetadata();
   await refusesWhatIsNotWhole();
   await refusesOtherFiles();
   await takesWholeFiles();
+  await worksInPieces();
   await goesOnFromTheNewest();
   await keepsToOneArchive();
   await givesUp();

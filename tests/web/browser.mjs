@@ -12,6 +12,9 @@ const SECONDS = 90;
 const MILLISECONDS = 50;
 const REMOVALS = 10;
 const SECONDS_BETWEEN_REMOVALS = 0.5;
+// What a trace calls a piece of work, and what in it runs the page's own code.
+const PIECE = /^ThreadController.*RunTask$/;
+const SCRIPT = /^(FunctionCall|EvaluateScript|v8\.callFunction|v8\.evaluateModule|FireAnimationFrame|TimerFire|RunMicrotasks|EventDispatch)$/;
 
 export class Browser {
   /** `more` are further words for the browser. */
@@ -97,8 +100,8 @@ class Tab {
   }
 
   /**
-   * How long the pieces of work take that the page does while something is done, the longest first: in milliseconds of the processor, so that other work of the machine
-   * does not count.
+   * How long the pieces of work take that the page does while something is done, the longest first, and its own code in each: in milliseconds of the processor, so that
+   * other work of the machine does not count.
    */
   async pieces(work) {
     const events = [];
@@ -109,8 +112,7 @@ class Tab {
     await this.ask("Tracing.end");
     await ended;
     const own = new Set(events.filter(({ name }) => name === "FireAnimationFrame").map(({ pid, tid }) => `${pid} ${tid}`));
-    const MICROSECONDS = 1000;
-    return events.filter(({ name, tdur, pid, tid }) => tdur && own.has(`${pid} ${tid}`) && /^ThreadController.*RunTask$/.test(name)).map(({ tdur }) => tdur / MICROSECONDS).sort((a, b) => b - a);
+    return piecesOf(events.filter(({ tdur, pid, tid }) => tdur && own.has(`${pid} ${tid}`)));
   }
 
   go(url) {
@@ -208,6 +210,22 @@ class Tab {
     const { result } = await this.ask("Page.captureScreenshot", { format: "png", ...(clip && { clip }) });
     return Buffer.from(result.data, "base64");
   }
+}
+
+/** The pieces of work of a trace of one thread: `whole`, and `script` of those events that lie in no other one of their kind. */
+function piecesOf(events) {
+  const MICROSECONDS = 1000;
+  const pieces = [];
+  let end = 0;
+  for (const { name, ts, dur, tdur } of events.sort((a, b) => a.ts - b.ts || b.dur - a.dur)) {
+    if (PIECE.test(name)) {
+      pieces.push({ whole: tdur / MICROSECONDS, script: 0, end: ts + dur });
+    } else if (SCRIPT.test(name) && ts >= end && ts < pieces.at(-1)?.end) {
+      pieces.at(-1).script += tdur / MICROSECONDS;
+      end = ts + dur;
+    }
+  }
+  return pieces.sort((a, b) => b.whole - a.whole);
 }
 
 /** The pixels of a PNG of 8 bits a sample that is not interlaced: `at(x, y)` gives red, green and blue. */

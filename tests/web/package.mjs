@@ -36,7 +36,7 @@ async function givesWhatItTells() {
     tally.equal(`${name} gives what its types tell`, toldBy(types).join(), given.join());
   }
   const modules = entries.map(([, { default: module }]) => module.slice(2));
-  const internal = ["archive_file.js", "cells.js", "edit_lines.js", "edited_map.js", "lines.js", "requests.js", "rings.js", "sides.js"];
+  const internal = ["archive_file.js", "cells.js", "edit_lines.js", "edited_map.js", "lines.js", "metadata.js", "pieces.js", "requests.js", "rings.js", "sides.js"];
   const all = readdirSync(folder).filter((name) => name.endsWith(".js") && !internal.includes(name));
   tally.equal("all other modules can be imported", all.sort().join(), [...modules].sort().join());
   const typed = readdirSync(folder).filter((name) => name.endsWith(".d.ts"));

@@ -1,8 +1,8 @@
 """The check of an archive: its sums, its form, and that each record fits; and where its map is named, that all its windows are those of the map."""
 import contextlib
-import json
 import pathlib
 
+import archive_metadata
 from archive_areas import boxes_of
 from archive_folder import NAME, name_of
 from archive_format import Archive
@@ -75,10 +75,10 @@ class Check:
     def metadata(self):
         text = self.archive.text(1)
         try:
-            document = json.loads(text or b"{}")
-            if not isinstance(document, dict) or (text and len(document.get("faces", [])) not in (0, self.index.faces)):
+            document = archive_metadata.document_of(text or b"{}")
+            if text and len(document.get("faces", [])) not in (0, self.index.faces):
                 raise ValueError(text)
-        except (ValueError, TypeError) as error:
+        except (ValueError, TypeError, RecursionError) as error:
             raise self.wrong("its metadata are not those of a map of so many faces") from error
 
     def cell(self, place, cell, window):

@@ -6,10 +6,11 @@ import json
 import os
 import re
 
+from archive_format import FORMAT
+from archive_metadata import compact
 from command import OUTPUT, REFUSED, Failure
 
 MAP, NAME, NEW = "map.json", re.compile(r"map-[0-9a-f]{16}\.archive"), ".tgap-new-"
-FORMAT = 1
 
 
 def name_of(data):
@@ -40,14 +41,24 @@ def written_whole(path, data):
     """Writes a file beside its place, has it stored, and puts it there. What is left of one that could not be written is taken away."""
     new = path.with_name(f"{NEW}{path.name}")
     try:
-        with open(new, "wb") as file:
-            file.write(data)
-            file.flush()
-            os.fsync(file.fileno())
-        os.replace(new, path)
+        with taken_back(new):
+            with open(new, "wb") as file:
+                file.write(data)
+                file.flush()
+                os.fsync(file.fileno())
+            os.replace(new, path)
     except OSError as error:
-        new.unlink(missing_ok=True)
         raise Failure(f"{path} cannot be written: {error.strerror}", OUTPUT) from error
+
+
+@contextlib.contextmanager
+def taken_back(path):
+    """Takes a file away where the work on it does not come to its end, whatever the reason is."""
+    try:
+        yield
+    except BaseException:
+        path.unlink(missing_ok=True)
+        raise
 
 
 def newest(folder):
@@ -78,6 +89,18 @@ def require_folder(folder):
     newest(folder)
 
 
+@contextlib.contextmanager
+def told_or_gone(folder, name):
+    """Takes an archive away that was put into a folder, where the work does not come to its end and map.json does not tell it."""
+    try:
+        yield
+    except BaseException:
+        told = newest(folder)
+        if not told or told["archive"] != name:
+            (folder / name).unlink(missing_ok=True)
+        raise
+
+
 def put(folder, data, told):
     """Puts an archive into a folder and makes it the newest one. The one that was the newest stays, for those who read it; older ones go."""
     name = name_of(data)
@@ -86,15 +109,12 @@ def put(folder, data, told):
         # Whoever holds the lock is the only one who writes: these are of processes that were stopped.
         for path in folder.glob(f"{NEW}*"):
             path.unlink()
-        written_whole(folder / name, data)
-        os.fsync(handle)
         document = {"format": FORMAT, "archive": name, "bytes": len(data), **told}
-        try:
-            written_whole(folder / MAP, (json.dumps(document, ensure_ascii=False) + "\n").encode())
-        except Failure:
-            if not before or before["archive"] != name:
-                (folder / name).unlink()
-            raise
+        # One that is there already is read by somebody, perhaps, and stays in any case.
+        with contextlib.nullcontext() if (folder / name).exists() else told_or_gone(folder, name):
+            written_whole(folder / name, data)
+            os.fsync(handle)
+            written_whole(folder / MAP, compact(document) + b"\n")
         os.fsync(handle)
         if before and before["archive"] != name:
             for path in folder.iterdir():

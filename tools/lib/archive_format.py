@@ -5,7 +5,7 @@ from dataclasses import dataclass
 
 from command import Failure, counted
 
-FORMAT, HEAD_MOST = 1, 64
+FORMAT, HEAD_MOST = 2, 64
 MAGIC = b"tgap-archive "
 LIMIT = 2**31
 

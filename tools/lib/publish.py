@@ -4,6 +4,7 @@ import json
 import pathlib
 
 import archive_check
+import archive_metadata
 import metadata
 from archive_folder import put, require_folder
 from archive_writer import Writer
@@ -33,8 +34,8 @@ def written(served, source, most):
     for _ in range(TRIES):
         try:
             writer, text = Writer(served, most), source.metadata(served)
-            data, bounds = writer.file(text)
             document = document_of(text, source)
+            data, bounds = writer.file(archive_metadata.text_of(document) if text else b"")
             return data, {
                 "version": writer.version, "history": served.history, "steps": writer.steps, "faces": writer.faces, "bounds": bounds,
                 "transform": document.get("transform") or source.transform(served),
@@ -45,12 +46,17 @@ def written(served, source, most):
 
 
 def document_of(text, source):
+    """The metadata of a map; without a text there are none."""
+    def none(constant):
+        raise ValueError(constant)
+
     try:
-        document = json.loads(text or b"{}")
+        # Python knows numbers that JSON has not.
+        document = json.loads(text or b"{}", parse_constant=none)
         if not isinstance(document, dict):
             raise ValueError(text)
         return document
-    except ValueError as error:
+    except (ValueError, RecursionError) as error:
         raise Failure(f"the metadata of {source.name} are no JSON object") from error
 
 
