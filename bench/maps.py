@@ -324,6 +324,10 @@ def pencil(count):
     return 1, count, 2 * count, arcs
 
 
+# The shapes whose coordinates the first version of the listing cannot have.
+WIDE = {corner_cells}
+
+
 def faces_left(shape, size):
     """How many faces a map has at its last step."""
     return BARRED[shape][1](size) if shape in BARRED else 1
@@ -422,12 +426,17 @@ def write_longest(path):
 
 def version_of(shape, points):
     """The first version of the listing that may hold a map: programs before the second one read it too."""
-    return 2 if shape is corner_cells or points > MOST_POINTS_1 else 1
+    return 2 if shape in WIDE or points > MOST_POINTS_1 else 1
 
 
 def write(path, shape, size, ratio=0):
     """Writes the listing of a map to a file. With a ratio above 0 vertices of it are removed."""
-    faces, count, points, arcs = shape(size)
+    write_made(path, shape, size, ratio, shape(size))
+
+
+def write_made(path, shape, size, ratio, made):
+    """The same of a map that was made before."""
+    faces, count, points, arcs = made
     compat, kinds = classes_of(shape, size, faces)
     rows = [" ".join(str(number) for number in [1, *row]) for row in compat]
     with open(path, "w", encoding="ascii") as file:

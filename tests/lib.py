@@ -11,6 +11,7 @@ import socket
 import subprocess
 import sys
 import threading
+import time
 
 TOP = pathlib.Path(__file__).resolve().parents[1]
 RELEASED = TOP / "release/tgap-x86_64-linux"
@@ -192,6 +193,12 @@ class Server:
 
     def socket(self):
         return connected(self.port)
+
+
+def processor(process):
+    """The seconds that all threads of a process have had of the processor; the clock has the number by which the
+    system knows it."""
+    return time.clock_gettime((~process << 3) | 2)
 
 
 # ---- requests and replies
