@@ -1,5 +1,5 @@
 -- Of two rings without a common node, one goes equally often round all points of the other.
-use Rattle.std.proofs.Common.{◌≡◌, ◌≢◌, ◌⊎◌, inl, inr, ⊎_elim, ℕ, zero, suc, ◌+◌, ◌<◌, ◌≤◌, ◌==◌, nat_lt, cond, Bool, true, false, List, [], ◌∷◌, reverse, get_or, length, All, Contains, ℤ, pos, ◌-ℤ◌, ◌*ℤ◌, ◌<ℤ◌, refl, sym, ap, ◌∙◌, subst, eqb-true, true≢false, arith}
+use Rattle.std.proofs.Common.{◌≡◌, ◌≢◌, ◌⊎◌, inl, inr, ⊎_elim, ℕ, zero, suc, ◌+◌, ◌<◌, ◌≤◌, nat_lt, cond, Bool, true, false, List, [], ◌∷◌, reverse, get_or, length, Contains, ℤ, pos, ◌-ℤ◌, ◌*ℤ◌, ◌<ℤ◌, refl, sym, ap, ◌∙◌, subst, eqb-true, true≢false, arith}
 use Rattle.std.proofs.lemmas.Int.{ints}
 use Rattle.std.proofs.lemmas.Bool.{lt-ltb, cases_eq}
 use Rattle.std.proofs.lemmas.List.{reverse-reverse, get_or_default}
@@ -17,7 +17,7 @@ use Rattle.std.proofs.lemmas.Bool.Decides.{Decides-int_eq, nat_tests}
 use Rattle.tgap_model.specs.Base.{BaseMap, is_base}
 use Rattle.tgap_model.specs.Chains.{first_point, last_point}
 use Rattle.tgap_model.specs.History.{history_of}
-use Rattle.tgap_model.specs.Partition.{IsPartition, base_segments, is_empty, path_segments}
+use Rattle.tgap_model.specs.Partition.{IsPartition, base_segments, path_segments}
 use Rattle.tgap_model.specs.Segment.{is_at, is_on}
 use Rattle.tgap_model.specs.Slice.{slice}
 use Rattle.tgap_model.proofs.Points.{point_same}
@@ -33,7 +33,7 @@ use Rattle.ring_walk.specs.declared.side.Way.TheVariants.{Along, Against}
 use Rattle.ring_walk.specs.Areas.{points_of, segments_of, ring_segments}
 use Rattle.ring_walk.specs.Orbits.{IsRound, place_after, sides_of}
 use Rattle.ring_walk.specs.Rings.{next_side, rings_of}
-use Rattle.ring_walk.specs.Sides.{start_of, end_of, span_number}
+use Rattle.ring_walk.specs.Sides.{start_of, end_of}
 use Rattle.ring_walk.specs.Spans.{IsSide}
 use Rattle.ring_walk.proofs.NextSides.{next_starts}
 use Rattle.ring_walk.proofs.RingOrbits.{rings_are_orbits}
@@ -46,7 +46,7 @@ use Rattle.picture_laws.proofs.RingSums.{length-spans, line_points}
 use Rattle.picture_laws.proofs.RingWinds.{paired}
 use Rattle.picture_laws.proofs.ClosedRings.{closed_ring, span_ends}
 use Rattle.picture_laws.proofs.AlongSegment.{seen, way_on, wound_alike, winding_is_seen}
-use Rattle.picture_laws.proofs.PassedEdges.{whole, is_whole, IsEnd, at_x, labelled_in, meets_at_end, side_segment, row_of, edges_apart}
+use Rattle.picture_laws.proofs.PassedEdges.{whole, is_whole, IsEnd, labelled_in, meets_at_end, side_segment, row_of, edges_apart}
 
 no_edge : Edge
 no_edge = record { key = 0; left = 0; right = 0; points = [] }
