@@ -101,7 +101,7 @@ module _ (value : Point → ℤ) where
 -- ---- rings
 
 -- a span has the ends of its edge
-span_ends : (edges : List Edge) (ends : List EdgeEnds) (j : ℕ) (d : Edge) → length ends ≡ length edges → j < length edges
+pub span_ends : (edges : List Edge) (ends : List EdgeEnds) (j : ℕ) (d : Edge) → length ends ≡ length edges → j < length edges
     → ((span_number (spans_of edges ends) j).first ≡ first_point (get_or edges j d).points) × ((span_number (spans_of edges ends) j).last ≡ last_point (get_or edges j d).points)
 span_ends [] ends j d e l = absurd (omega (arith, l))
 span_ends (x ∷ edges) [] j d e l = absurd (omega (arith, e))

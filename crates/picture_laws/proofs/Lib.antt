@@ -25,3 +25,4 @@ pub mod AreaColumns
 pub mod AreaSigns
 pub mod AreaGrowth
 pub mod FaceRingsPass
+pub mod RingsApart

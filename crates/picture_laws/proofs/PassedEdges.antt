@@ -14,8 +14,9 @@ use Rattle.tgap_model.specs.declared.geometry.Point.{Point}
 use Rattle.tgap_model.specs.declared.geometry.Seg.{Seg}
 use Rattle.tgap_model.specs.declared.segment.LabelledSegment.{LabelledSegment}
 use Rattle.tgap_model.specs.declared.slice.Edge.{Edge}
-use Rattle.tgap_model.specs.Base.{same_point}
-use Rattle.tgap_model.specs.Partition.{AreApart, is_empty, shared_ends, follows, path_segments, edge_segments}
+use Rattle.tgap_model.specs.Base.{BaseMap, is_base, same_point}
+use Rattle.tgap_model.specs.History.{history_of}
+use Rattle.tgap_model.specs.Partition.{AreApart, IsPartition, base_segments, is_empty, shared_ends, follows, path_segments, edge_segments}
 use Rattle.tgap_model.specs.Segment.{IsBetweenColumns, line_through, is_at, is_on}
 use Rattle.tgap_model.specs.Slice.{slice}
 use Rattle.map_laws.proofs.ChainMembers.{Among, append_among}
@@ -50,10 +51,10 @@ use Rattle.picture_laws.proofs.AlongSegment.{IsRightward, seen, way_on, way_left
 -- ---- ends of segments
 
 -- a grid point as a rational one
-abbrev whole : Point → Fraction
+abbrev pub whole : Point → Fraction
 whole v = record { nx = v.x; ny = v.y; d = pos 1 }
 
-is_whole : (v : Point) → is_at (whole v) v ≡ true
+pub is_whole : (v : Point) → is_at (whole v) v ≡ true
 is_whole v = and_from (int_eq v.x (pos 1 *ℤ v.x)) (int_eq v.y (pos 1 *ℤ v.y))
     ((Decides-int_eq v.x (pos 1 *ℤ v.x)).1 (sym (one-*ℤ v.x))) ((Decides-int_eq v.y (pos 1 *ℤ v.y)).1 (sym (one-*ℤ v.y)))
 
@@ -89,7 +90,7 @@ beyond u v p q i j e f m n h k = by_lt_z v.x u.x
 -- ---- a path and closed segments that meet it at most at its ends
 
 -- v is an end of the path, at this segment
-abbrev IsEnd : LabelledSegment → Point → Type 0
+abbrev pub IsEnd : LabelledSegment → Point → Type 0
 IsEnd x v = ((x.starts ≡ true) × (x.segment.a ≡ v)) ⊎ ((x.ends ≡ true) × (x.segment.b ≡ v))
 
 -- the segments meet it at such ends alone
@@ -103,7 +104,7 @@ record IsInner (x : LabelledSegment) (z : Fraction) : Type 0 where
   start : x.starts ≡ true → z.nx ≢ z.d *ℤ x.segment.a.x
   end : x.ends ≡ true → z.nx ≢ z.d *ℤ x.segment.b.x
 
-at_x : (z : Fraction) (v : Point) → is_at z v ≡ true → z.nx ≡ z.d *ℤ v.x
+pub at_x : (z : Fraction) (v : Point) → is_at z v ≡ true → z.nx ≡ z.d *ℤ v.x
 at_x z v e = (Decides-int_eq z.nx (z.d *ℤ v.x)).0 (and_parts (int_eq z.nx (z.d *ℤ v.x)) (int_eq z.ny (z.d *ℤ v.y)) e).0
 
 module _ (segments : List Seg) (closed : (value : Point → ℤ) → int_sum (λ s. value s.b -ℤ value s.a) segments ≡ pos 0) where
@@ -238,7 +239,7 @@ module _ (segments : List Seg) (closed : (value : Point → ℤ) → int_sum (λ
 -- ---- the segments of an edge
 
 -- each segment of a row of points is one of its path, and has the key of that
-labelled_in : (key l r place : ℕ) (points : List Point) (s : Seg) → Among s (path points) → (x : LabelledSegment) × Among x (path_segments key l r place points) × (x.segment ≡ s)
+pub labelled_in : (key l r place : ℕ) (points : List Point) (s : Seg) → Among s (path points) → (x : LabelledSegment) × Among x (path_segments key l r place points) × (x.segment ≡ s)
 labelled_in key l r place [] s m = absurd m
 labelled_in key l r place (a ∷ []) s m = absurd m
 labelled_in key l r place (a ∷ b ∷ points) s (inl e) =
@@ -263,7 +264,7 @@ from_reverse (y ∷ ys) x m = elim (append_among (reverse ys) (y ∷ []) x (subs
 ]
 
 -- segments of two edges that are apart meet at ends of the edges alone
-meets_at_end : (x t : LabelledSegment) → AreApart x t → x.arc ≢ t.arc → (z : Fraction) → pos 0 <ℤ z.d → is_on z x.segment ≡ true → is_on z t.segment ≡ true
+pub meets_at_end : (x t : LabelledSegment) → AreApart x t → x.arc ≢ t.arc → (z : Fraction) → pos 0 <ℤ z.d → is_on z x.segment ≡ true → is_on z t.segment ≡ true
     → (v : Point) × (is_at z v ≡ true) × IsEnd x v
 meets_at_end x t apart other z positive on and_on =
     elim (or_cases ((ends.aa || ends.ab) && is_at z x.segment.a) ((ends.ba || ends.bb) && is_at z x.segment.b) (permitted_common x t apart z positive on and_on)) [
@@ -310,6 +311,35 @@ side_segment edges j Against d l c m =
     let back = map_among flip (path ps) c (from_reverse (map flip (path ps)) c (among (reverse (map flip (path ps))) c turned)) in
     (back.0, back.1, λ z o. on_flip z (flip back.0) (subst (λ (s : Seg). is_on z s ≡ true) (sym back.2) o))
 
+-- the segments of an edge
+abbrev pub row_of : Edge → List LabelledSegment
+row_of a = path_segments a.key a.left a.right 0 a.points
+
+-- segments of two edges of a slice
+pub edges_apart : (m : BaseMap) → is_base m ≡ true → IsPartition (base_segments m) → (k : ℕ) → k ≤ length (history_of m) → (i j : ℕ) (d : Edge) → i < length (slice m k).edges → j < length (slice m k).edges → j ≢ i
+    → (x u : LabelledSegment) → Among x (row_of (get_or (slice m k).edges i d)) → Among u (row_of (get_or (slice m k).edges j d)) → AreApart x u × (x.arc ≢ u.arc)
+edges_apart m base planar k within i j d short l other x u n o =
+    let e = get_or (slice m k).edges i d in
+    let f = get_or (slice m k).edges j d in
+    let sound = (slices_stay_planar m base planar k within).sound in
+    let keys : e.key ≢ f.key = elim (cases_lt j i) [
+      | inl less ↦ λ z. sound.keys j i d less short (sym z)
+      | inr le ↦ λ z. sound.keys i j d (before i j le other) l z
+    ] in
+    let differ : x.arc ≢ u.arc = λ z. keys (sym (key_in e.key e.left e.right 0 e.points x n) ∙ z ∙ key_in f.key f.left f.right 0 f.points u o) in (
+      elim (related_members AreApart (edge_segments (slice m k).edges) (slices_stay_partitions m base planar k within).arcs.apart x u
+          (Contains-flat_map row_of (slice m k).edges e x (Contains-get_or (slice m k).edges i d short) (contained (row_of e) x n))
+          (Contains-flat_map row_of (slice m k).edges f u (Contains-get_or (slice m k).edges j d l) (contained (row_of f) u o))) [
+            | inl same ↦ absurd (differ (ap (λ (a : LabelledSegment). a.arc) same))
+            | inr (inl a) ↦ a
+            | inr (inr a) ↦ apart_turned u x a
+          ],
+      differ,
+    )
+  where
+    before : (i j : ℕ) → i ≤ j → j ≢ i → i < j
+    before i j le ne = omega (arith, le, ne)
+
 pub rings_pass_edges : RingsPassEdges
 rings_pass_edges m base planar k within ring has i e short is none s t in_s in_t p q h g on_p on_q =
     let x = of_edge s in_s in
@@ -328,32 +358,6 @@ rings_pass_edges m base planar k within ring has i e short is none s t in_s in_t
     of_edge : (c : Seg) → Contains (segments_of e.points) c → (x : LabelledSegment) × Among x (path_segments e.key e.left e.right 0 e.points) × (x.segment ≡ c)
     of_edge c n = labelled_in e.key e.left e.right 0 e.points c (among (path e.points) c (subst (λ (ss : List Seg). Contains ss c) (segments_are e.points) n))
 
-    -- segments of the edge and of another one
-    apart_from : (j : ℕ) → j < length (slice m k).edges → j ≢ i → (x u : LabelledSegment) → Among x (path_segments e.key e.left e.right 0 e.points)
-        → Among u (path_segments (get_or (slice m k).edges j e).key (get_or (slice m k).edges j e).left (get_or (slice m k).edges j e).right 0 (get_or (slice m k).edges j e).points)
-        → AreApart x u × (x.arc ≢ u.arc)
-    apart_from j l other x u n o =
-        let f = get_or (slice m k).edges j e in
-        let sound = (slices_stay_planar m base planar k within).sound in
-        let all = λ (a : Edge). path_segments a.key a.left a.right 0 a.points in
-        let keys : e.key ≢ f.key = elim (cases_lt j i) [
-          | inl less ↦ λ z. sound.keys j i e less short (sym z ∙ ap (λ (a : Edge). a.key) (sym is))
-          | inr le ↦ λ z. sound.keys i j e (before i j le other) l (ap (λ (a : Edge). a.key) is ∙ z)
-        ] in
-        let differ : x.arc ≢ u.arc = λ z. keys (sym (key_in e.key e.left e.right 0 e.points x n) ∙ z ∙ key_in f.key f.left f.right 0 f.points u o) in (
-          elim (related_members AreApart (edge_segments (slice m k).edges) (slices_stay_partitions m base planar k within).arcs.apart x u
-              (Contains-flat_map all (slice m k).edges e x (i, short, is) (contained (all e) x n))
-              (Contains-flat_map all (slice m k).edges f u (Contains-get_or (slice m k).edges j e l) (contained (all f) u o))) [
-                | inl same ↦ absurd (differ (ap (λ (a : LabelledSegment). a.arc) same))
-                | inr (inl a) ↦ a
-                | inr (inr a) ↦ apart_turned u x a
-              ],
-          differ,
-        )
-      where
-        before : (i j : ℕ) → i ≤ j → j ≢ i → i < j
-        before i j le ne = omega (arith, le, ne)
-
     free : (x : LabelledSegment) → Among x (path_segments e.key e.left e.right 0 e.points) → IsFree segments x
     free x n c in_ring z positive on_x on_c =
         let side = Contains-from_flat_map (λ (s : Side). segments_of (points_of (lines_of (slice m k).edges) s)) ring c in_ring in
@@ -365,7 +369,7 @@ rings_pass_edges m base planar k within ring has i e short is none s t in_s in_t
         let f = get_or (slice m k).edges side.0.span e in
         let there = side_segment (slice m k).edges side.0.span side.0.way e l c side.2 in
         let u = labelled_in f.key f.left f.right 0 f.points there.0 there.1 in
-        let apart = apart_from side.0.span l (All-contains (λ (s : Side). s.span ≢ i) ring side.0 none side.1) x u.0 n u.1 in
+        let apart = edges_apart m base planar k within i side.0.span e short l (All-contains (λ (s : Side). s.span ≢ i) ring side.0 none side.1) x u.0 (subst (λ (a : Edge). Among x (row_of a)) (sym is) n) u.1 in
         meets_at_end x u.0 apart.0 apart.1 z positive on_x (subst (λ (c : Seg). is_on z c ≡ true) (sym u.2) (there.2 z on_c))
 
 pub rings_wind_alike : RingsWindAlike

@@ -12,7 +12,9 @@ use Rattle.tgap_model.specs.History.{history_of}
 use Rattle.tgap_model.specs.Slice.{slice}
 use Rattle.map_laws.specs.Inside.{is_inside}
 use Rattle.removal_laws.specs.InsideLaws.{is_over}
+use Rattle.ring_walk.specs.declared.span.Span.{Span}
 use Rattle.ring_walk.specs.declared.side.Side.{Side}
+use Rattle.ring_walk.specs.Sides.{start_of}
 use Rattle.ring_walk.specs.Rings.{rings_of, ring_face}
 use Rattle.ring_walk.specs.Areas.{points_of, ring_area, ring_segments, segments_of}
 use Rattle.topo_write.specs.Polygons.{lines_of, of_face}
@@ -104,6 +106,19 @@ RingsOfFacePass =
     → (q r : List Side) → Contains (rings_of (slice_spans m k)) q → Contains (rings_of (slice_spans m k)) r
     → q ≢ r → ring_face (slice_spans m k) q ≡ ring_face (slice_spans m k) r → (a : Side) → Contains r a
     → (s t : Seg) → Contains (segments_of (points_of (lines_of (slice m k).edges) a)) s → Contains (segments_of (points_of (lines_of (slice m k).edges) a)) t
+    → (p z : Fraction) → IsBetweenColumns (line_through p) → IsBetweenColumns (line_through z) → is_on p s ≡ true → is_on z t ≡ true
+    → winding p (ring_segments (lines_of (slice m k).edges) q) ≡ winding z (ring_segments (lines_of (slice m k).edges) q)
+
+-- no side of the one ring leaves a node that a side of the other leaves
+abbrev pub HaveNoCommonNode : List Span → List Side → List Side → Type 0
+HaveNoCommonNode spans q r = (a b : Side) → Contains q a → Contains r b → start_of spans a ≢ start_of spans b
+
+-- And of two rings without a common node the one goes equally often round all points of the other.
+abbrev pub RingsApartPass : Type 0
+RingsApartPass =
+    (m : BaseMap) → IsTrue (is_base m) → IsPartition (base_segments m) → (k : ℕ) → k ≤ length (history_of m)
+    → (q r : List Side) → Contains (rings_of (slice_spans m k)) q → Contains (rings_of (slice_spans m k)) r → HaveNoCommonNode (slice_spans m k) q r
+    → (s t : Seg) → Contains (ring_segments (lines_of (slice m k).edges) r) s → Contains (ring_segments (lines_of (slice m k).edges) r) t
     → (p z : Fraction) → IsBetweenColumns (line_through p) → IsBetweenColumns (line_through z) → is_on p s ≡ true → is_on z t ≡ true
     → winding p (ring_segments (lines_of (slice m k).edges) q) ≡ winding z (ring_segments (lines_of (slice m k).edges) q)
 

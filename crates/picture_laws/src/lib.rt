@@ -22,6 +22,6 @@ pub use places::{
 };
 pub use polygons::{one_polygon_is_its_face, polygons_cover_faces, polygons_wind_once};
 pub use rings::{
-    ring_areas_add, ring_areas_follow_winding, ring_areas_grow, rings_are_closed,
+    ring_areas_add, ring_areas_follow_winding, ring_areas_grow, rings_apart_pass, rings_are_closed,
     rings_cover_faces, rings_of_face_pass, rings_pass_edges, rings_wind_alike, rings_wind_once,
 };

@@ -1,6 +1,6 @@
 //! Laws of the rings of a face.
 
-ghost use Rattle.picture_laws.specs.FaceRings.{RingsCoverFaces, RingsWindOnce, RingAreasAdd, RingAreasFollowWinding, RingAreasGrow, RingsAreClosed, RingsWindAlike, RingsPassEdges, RingsOfFacePass};
+ghost use Rattle.picture_laws.specs.FaceRings.{RingsCoverFaces, RingsWindOnce, RingAreasAdd, RingAreasFollowWinding, RingAreasGrow, RingsAreClosed, RingsWindAlike, RingsPassEdges, RingsOfFacePass, RingsApartPass};
 
 /// A point is inside a face of a slice exactly where the ray up from it crosses an odd number of the segments of the face's rings.
 pub fn rings_cover_faces()
@@ -46,4 +46,9 @@ pub fn rings_pass_edges()
 /// So of two rings of one face the one goes equally often round all points of an edge of the other.
 pub fn rings_of_face_pass()
     ensures { RingsOfFacePass }
+{}
+
+/// And of two rings without a common node the one goes equally often round all points of the other.
+pub fn rings_apart_pass()
+    ensures { RingsApartPass }
 {}
