@@ -14,16 +14,16 @@ use Rattle.span_index.specs.Spans.{is_sought, no_span, box_at, sought_in, File, 
 use Rattle.span_index.specs.Levels.{IsNext}
 
 module _ (s : Sought) (row : List SpanBox) (places : List ℕ) where
-  pub hit : ℕ → Bool
+  abbrev pub hit : ℕ → Bool
   hit i = is_sought s (box_at row i)
 
-  pub place : ℕ → ℕ
+  abbrev pub place : ℕ → ℕ
   place i = get_or places i 0
 
   -- those so far are the places of all that is sought in front of this slot, at which the next one is, or the end of the row
-  pub record AreFound (found : List ℕ) (at : ℕ) : Type 0 where
+  pub record AreFound (list : List ℕ) (at : ℕ) : Type 0 where
     pub within : at ≤ length row
-    pub found : found ≡ map place (filter hit (range_with_len 0 at))
+    pub found : list ≡ map place (filter hit (range_with_len 0 at))
     pub here : at < length row → hit at ≡ true
 
   -- between two slots none is sought

@@ -1,5 +1,5 @@
 -- What holds a box that is sought is sought.
-use Rattle.std.proofs.Common.{◌≡◌, true, arith}
+use Rattle.std.proofs.Common.{◌≡◌, ◌≤◌, ◌<◌, true, nat_le, nat_lt, arith}
 use Rattle.std.specs.Cmp.Derive.{both_true}
 use Rattle.std.proofs.lemmas.Bool.{and_parts, leb-true, ltb-true, le-leb, lt-ltb}
 use Rattle.grid_index.specs.Boxes.{meets}
@@ -10,12 +10,12 @@ use Rattle.span_index.specs.Spans.{Holds, is_there, is_sought}
 
 there_wider : (s : Sought) (up down : SpanBox) → Holds up down → is_there s down ≡ true → is_there s up ≡ true
 there_wider s up down h t =
-    let p = and_parts _ _ t in
-    let low = leb-true _ _ p.0 in
-    let high = ltb-true _ _ p.1 in
-    let l = h.low in
-    let r = h.high in
-    both_true (le-leb _ _ (omega arith)) (lt-ltb _ _ (omega arith))
+    let p = and_parts (nat_le down.low s.last) (nat_lt s.first down.high) t in
+    let low : down.low ≤ s.last = leb-true down.low s.last p.0 in
+    let high : s.first < down.high = ltb-true s.first down.high p.1 in
+    let l : up.low ≤ s.last = omega (arith, h.low, low) in
+    let r : s.first < up.high = omega (arith, h.high, high) in
+    both_true (le-leb up.low s.last l) (lt-ltb s.first up.high r)
 
 pub sought_wider : (s : Sought) (up down : SpanBox) → Holds up down → is_sought s down ≡ true → is_sought s up ≡ true
 sought_wider s up down h t =

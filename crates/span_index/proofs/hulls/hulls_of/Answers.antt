@@ -22,3 +22,10 @@ loop-i-preserved c =
           subst (λ (hs : List SpanBox). Holds (get_or hs (k / FANOUT) d) (get_or spans k e)) (sym pushed)
           (holds_more hulls spans i h c.loop-i.invariant.count start c.loop-i.invariant.holds new k d e below within);
     }
+
+pub returns : goal.returns
+returns c = record {
+  room = omega (arith, c.div_ceil-count.ensures, c.loop-i.invariant.count, c.loop-i-test.false, c.loop-i.auto.i-end);
+  few = omega (arith, c.div_ceil-count.ensures, c.loop-i.invariant.count, c.loop-i-test.false, c.loop-i.auto.i-end);
+  holds = λ k d e l. c.loop-i.invariant.holds k d e (omega (arith, c.div_ceil-count.ensures, c.loop-i-test.false, c.loop-i.auto.i-end, l)) l;
+}
