@@ -1,7 +1,7 @@
 -- The edges that are looked up by their boxes and ranges.
-use Rattle.std.proofs.Common.{◌≡◌, ℕ, ◌<◌, Bool, ◌&&◌, List, filter, length, sym, ap, ◌∙◌, arith}
+use Rattle.std.proofs.Common.{◌≡◌, ℕ, ◌+◌, ◌<◌, ◌∷◌, [], ◌++◌, Bool, ◌&&◌, List, map, filter, length, slice_index_or, sym, ap, ap₂, ◌∙◌, arith}
 use Rattle.std.specs.List.{range_with_len}
-use Rattle.std.proofs.lemmas.List.FromFn.{get_or-map-range_with_len, length-map-range_with_len}
+use Rattle.std.proofs.lemmas.List.FromFn.{get_or-map-range_with_len, length-map-range_with_len, map-range_with_len_more}
 use Rattle.tgap_model.specs.declared.geometry.Window.{Window}
 use Rattle.lemmas.proofs.Members.{filter_agree_on}
 use Rattle.map_laws.proofs.Lists.{all_members, among_range}
@@ -11,7 +11,9 @@ use Rattle.grid_index.specs.Picked.{no_box}
 use Rattle.grid_index.specs.Tower.{meets_at}
 use Rattle.grid_index.proofs.Meeting.{near_filtered, meets_at-within}
 use Rattle.span_index.specs.declared.span_box.Sought.{Sought}
+use Rattle.span_index.specs.declared.span_box.SpanBox.{SpanBox}
 use Rattle.span_index.specs.Spans.{is_sought, no_span, box_at, sought_in}
+use Rattle.edge_forest.specs.declared.edge.ForestEdge.{ForestEdge}
 use Rattle.edge_forest.specs.Edges.{edge_at}
 use Rattle.edge_forest.specs.Forest.{EdgeForest}
 use Rattle.tgap_build.specs.Boxes.{edge_box, boxes_of, is_within, span_box, span_boxes_of}
@@ -48,3 +50,16 @@ module _ (f : EdgeForest) (s : Sought) where
       ap (is_sought s) (get_or-map-range_with_len (span_box f) 0 (length f.edges) i i no_span (omega (arith, r.1)) (omega arith))))
       ∙ sym (filter_both within near all)
       ∙ ap (filter within) (sym near_are)
+
+-- the boxes of the edges so far, with that of one more
+pub one_more : (f : EdgeForest) (i : ℕ) (areas : List Window) (d : Window) (e : ForestEdge) (spans new : List SpanBox)
+    → areas ≡ boxes_of f → i < length f.edges → e ≡ edge_at f.edges i → spans ≡ map (span_box f) (range_with_len 0 i)
+    → new ≡ spans ++ record { area = slice_index_or areas i d; low = e.low; high = e.high } ∷ []
+    → new ≡ map (span_box f) (range_with_len 0 (i + 1))
+one_more f i areas d e spans new are l is so_far pushed =
+    let last : 0 + i ≡ i = omega arith in
+    let area : slice_index_or areas i d ≡ edge_box f i
+    = ap (λ (bs : List Window). slice_index_or bs i d) are ∙ get_or-map-range_with_len (edge_box f) 0 (length f.edges) i i d l last in
+    let box : record { area = slice_index_or areas i d; low = e.low; high = e.high } ≡ span_box f i
+    = ap₂ (λ (a : Window) (g : ForestEdge). record { area = a; low = g.low; high = g.high }) area is in
+    pushed ∙ ap₂ (λ (ss : List SpanBox) (b : SpanBox). ss ++ b ∷ []) so_far box ∙ sym (map-range_with_len_more (span_box f) 0 i i last)
