@@ -55,7 +55,11 @@ impl SpanBoxes {
         let places = order_of(alloc, spans)?;
         let row = picked(alloc, spans, &places)?;
         let levels = levels_of(alloc, row.as_slice())?;
-        Ok(SpanBoxes { places, row, levels })
+        Ok(SpanBoxes {
+            places,
+            row,
+            levels,
+        })
     }
 
     /// The places of the boxes that meet a closed window and are there after one of the steps, each once, in no told
