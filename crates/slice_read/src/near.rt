@@ -5,12 +5,14 @@ ghost use Rattle.grid_index.specs.Near.{near_boxes};
 ghost use Rattle.edge_forest.specs.Edges.{edge_at, is_alive};
 ghost use Rattle.tgap_build.specs.Boxes.{boxes_of};
 
+use crate::keyed::by_key;
 use std::alloc::Global;
 use tgap_build::BoxedForest;
 use tgap_model::{List, Memory, Window};
 
-/// The edges that are there after k steps and of which the box of all points meets the window, in no told order. It takes
-/// one look-up by the window and the step.
+/// The edges that are there after k steps and of which the box of all points meets the window, in no told order: they
+/// are put in the order of their keys, but only time depends on it. It takes one look-up by the window and the step, and a
+/// sort.
 pub fn ids_near(
     alloc: Global,
     boxed: &BoxedForest,
@@ -19,5 +21,7 @@ pub fn ids_near(
 ) -> Result<List<u32>, Memory>
     ensures { IfOk result (λ ids. IsPermutation (filter (λ i. is_alive k (edge_at boxed.now.edges i)) (near_boxes area.now (boxes_of boxed.now))) ids) }
 {
-    boxed.near(alloc, *area, k, k)
+    let forest = boxed.forest();
+    let ids = boxed.near(alloc, *area, k, k)?;
+    by_key(alloc, forest, ids.as_slice())
 }
