@@ -1,13 +1,13 @@
 -- The search of an edge by its key and a step among those that may be in a window.
-use Rattle.std.proofs.Common.{◌≡◌, inl, inr, ℕ, ◌-◌, ◌*◌, ◌^◌, ◌<◌, ◌≤◌, Bool, true, false, nat_le, nat_lt, List, filter, length, get_or, All, Contains, Some, None, refl, sym, ap, ◌∙◌, subst, arith}
+use Rattle.std.proofs.Common.{◌≡◌, inl, inr, ℕ, ◌-◌, ◌*◌, ◌^◌, ◌<◌, ◌≤◌, Bool, true, false, nat_le, nat_lt, List, filter, length, get_or, All, Contains, IsPermutation, Some, None, refl, sym, ap, ◌∙◌, subst, arith}
 use Rattle.std.specs.List.{range_with_len}
 use Rattle.std.specs.List.Sorted.{IsPartitionPoint}
 use Rattle.std.proofs.lemmas.Bool.Decides.{leb_tells}
 use Rattle.std.proofs.lemmas.List.{get_or_default}
 use Rattle.std.proofs.lemmas.Bool.{and_parts, and_from, cases_eq, leb-true, ltb-true, le-leb, lt-ltb, true≢false}
 use Rattle.std.proofs.lemmas.List.FromFn.{get_or-map-range_with_len}
-use Rattle.std.proofs.lemmas.List.Elements.{All-contains}
-use Rattle.std.proofs.lemmas.List.Sorted.{All-permutation, Contains-permutation}
+use Rattle.std.proofs.lemmas.List.Elements.{All-contains, All-filter}
+use Rattle.std.proofs.lemmas.List.Sorted.{All-permutation, Contains-permutation, IsPermutation-map}
 use Rattle.tgap_model.specs.declared.geometry.Window.{Window}
 use Rattle.tgap_model.specs.Merged.{merged}
 use Rattle.tgap_model.specs.Chains.{Chain, key, chains_at}
@@ -15,6 +15,7 @@ use Rattle.tgap_model.specs.Removals.{edge_of, removals_to}
 use Rattle.tgap_model.specs.Slice.{meets_window}
 use Rattle.tgap_model.specs.Records.{edge_with}
 use Rattle.tgap_model.specs.WindowRecords.{window_at}
+use Rattle.lemmas.proofs.Permutations.{IsPermutation-filter}
 use Rattle.map_laws.proofs.ChainMembers.{Among, filter_among}
 use Rattle.map_laws.proofs.Lists.{all_members, members_all, kept_among, among_kept, map_among, among_map, among_sort, sort_among, among_range}
 use Rattle.removal_laws.proofs.ChainEnds.{contained}
@@ -28,7 +29,8 @@ use Rattle.edge_forest.specs.declared.edge.ForestEdge.{ForestEdge}
 use Rattle.edge_forest.specs.Edges.{edge_at, chain_of, is_alive, alive_edges}
 use Rattle.edge_forest.specs.Forest.{EdgeForest, IsForest, last_step}
 use Rattle.edge_forest.proofs.Forests.{keys_differ, made_small}
-use Rattle.tgap_build.specs.Boxes.{boxes_of, edge_box}
+use Rattle.tgap_build.specs.Boxes.{boxes_of, edge_box, is_within}
+use Rattle.tgap_build.proofs.Filters.{filter_stronger}
 use Rattle.slice_read.proofs.WindowBoxes.{edge_meets}
 use Rattle.slice_read.proofs.WindowIds.{box_count}
 use Rattle.refine_packets.specs.declared.near.NearEdge.{NearEdge}
@@ -39,6 +41,33 @@ use Rattle.refine_packets.proofs.InWindow.{found_there, nothing_there}
 -- the numbers of the edges whose boxes meet an area
 pub near_within : (f : EdgeForest) (area : Window) → All (λ i. i < length f.edges) (near_boxes area (boxes_of f))
 near_within f area = subst (λ (c : ℕ). All (λ i. i < c) (near_boxes area (boxes_of f))) (box_count f 0 area) (near_below area (boxes_of f))
+
+-- those that are there after some step
+module _ (f : EdgeForest) (area : Window) (w : IsForest f) (ids : List ℕ)
+    (found : IsPermutation (filter (λ i. is_within 0 (2 ^ 32 - 1) (edge_at f.edges i)) (near_boxes area (boxes_of f))) ids) where
+  abbrev within : ℕ → Bool
+  within i = is_within 0 (2 ^ 32 - 1) (edge_at f.edges i)
+
+  abbrev sometime : ℕ → Bool
+  sometime i = is_some_time (edge_at f.edges i)
+
+  abbrev looked : List ℕ
+  looked = near_boxes area (boxes_of f)
+
+  -- they are numbers of edges
+  pub found_below : All (λ i. i < length f.edges) ids
+  found_below = All-permutation (λ i. i < length f.edges) (filter within looked) ids found (All-filter within (λ i. i < length f.edges) looked (near_within f area))
+
+  -- no edge that is there at some step is left out
+  pub found_entries : IsPermutation (entries_of f.edges looked) (entries_of f.edges ids)
+  found_entries =
+      IsPermutation-map (entry_of f.edges) (filter sometime looked) (filter sometime ids)
+      (subst (λ (is : List ℕ). IsPermutation is (filter sometime ids)) (filter_stronger sometime within looked (λ i m some.
+      let inside : i < length f.edges = members_all (λ i. i < length f.edges) looked i (near_within f area) m in
+      let early : (edge_at f.edges i).low ≤ 2 ^ 32 - 1 = omega (arith, w.low i inside, made_small f w) in
+      let later : 0 < (edge_at f.edges i).high = let l = ltb-true (edge_at f.edges i).low (edge_at f.edges i).high some in omega arith in
+      and_from (nat_le (edge_at f.edges i).low (2 ^ 32 - 1)) (nat_lt 0 (edge_at f.edges i).high) (le-leb _ _ early) (lt-ltb _ _ later)))
+      (IsPermutation-filter sometime (filter within looked) ids found))
 
 module _ (f : EdgeForest) (n : NearEdges) (near : AreNear f n) where
   abbrev edges : List ForestEdge

@@ -49,13 +49,16 @@ fn entries_of(alloc: Global, forest: &Forest, ids: &[u32]) -> Result<Vec<NearEdg
     Ok(found)
 }
 
-/// The edges whose box of all points meets the window: no other one is ever in it. It takes one look-up.
+/// The edges whose box of all points meets the window: no other one is ever in it. It takes one look-up, of all steps.
 pub fn near_edges(alloc: Global, boxed: &BoxedForest, area: Window) -> Result<NearEdges, Memory>
     ensures near { IfOk result (AreNear boxed.now) }
     ensures area { IfOk result (λ near. near.area ≡ area) }
 {
-    let ids = boxed.boxes().near(alloc, area)?;
-    let mut entries = entries_of(alloc, boxed.forest(), ids.as_slice())?;
+    let forest = boxed.forest();
+    // That the steps of its edges are within 32 bits is read off its map.
+    let _ = forest.base();
+    let ids = boxed.near(alloc, area, 0, u32::MAX)?;
+    let mut entries = entries_of(alloc, forest, ids.as_slice())?;
     entries.sort_unstable_by_key(|entry| entry.place);
     Ok(NearEdges { entries, area })
 }

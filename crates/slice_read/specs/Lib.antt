@@ -1,3 +1,4 @@
 pub mod Reading
 pub mod Windows
 pub mod Ends
+pub mod Keyed

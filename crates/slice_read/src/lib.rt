@@ -15,6 +15,7 @@ ghost use Rattle.slice_read.specs.Reading.{HasAdjacentFaces, HasUnions};
 mod ends;
 mod faces;
 mod fail;
+mod keyed;
 mod near;
 mod window;
 

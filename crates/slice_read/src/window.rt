@@ -67,13 +67,6 @@ fn meets_window(area: &Window, edge: &Edge) -> bool
     meets_from_below(area, points) && is_above(area, points)
 }
 
-/// About as many as there are faces after k steps, the outside among them. There are at most three edges for each, as
-/// three or more meet at each node but that of a ring. Only time depends on it.
-fn face_count(built: &Built, k: u32) -> usize {
-    let faces = built.base().classes().len().saturating_add(1);
-    faces.saturating_sub(k as usize)
-}
-
 /// The edges after k steps whose bounding box meets the window, by key. The points of an edge are read only where the
 /// box of all points of its arcs meets it.
 fn edges_near(alloc: Global, built: &Built, area: &Window, k: u32) -> Result<List<Edge>, Memory>
@@ -84,7 +77,7 @@ fn edges_near(alloc: Global, built: &Built, area: &Window, k: u32) -> Result<Lis
     let forest = boxed.forest();
     // What is known of the forest is read off its map.
     let _ = forest.base();
-    let ids = ids_near(alloc, boxed, area, k, face_count(built, k))?;
+    let ids = ids_near(alloc, boxed, area, k)?;
     let mut edges = edges_of(alloc, built.tree(), forest, ids.as_slice(), k)?.into_vec();
     edges.retain(|edge| meets_window(area, edge));
     edges.sort_unstable_by_key(|edge| edge.key);
@@ -116,9 +109,9 @@ fn faces_beside(alloc: Global, tree: &FaceTree, edges: &[Edge]) -> Result<List<F
 }
 
 /// The window of the slice after k steps: the edges, by key, whose bounding box overlaps or touches the window, and the
-/// faces that stand beside one of them, without the outside, by number. The time is that of the edges of all steps
-/// whose boxes meet the window, or that of the edges of the slice where these are fewer, and of what is given. Where
-/// the ends of the window are out of order it is what the same tests leave.
+/// faces that stand beside one of them, without the outside, by number. The time is that of one
+/// look-up by the window and the step, and of what is given. Where the ends of the window are out of order it is what the
+/// same tests leave.
 pub fn window_at(alloc: Global, built: &Built, k: u32, area: Window) -> Result<Slice, ReadFail>
     // It is the window of the slice by the definition.
     ensures exact { IfOk result (λ s. s ≡ window_of area (slice built.now k)) }

@@ -1,5 +1,5 @@
 -- The bounding boxes of the edges of a forest.
-use Rattle.std.specs.Prelude.{ℕ, List, [], ◌∷◌, map, flat_map, fold, length, if◌then◌else◌}
+use Rattle.std.specs.Prelude.{ℕ, Bool, ◌&&◌, nat_le, nat_lt, List, [], ◌∷◌, map, flat_map, fold, length, if◌then◌else◌}
 use Rattle.std.specs.Int.{int_min, int_max}
 use Rattle.std.specs.List.{range_with_len}
 use Rattle.tgap_model.specs.declared.geometry.Point.{Point}
@@ -7,8 +7,10 @@ use Rattle.tgap_model.specs.declared.geometry.Window.{Window}
 use Rattle.tgap_model.specs.declared.base.BaseArc.{BaseArc}
 use Rattle.tgap_model.specs.Chains.{Chain, arc_number}
 use Rattle.grid_index.specs.Picked.{no_box, box_at}
+use Rattle.span_index.specs.declared.span_box.SpanBox.{SpanBox}
 use Rattle.edge_forest.specs.declared.edge.Part.{Part}
-use Rattle.edge_forest.specs.Edges.{chain_of}
+use Rattle.edge_forest.specs.declared.edge.ForestEdge.{ForestEdge}
+use Rattle.edge_forest.specs.Edges.{edge_at, chain_of}
 use Rattle.edge_forest.specs.Forest.{EdgeForest}
 
 -- the least box that holds two
@@ -37,6 +39,17 @@ edge_box f i = points_box (arcs_points f.base.arcs (chain_of f.edges i))
 
 abbrev pub boxes_of : EdgeForest → List Window
 boxes_of f = map (edge_box f) (range_with_len 0 (length f.edges))
+
+-- the edge is there after one of the steps from the first to the last
+abbrev pub is_within : ℕ → ℕ → ForestEdge → Bool
+is_within first last e = nat_le e.low last && nat_lt first e.high
+
+-- the box of an edge with the range of its steps, and that of each edge by number
+abbrev pub span_box : EdgeForest → ℕ → SpanBox
+span_box f i = record { area = edge_box f i; low = (edge_at f.edges i).low; high = (edge_at f.edges i).high }
+
+abbrev pub span_boxes_of : EdgeForest → List SpanBox
+span_boxes_of f = map (span_box f) (range_with_len 0 (length f.edges))
 
 -- ---- how they are made
 

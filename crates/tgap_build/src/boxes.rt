@@ -1,10 +1,11 @@
-//! The bounding boxes of the edges of a forest.
+//! The bounding boxes of the edges of a forest, with the ranges of their steps.
 
 ghost use Rattle.std.specs.Prelude.{◌≡◌, ◌<◌, ◌≤◌, map, length, All, IfOk};
 ghost use Rattle.edge_forest.specs.Edges.{IsPart};
-ghost use Rattle.tgap_build.specs.Boxes.{hull, hull_of, point_box, points_box, part_box, boxes_of};
+ghost use Rattle.tgap_build.specs.Boxes.{hull, hull_of, point_box, points_box, part_box, boxes_of, span_boxes_of};
 
 use edge_forest::{Forest, Part};
+use span_index::SpanBox;
 use std::alloc::Global;
 use tgap_model::{BaseArc, List, Memory, Point, Window};
 
@@ -83,7 +84,7 @@ fn parts_box(arcs: &[Window], edges: &[Window], parts: &[Part]) -> Window
 
 /// The bounding box of all points of the arcs of each edge, by number. The time is that of the points of the map, and of the
 /// parts of the edges: the box of an edge is that of its parts.
-pub fn boxes_of(alloc: Global, forest: &Forest) -> Result<List<Window>, Memory>
+fn boxes_of(alloc: Global, forest: &Forest) -> Result<List<Window>, Memory>
     ensures { IfOk result (λ boxes. boxes ≡ boxes_of forest.now) }
 {
     let arcs = arc_boxes(alloc, forest.base().arcs().as_slice())?;
@@ -93,4 +94,23 @@ pub fn boxes_of(alloc: Global, forest: &Forest) -> Result<List<Window>, Memory>
         boxes.push(parts_box(&arcs, &boxes, parts))?;
     }
     Ok(List::from(boxes))
+}
+
+/// The box of each edge with the range of its steps, by number. The time is that of the points of the map, and of the parts
+/// of the edges.
+pub fn span_boxes_of(alloc: Global, forest: &Forest) -> Result<List<SpanBox>, Memory>
+    ensures { IfOk result (λ spans. spans ≡ span_boxes_of forest.now) }
+{
+    let boxes = boxes_of(alloc, forest)?;
+    let areas = boxes.as_slice();
+    let mut spans = List::with_capacity(alloc, areas.len())?;
+    for id in 0..forest.count() {
+        let edge = forest.edge(id);
+        spans.push(SpanBox {
+            area: areas[id as usize],
+            low: edge.low,
+            high: edge.high,
+        })?;
+    }
+    Ok(spans)
 }

@@ -26,9 +26,6 @@ found : (f boxed : EdgeForest) (k : ℕ) (area : Window) (ids lent : List ℕ) �
 found f boxed k area ids lent same near is =
     subst₂ (λ (g : EdgeForest) (is : List ℕ). IsPermutation (filter (λ i. is_alive k (edge_at g.edges i)) (near_boxes area (boxes_of g))) is) (sym same) (sym is) near
 
-pub ids_near-requires-clause-step : goal.ids_near-requires-clause-step
-ids_near-requires-clause-step c = subst (λ (b : BaseMap). c.args.k ≤ length (history_of b)) (sym c.boxed-boxed.ensures.base) c.requires
-
 pub edges_of-requires-clause-within : goal.edges_of-requires-clause-within
 edges_of-requires-clause-within c =
     let f = c.forest-forest.result.now in

@@ -1,0 +1,5 @@
+mod Covering
+mod Holding
+mod Skipping
+mod Wider
+mod Found
