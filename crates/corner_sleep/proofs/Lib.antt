@@ -1,0 +1,4 @@
+pub mod Backwards
+pub mod Blocked
+pub mod Staying
+pub mod Awake
