@@ -2,3 +2,5 @@ pub mod Backwards
 pub mod Blocked
 pub mod Staying
 pub mod Awake
+pub mod Listing
+pub mod Waking

@@ -1,2 +1,3 @@
 pub mod Sleeping
 pub mod SleepLaws
+pub mod Table

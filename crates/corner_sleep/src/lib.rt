@@ -4,10 +4,13 @@
 #![tactic(auto)]
 
 mod laws;
+mod lists;
 mod sleeper;
+mod sleepers;
 
 pub use laws::{
     blocked_stays, blocker_stays, clear_is_the_same_backwards, segment_stays, sleepers_are_kept,
     sweep_of_awake,
 };
 pub use sleeper::Sleeper;
+pub use sleepers::Sleepers;
