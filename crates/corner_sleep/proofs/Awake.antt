@@ -1,10 +1,10 @@
 -- A sweep that passes over corners that sleep removes what `sweep` removes.
-use Rattle.std.proofs.Common.{◌≡◌, ◌⊎◌, inl, inr, ⊎_elim, ℕ, ℤ, pos, ◌*◌, ◌==◌, Bool, true, false, ◌&&◌, ◌||◌, not, int_le, List, [], ◌∷◌, ◌++◌, All, Contains, Some, refl, sym, ap, ap₂, ◌∙◌, subst, append_assoc}
+use Rattle.std.proofs.Common.{◌≡◌, inl, inr, ⊎_elim, ℕ, ℤ, pos, ◌*◌, ◌==◌, Bool, true, false, ◌&&◌, ◌||◌, not, int_le, List, [], ◌∷◌, ◌++◌, All, Contains, Some, refl, sym, ap, ap₂, ◌∙◌, subst, append_assoc}
 use Rattle.std.specs.List.{list_all}
 use Rattle.std.proofs.lemmas.Bool.{and_parts, and_left, or_from, or_parts, or_cases}
 use Rattle.std.proofs.lemmas.Grind.{flat_map-append}
 use Rattle.std.proofs.lemmas.List.{append-nil}
-use Rattle.std.proofs.lemmas.List.Elements.{All-nil, All-cons, All-head, All-tail, All-append, Contains-append_left, Contains-append_right, Contains-append_cases}
+use Rattle.std.proofs.lemmas.List.Elements.{All-nil, All-cons, All-head, All-tail, Contains-append_left, Contains-append_right, Contains-append_cases}
 use Rattle.tgap_model.specs.declared.geometry.Point.{Point}
 use Rattle.tgap_model.specs.declared.geometry.Seg.{Seg}
 use Rattle.tgap_model.specs.declared.slice.Edge.{Edge}
@@ -12,7 +12,7 @@ use Rattle.tgap_model.specs.Clear.{is_clear}
 use Rattle.tgap_model.specs.Point.{area2}
 use Rattle.tgap_model.specs.Removals.{Swept, path, is_removable, sweep_from, sweep_points, sweep_edges, live_segments, has_side}
 use Rattle.corner_sleep.specs.declared.sleeper.Sleeper.{Sleeper}
-use Rattle.corner_sleep.specs.Sleeping.{Asleep, IsAmong, IsBlocked, AreBlocked, AreBlockedBy, IsApartFrom, TellsSleepers, is_between, ends_at, turned, sweep_from_but, sweep_points_but, sweep_awake, stays_so, all_stay}
+use Rattle.corner_sleep.specs.Sleeping.{Asleep, IsAmong, AreBlocked, IsApartFrom, TellsSleepers, ends_at, turned, sweep_from_but, sweep_points_but, sweep_awake, stays_so, all_stay}
 use Rattle.corner_sleep.specs.SleepLaws.{SweepOfAwake, StaysWhole}
 use Rattle.corner_sleep.proofs.Blocked.{blocked_stays}
 use Rattle.corner_sleep.proofs.Staying.{among_by, segment_stays, blocker_stays, from_gone, from_kept, moved}

@@ -1,5 +1,5 @@
 -- The corners a and c of a triangle may change places.
-use Rattle.std.proofs.Common.{◌≡◌, ℕ, Bool, true, false, ◌&&◌, ◌||◌, not, ℤ, pos, neg_ℤ, unsigned_abs, [], ◌∷◌, refl, sym, ap, ap₂, ◌∙◌}
+use Rattle.std.proofs.Common.{◌≡◌, Bool, true, false, ◌&&◌, ◌||◌, not, ℤ, pos, neg_ℤ, unsigned_abs, [], ◌∷◌, refl, sym, ap, ap₂, ◌∙◌}
 use Rattle.std.proofs.Math.Bool.{and_comm, or_comm}
 use Rattle.std.proofs.Math.IntN.{neg_ℤ-neg_ℤ}
 use Rattle.std.specs.Ordering.{int_eq}

@@ -1,5 +1,5 @@
 -- A blocked corner is not removed.
-use Rattle.std.proofs.Common.{◌≡◌, ◌⊎◌, inl, inr, ⊎_elim, ℕ, ℤ, pos, ◌*◌, ◌==◌, Bool, true, false, ◌&&◌, ◌||◌, int_le, List, [], ◌∷◌, Contains, refl, sym, ap, ap₂, ◌∙◌, subst}
+use Rattle.std.proofs.Common.{◌≡◌, ◌⊎◌, inl, inr, ⊎_elim, ℕ, ℤ, pos, ◌*◌, ◌==◌, Bool, true, false, ◌&&◌, int_le, List, [], ◌∷◌, Contains, ap, ◌∙◌, subst}
 use Rattle.std.specs.List.{list_all}
 use Rattle.std.proofs.lemmas.Bool.{and_left, and_right, and_parts, or_cases, or_from}
 use Rattle.lemmas.proofs.Members.{in_cases, in_none}
@@ -12,7 +12,7 @@ use Rattle.tgap_model.specs.Removals.{is_removable}
 use Rattle.tgap_model.proofs.Points.{same_point-true}
 use Rattle.map_laws.proofs.Clear.{clear_is_symmetric}
 use Rattle.corner_sleep.specs.declared.sleeper.Sleeper.{Sleeper}
-use Rattle.corner_sleep.specs.Sleeping.{IsAmong, IsBlocked, is_between, turned}
+use Rattle.corner_sleep.specs.Sleeping.{IsAmong, is_between, turned}
 use Rattle.corner_sleep.specs.SleepLaws.{BlockedStays}
 use Rattle.corner_sleep.proofs.Backwards.{area_back, clear_back}
 

@@ -1,6 +1,6 @@
 -- What the table of the sleepers knows when vertices are parked and woken.
-use Rattle.std.proofs.Common.{◌≡◌, ◌⊎◌, Option, Some, None, unwrap_or, Bool, true, false, ◌||◌, if◌then◌else◌, List, [], ◌∷◌, Contains, refl, sym, ap, ◌∙◌, subst}
-use Rattle.std.proofs.lemmas.Bool.{or_from, or_parts, false_from_ne_true, true≢false}
+use Rattle.std.proofs.Common.{◌≡◌, Option, Some, None, unwrap_or, Bool, true, false, if◌then◌else◌, List, [], Contains, refl, sym, ap, ◌∙◌, subst}
+use Rattle.std.proofs.lemmas.Bool.{or_from, false_from_ne_true, true≢false}
 use Rattle.std.proofs.lemmas.List.Folds.{list_any-from_Any}
 use Rattle.tgap_model.specs.declared.geometry.Point.{Point}
 use Rattle.tgap_model.specs.Base.{same_point}
@@ -46,8 +46,8 @@ module _ (p : Point) (asleep after : Asleep) (listed listed' : Point → List Po
   end_apart : (b : Point) (s : Sleeper) (q : Point) → after b ≡ Some s → Contains (listed q) b → same_point q p ≡ false
   end_apart b s q e there =
       false_from_ne_true (same_point q p) (λ f.
-        let in_woken : Contains woken b = subst (λ (l : List Point). Contains l b) (ap listed (same_point-true q p f) ∙ sym is) there in
-        true≢false (sym (one_of woken b in_woken) ∙ (still b s e).1))
+      let in_woken : Contains woken b = subst (λ (l : List Point). Contains l b) (ap listed (same_point-true q p f) ∙ sym is) there in
+      true≢false (sym (one_of woken b in_woken) ∙ (still b s e).1))
 
   woken_apart : (b : Point) (s : Sleeper) → after b ≡ Some s → ends_at p s.blocker ≡ false
   woken_apart b s e =
@@ -64,10 +64,10 @@ module _ (p : Point) (asleep after : Asleep) (listed listed' : Point → List Po
   woken_keeps = (
     λ b s e. blocked b s (still b s e).0,
     λ b s e.
-      let both = lists b s (still b s e).0 in (
-        subst (λ (l : List Point). Contains l b) (same_list s.blocker.a (end_apart b s s.blocker.a e both.0)) both.0,
-        subst (λ (l : List Point). Contains l b) (same_list s.blocker.b (end_apart b s s.blocker.b e both.1)) both.1,
-      ),
+        let both = lists b s (still b s e).0 in (
+          subst (λ (l : List Point). Contains l b) (same_list s.blocker.a (end_apart b s s.blocker.a e both.0)) both.0,
+          subst (λ (l : List Point). Contains l b) (same_list s.blocker.b (end_apart b s s.blocker.b e both.1)) both.1,
+        ),
   )
 
 -- ---- one is parked

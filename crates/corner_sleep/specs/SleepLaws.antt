@@ -1,10 +1,10 @@
 -- Laws of a sweep that passes over corners that sleep.
-use Rattle.std.specs.Prelude.{◌≡◌, ◌⊎◌, ℕ, ℤ, Bool, true, false, not, List, [], ◌∷◌, ◌++◌, All, filter}
+use Rattle.std.specs.Prelude.{◌≡◌, ◌⊎◌, ℕ, ℤ, Bool, true, false, List, [], ◌∷◌, ◌++◌, All, filter}
 use Rattle.tgap_model.specs.declared.geometry.Point.{Point}
 use Rattle.tgap_model.specs.declared.geometry.Seg.{Seg}
 use Rattle.tgap_model.specs.declared.slice.Edge.{Edge}
 use Rattle.tgap_model.specs.Clear.{is_clear}
-use Rattle.tgap_model.specs.Removals.{Swept, path, is_removable, sweep_from, sweep_points, sweep_edges, live_segments, has_side}
+use Rattle.tgap_model.specs.Removals.{path, is_removable, sweep_from, sweep_points, sweep_edges, live_segments, has_side}
 use Rattle.corner_sleep.specs.declared.sleeper.Sleeper.{Sleeper}
 use Rattle.corner_sleep.specs.Sleeping.{Asleep, IsAmong, IsBlocked, AreBlocked, AreBlockedBy, TellsSleepers, is_between, ends_at, sweep_awake, all_stay}
 

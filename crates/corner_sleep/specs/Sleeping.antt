@@ -1,5 +1,5 @@
 -- Corners that sleep, each with the segment that blocks it, and the sweep that passes over them.
-use Rattle.std.specs.Prelude.{◌≡◌, ◌≢◌, ◌⊎◌, ℕ, ℤ, pos, ◌*◌, ◌==◌, ◌&&◌, ◌||◌, int_le, not, Bool, true, false, List, [], ◌∷◌, ◌++◌, All, Contains, Option, Some, None}
+use Rattle.std.specs.Prelude.{◌≡◌, ◌⊎◌, ℕ, ℤ, pos, ◌*◌, ◌==◌, ◌&&◌, ◌||◌, int_le, not, Bool, true, false, List, [], ◌∷◌, ◌++◌, All, Contains, Option, Some, None}
 use Rattle.tgap_model.specs.declared.geometry.Point.{Point}
 use Rattle.tgap_model.specs.declared.geometry.Seg.{Seg}
 use Rattle.tgap_model.specs.declared.slice.Edge.{Edge}

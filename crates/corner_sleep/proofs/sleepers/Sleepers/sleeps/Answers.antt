@@ -1,4 +1,4 @@
-use Rattle.std.proofs.Common.{◌∙◌, List, sym, ap}
+use Rattle.std.proofs.Common.{◌∙◌, List, ap}
 use Rattle.tgap_model.specs.declared.geometry.Point.{Point}
 use Rattle.corner_sleep.specs.declared.sleeper.Sleeper.{Sleeper}
 use Rattle.corner_sleep.specs.Table.{asleep_of}

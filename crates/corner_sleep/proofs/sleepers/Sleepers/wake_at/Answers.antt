@@ -1,4 +1,4 @@
-use Rattle.std.proofs.Common.{◌∙◌, List, sym, subst}
+use Rattle.std.proofs.Common.{◌∙◌, List, subst}
 use Rattle.tgap_model.specs.declared.geometry.Point.{Point}
 use Rattle.corner_sleep.specs.declared.sleeper.Sleeper.{Sleeper}
 use Rattle.corner_sleep.specs.Sleeping.{AreWoken}
