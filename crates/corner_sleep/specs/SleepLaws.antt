@@ -1,12 +1,13 @@
 -- Laws of a sweep that passes over corners that sleep.
-use Rattle.std.specs.Prelude.{◌≡◌, ◌⊎◌, ℕ, ℤ, Bool, true, false, List, [], ◌∷◌, ◌++◌, All, filter}
+use Rattle.std.specs.Prelude.{◌≡◌, ◌⊎◌, ℕ, ℤ, Bool, true, false, List, [], ◌∷◌, ◌++◌, All, filter, Some, if◌then◌else◌}
 use Rattle.tgap_model.specs.declared.geometry.Point.{Point}
 use Rattle.tgap_model.specs.declared.geometry.Seg.{Seg}
 use Rattle.tgap_model.specs.declared.slice.Edge.{Edge}
+use Rattle.tgap_model.specs.Base.{same_point}
 use Rattle.tgap_model.specs.Clear.{is_clear}
 use Rattle.tgap_model.specs.Removals.{path, is_removable, sweep_from, sweep_points, sweep_edges, live_segments, has_side}
 use Rattle.corner_sleep.specs.declared.sleeper.Sleeper.{Sleeper}
-use Rattle.corner_sleep.specs.Sleeping.{Asleep, IsAmong, IsBlocked, AreBlocked, AreBlockedBy, TellsSleepers, is_between, ends_at, sweep_awake, all_stay}
+use Rattle.corner_sleep.specs.Sleeping.{Asleep, IsAmong, IsBlocked, AreBlocked, AreBlockedBy, TellsSleepers, is_between, AreWoken, ends_at, sleeps, sweep_awake, all_stay}
 
 -- the corners a and c may change places
 abbrev pub ClearIsTheSameBackwards : Type 0
@@ -52,3 +53,32 @@ SweepOfAwake =
     → AreBlocked asleep → AreBlockedBy (live_segments edges) asleep → TellsSleepers asleep skips
     → ((gone : List Point) (e : Edge) → has_side made e ≡ true → opened gone e ≡ false → StaysWhole skips ratio area gone e.points)
     → sweep_awake skips opened ratio area made [] [] edges ≡ sweep_edges ratio area made [] edges
+
+-- ---- one vertex at a time
+
+-- At a vertex b between a and c, where each sleeper is blocked by a segment that is there at that moment: if the corner sleeps, b is
+-- not removed.
+abbrev pub SleepingStays : Type 0
+SleepingStays =
+    (ratio : ℕ) (area : ℤ) (asleep : Asleep) (others done : List Seg) (a b c : Point) (points : List Point) → AreBlocked asleep
+    → AreBlockedBy (others ++ done ++ path (a ∷ b ∷ c ∷ points)) asleep → sleeps asleep a b c ≡ true
+    → is_removable ratio area (others ++ done ++ path (c ∷ points)) a b c ≡ false
+
+-- If b goes, and those are woken whose blocker ends there, each sleeper is blocked by a segment that is there then.
+abbrev pub WokenStayBlocked : Type 0
+WokenStayBlocked =
+    (before after : Asleep) (others done : List Seg) (a b c : Point) (points : List Point) → AreWoken b before after
+    → AreBlockedBy (others ++ done ++ path (a ∷ b ∷ c ∷ points)) before → AreBlockedBy (others ++ done ++ path (a ∷ c ∷ points)) after
+
+-- If b is kept, the segments are the same.
+abbrev pub KeptStayBlocked : Type 0
+KeptStayBlocked =
+    (asleep : Asleep) (others done : List Seg) (a b c : Point) (points : List Point)
+    → AreBlockedBy (others ++ done ++ path (a ∷ b ∷ c ∷ points)) asleep
+    → AreBlockedBy (others ++ (done ++ record { a = a; b = b } ∷ []) ++ path (b ∷ c ∷ points)) asleep
+
+-- One more that sleeps, blocked by one of the segments.
+abbrev pub ParkedIsBlocked : Type 0
+ParkedIsBlocked =
+    (before after : Asleep) (segments : List Seg) (b : Point) (s : Sleeper) → ((q : Point) → after q ≡ (if same_point b q then Some s else before q))
+    → IsAmong segments s.blocker → AreBlockedBy segments before → AreBlockedBy segments after

@@ -1,7 +1,7 @@
 //! Laws of a sweep that passes over corners that sleep. The functions do nothing: the contract of each is a law, which is
 //! proved with the crate.
 
-ghost use Rattle.corner_sleep.specs.SleepLaws.{BlockedStays, BlockerStays, ClearIsTheSameBackwards, SegmentStays, SleepersAreKept, SweepOfAwake};
+ghost use Rattle.corner_sleep.specs.SleepLaws.{BlockedStays, BlockerStays, ClearIsTheSameBackwards, SegmentStays, SleepersAreKept, SweepOfAwake, SleepingStays, WokenStayBlocked, KeptStayBlocked, ParkedIsBlocked};
 
 /// Whether a triangle is clear of a segment does not depend on which of the corners `a` and `c` is named first.
 pub fn clear_is_the_same_backwards()
@@ -33,4 +33,24 @@ pub fn sleepers_are_kept()
 /// of which each corner sleeps or is too large.
 pub fn sweep_of_awake()
     ensures { SweepOfAwake }
+{}
+
+/// The vertex of a corner that sleeps is not removed, where what blocks each sleeper is there at that moment.
+pub fn sleeping_stays()
+    ensures { SleepingStays }
+{}
+
+/// Where a vertex goes, and those are woken whose blocker ends there, what blocks each sleeper is there then.
+pub fn woken_stay_blocked()
+    ensures { WokenStayBlocked }
+{}
+
+/// Where a vertex is kept, what blocks each sleeper is there as before.
+pub fn kept_stay_blocked()
+    ensures { KeptStayBlocked }
+{}
+
+/// A vertex that is parked with one of the segments is blocked by one of them, as all others are.
+pub fn parked_is_blocked()
+    ensures { ParkedIsBlocked }
 {}

@@ -9,8 +9,9 @@ mod sleeper;
 mod sleepers;
 
 pub use laws::{
-    blocked_stays, blocker_stays, clear_is_the_same_backwards, segment_stays, sleepers_are_kept,
-    sweep_of_awake,
+    blocked_stays, blocker_stays, clear_is_the_same_backwards, kept_stay_blocked,
+    parked_is_blocked, segment_stays, sleepers_are_kept, sleeping_stays, sweep_of_awake,
+    woken_stay_blocked,
 };
 pub use sleeper::Sleeper;
 pub use sleepers::Sleepers;
