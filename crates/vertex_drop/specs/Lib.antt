@@ -5,3 +5,4 @@ pub mod Left
 pub mod Sweep
 pub mod Corners
 pub mod Chunks
+pub mod Asleep
