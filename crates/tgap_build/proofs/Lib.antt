@@ -52,3 +52,4 @@ pub mod KeptEdges
 pub mod LosingEdges
 pub mod BoxedEdges
 pub mod BoxedTables
+pub mod LeftEdges

@@ -13,3 +13,4 @@ pub mod Reached
 pub mod Candidates
 pub mod Paths
 pub mod Walked
+pub mod Touching

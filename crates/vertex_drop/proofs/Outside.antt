@@ -69,7 +69,7 @@ ranges_beyond a b l h low high la ha lb hb (inl k) = inl (omega (arith, ints), o
 ranges_beyond a b l h low high la ha lb hb (inr k) = inr (omega (arith, ints), omega (arith, ints))
 
 -- a segment in a box is outside a box that is apart
-apart_is_outside : (b t : Window) (s : Seg) → IsHeld b s.a → IsHeld b s.b → AreApart b t → IsOutside t s
+pub apart_is_outside : (b t : Window) (s : Seg) → IsHeld b s.a → IsHeld b s.b → AreApart b t → IsOutside t s
 apart_is_outside b t s h k (inl x) = inl (ranges_beyond s.a.x s.b.x b.x0 b.x1 t.x0 t.x1 h.left h.right k.left k.right x)
 apart_is_outside b t s h k (inr y) = inr (ranges_beyond s.a.y s.b.y b.y0 b.y1 t.y0 t.y1 h.low h.high k.low k.high y)
 

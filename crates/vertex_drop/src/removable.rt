@@ -9,13 +9,12 @@ ghost use Rattle.tgap_model.specs.Removals.{is_removable};
 ghost use Rattle.vertex_drop.specs.Corners.{small_area};
 ghost use Rattle.point_rope.specs.Held.{IsNearPoint};
 ghost use Rattle.vertex_drop.specs.Left.{left_segments};
-ghost use Rattle.vertex_drop.specs.Outside.{IsTriangle};
 
 use crate::kept::Kept;
-use crate::near::{Stand, is_clear_of_left};
+use crate::near::Stand;
 use crate::table::LiveTable;
 use crate::triangle::Triangle;
-use grid_geo::area2;
+use grid_geo::{area2, side};
 use point_rope::bounds_of;
 use std::alloc::Global;
 use tgap_model::{Memory, Point};
@@ -74,7 +73,6 @@ fn triangle_of(corner: Corner) -> Triangle
     ensures a { result.a ≡ corner.a }
     ensures b { result.b ≡ corner.b }
     ensures c { result.c ≡ corner.c }
-    ensures triangle { IsTriangle result }
 {
     let Corner { a, b, c } = corner;
     Triangle {
@@ -82,6 +80,7 @@ fn triangle_of(corner: Corner) -> Triangle
         b,
         c,
         bounds: bounds_of(&[a, b, c]),
+        right: side(a, b, c) < 0,
     }
 }
 
@@ -93,7 +92,6 @@ fn is_clear_of_all<L: LiveTable>(
     live: &L,
     kept: &Kept<'_>,
 ) -> Result<bool, Memory>
-    requires triangle { IsTriangle t.now }
     requires keys { AllPairs (λ j k. j < k) at.keys.now }
     requires at { at.place + 1 < 2 ^ 32 }
     ensures { IfOk result (λ clear. clear ≡ list_all (is_clear t.now.a t.now.b t.now.c) (kept.now ++ left_segments at.entry (L.edges live.now))) }
@@ -101,7 +99,7 @@ fn is_clear_of_all<L: LiveTable>(
     if !kept.is_clear_of(t) {
         return Ok(false);
     }
-    is_clear_of_left(alloc, t, at, live)
+    live.is_clear_of_left(alloc, t, at)
 }
 
 /// Whether the vertex of a corner is removed, at which the sweep stands, where these segments were kept so far.
