@@ -1,5 +1,5 @@
 -- Whether the segments of a row pass a test, by those of its parts.
-use Rattle.std.proofs.Common.{◌≡◌, ℕ, suc, ◌+◌, ◌-◌, ◌≤◌, ◌<◌, Bool, true, false, ◌&&◌, List, [], ◌∷◌, ◌++◌, length, take, drop, get_or, Option, None, Some, option_to_list, All, append_assoc, refl, sym, ap, ap₂, ◌∙◌, subst, arith}
+use Rattle.std.proofs.Common.{◌≡◌, ℕ, zero, suc, ◌+◌, ◌-◌, ◌≤◌, ◌<◌, Bool, true, false, ◌&&◌, List, [], ◌∷◌, ◌++◌, length, take, drop, get_or, Option, None, Some, option_to_list, All, append_assoc, refl, sym, ap, ap₂, ◌∙◌, subst, arith}
 use Rattle.std.specs.List.{list_all}
 use Rattle.std.proofs.lemmas.Bool.{and_from}
 use Rattle.std.proofs.lemmas.List.{at_drop_more, drop-append-le, length-append, length-drop, nil_from_length, append-nil}
@@ -53,19 +53,14 @@ path_seam (Some p) (y ∷ ys) = refl
 -- the last point of a row is that of its rest
 pub last_of_rest : (xs : List Point) (n : ℕ) → n < length xs → last_one (drop n xs) ≡ last_one xs
 last_of_rest [] n l = absurd (omega (arith, l))
-last_of_rest (a ∷ xs) 0 l = refl
+last_of_rest (a ∷ xs) zero l = refl
 last_of_rest (a ∷ []) (suc n) l = absurd (omega (arith, l))
 last_of_rest (a ∷ b ∷ xs) (suc n) l = last_of_rest (b ∷ xs) n (omega (arith, l))
 
-pub last_is : (xs : List Point) (n : ℕ) (d : Point) → n + 1 ≡ length xs → last_one xs ≡ get_or xs n d ∷ []
-last_is xs n d is =
-    let last : length xs - 1 ≡ n = omega (arith, is) in
-    last_one_behind [] xs d (omega (arith, is)) ∙ ap (λ (k : ℕ). get_or xs k d ∷ []) last
-
-pub All-last : (P : Point → Type 0) (xs : List Point) → All P xs → All P (last_one xs)
-All-last P [] h = h
-All-last P (a ∷ []) h = h
-All-last P (a ∷ b ∷ xs) h = All-last P (b ∷ xs) (All-tail P a (b ∷ xs) h)
+-- a point that may be missing is the last of itself
+pub last_alone : (e : Option Point) → option_to_list e ≡ last_one (option_to_list e)
+last_alone None = refl
+last_alone (Some p) = refl
 
 -- the last point of runs, in the run that has it
 pub last_of_runs : (xss : List (List Point)) (k i : ℕ) (d : List Point) (p : Point) → k < length xss → i < length (get_or xss k d) → length (joined (take k xss)) + i + 1 ≡ length (joined xss)
@@ -109,6 +104,17 @@ module _ (test : Seg → Bool) where
       ∙ ap (λ (b : Bool). b && all (option_to_list end ++ behind)) pass
       )
 
+  -- where those of the run do not pass
+  pub all_fails : (e : Option Point) (xss : List (List Point)) (k : ℕ) (d : List Point) → k < length xss → all (option_to_list e ++ get_or xss k d) ≡ false
+      → all (option_to_list e ++ joined (drop k xss)) ≡ false
+  all_fails e xss k d short fails =
+      let here = get_or xss k d in
+      let behind = joined (drop (k + 1) xss) in
+      at_drop_more (λ (rest : List (List Point)). all (option_to_list e ++ joined rest)) xss k d short
+      ∙ ap all (sym (append_assoc (option_to_list e) here behind))
+      ∙ all-append (option_to_list e ++ here) behind
+      ∙ ap (λ (b : Bool). b && all (last_one (option_to_list e ++ here) ++ behind)) fails
+
   -- the rest of a row of runs, of the run with the first point and of those behind it
   pub all_rest : (xss : List (List Point)) (k i place : ℕ) (d : List Point) (end : Option Point) → k < length xss → i < length (get_or xss k d) → length (joined (take k xss)) + i ≡ place
       → option_to_list end ≡ last_one (drop i (get_or xss k d))
@@ -136,16 +142,17 @@ module _ (test : Seg → Bool) where
       ∙ ap (λ (b : Bool). b && all (last_one (drop i here) ++ behind)) fails
 
   -- the rest of a row with more points behind it
-  pub all_rope : (xs ys : List Point) (n : ℕ) (end : Option Point) → n < length xs → option_to_list end ≡ last_one xs
-      → all (drop n (xs ++ ys)) ≡ (all (drop n xs) && all (option_to_list end ++ take 1 ys) && all ys)
+  pub all_rope : (xs ys : List Point) (n : ℕ) (end : Option Point) → n < length xs → option_to_list end ≡ last_one xs → all (drop n (xs ++ ys)) ≡ (all (drop n xs) && all (option_to_list end ++ ys))
   all_rope xs ys n end l is =
       ap all (drop-append-le n xs ys (omega (arith, l)))
       ∙ all_both (drop n xs) ys end (is ∙ sym (last_of_rest xs n l))
-      ∙ ap (λ (b : Bool). all (drop n xs) && b) (all_seam end ys)
-      ∙ and_assoc (all (drop n xs)) (all (option_to_list end ++ take 1 ys)) (all ys)
-    where
-      and_assoc : (p q r : Bool) → (p && (q && r)) ≡ (p && q && r)
-      and_assoc p q r = grind
+
+  -- where those before them do not pass
+  pub all_rope_first : (xs ys : List Point) (n : ℕ) → n < length xs → all (drop n xs) ≡ false → all (drop n (xs ++ ys)) ≡ false
+  all_rope_first xs ys n l fails =
+      ap all (drop-append-le n xs ys (omega (arith, l)))
+      ∙ all-append (drop n xs) ys
+      ∙ ap (λ (b : Bool). b && all (last_one (drop n xs) ++ ys)) fails
 
   -- all segments of points in a box pass where all segments in the box do
   pub all_held : (b : Window) (points : List Point) → All IsNearPoint points → All (IsHeld b) points

@@ -36,3 +36,12 @@ pub fn seam_passes<T: SegmentTest>(test: &T, before: Option<Point>, points: &[Po
         _ => true,
     }
 }
+
+/// Whether each segment of some points passes the test, and the one from the last point before.
+pub fn all_pass_after<T: SegmentTest>(test: &T, before: Option<Point>, points: &[Point]) -> bool
+    requires before { All IsNearPoint (option_to_list before) }
+    requires points { All IsNearPoint points.now }
+    ensures { result ≡ list_all (T.passes test.now) (path (option_to_list before ++ points.now)) }
+{
+    seam_passes(test, before, points) && all_pass(test, points)
+}

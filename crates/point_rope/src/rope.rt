@@ -18,7 +18,7 @@ use crate::full_run::FullRun;
 use crate::joining::{MOST, cut, put_row, settle};
 use crate::near::{push_near_of, push_seam};
 use crate::over_runs::{any_has, bounds_of_runs, corners_of, push_near_runs};
-use crate::passing::{all_pass, seam_passes};
+use crate::passing::{all_pass, all_pass_after};
 use crate::point_test::PointTest;
 use crate::points::{has_any_of, take_out};
 use crate::run::{Run, rest_of};
@@ -170,9 +170,7 @@ impl Rope {
         if count <= from {
             return all_pass(test, rest_of(&self.last, from - count).points);
         }
-        self.full.all_pass_from(test, from)
-            && seam_passes(test, self.full.end(), &self.last)
-            && all_pass(test, &self.last)
+        self.full.all_pass_from(test, from) && all_pass_after(test, self.full.end(), &self.last)
     }
 
     /// Whether one of the points passes the test. A run of whose box the test says that none passes is passed over.

@@ -1,5 +1,5 @@
 -- A triangle is clear of each segment in a box that it does not touch.
-use Rattle.std.proofs.Common.{◌≡◌, ◌≢◌, ◌⊎◌, inl, inr, if◌then◌else◌, true, false, Bool, ◌&&◌, ◌||◌, not, ℤ, pos, negsuc, ◌*ℤ◌, neg_ℤ, ◌<ℤ◌, ◌≤ℤ◌, int_lt, int_le, List, [], ◌∷◌, All, refl, sym, ap, subst, ◌∙◌, arith}
+use Rattle.std.proofs.Common.{◌≡◌, ◌≢◌, ◌⊎◌, inl, inr, if◌then◌else◌, true, false, Bool, ◌&&◌, ◌||◌, not, ℤ, pos, negsuc, ◌*ℤ◌, neg_ℤ, ◌<ℤ◌, ◌≤ℤ◌, int_lt, int_le, List, [], ◌∷◌, ◌++◌, All, refl, sym, ap, subst, ◌∙◌, arith}
 use Rattle.std.specs.List.{list_all}
 use Rattle.std.specs.Int.{int_min, int_max}
 use Rattle.std.specs.Int.Signed.{clash_ℤ}
@@ -7,7 +7,9 @@ use Rattle.std.specs.Ordering.{int_eq}
 use Rattle.std.proofs.lemmas.Int.{ints, clamps}
 use Rattle.std.proofs.lemmas.Bool.{and_parts, and_cases, and_from, or_cases, false_from_ne_true}
 use Rattle.std.proofs.lemmas.Bool.Decides.{Decides-int_eq}
-use Rattle.std.proofs.lemmas.List.Elements.{All-head, All-tail}
+use Rattle.std.proofs.lemmas.Grind.{flat_map-append}
+use Rattle.std.proofs.lemmas.List.{append-nil}
+use Rattle.std.proofs.lemmas.List.Elements.{All-head, All-tail, All-append, All-weaker}
 use Rattle.lemmas.proofs.Polynomials.{same_value, var, number, ◌⊗◌, cross, minus}
 use Rattle.lemmas.proofs.Signs.{Decides-int_le, Decides-int_lt, int_le-false, int_lt-false, apart_cases, le_lt_trans, negative_from_signum, mul_negative_right, mul_negative_left, square_not_negative, neg_positive}
 use Rattle.tgap_model.specs.declared.geometry.Point.{Point}
@@ -21,8 +23,10 @@ use Rattle.tgap_model.proofs.Points.{same_point-true}
 use Rattle.grid_index.specs.Boxes.{overlap, meets, Covers}
 use Rattle.point_rope.specs.Held.{IsHeld, IsNearPoint}
 use Rattle.vertex_drop.specs.Beyond.{limited, leftmost, is_right, is_past, may_touch, leftmost_more}
+use Rattle.vertex_drop.specs.Chunks.{segments_of, joined}
 use Rattle.vertex_drop.specs.Held.{IsHeldSegment}
 use Rattle.vertex_drop.specs.Outside.{AreRangesApart, AreApart, IsTriangle}
+use Rattle.vertex_drop.specs.declared.chunk.Chunk.{Chunk}
 use Rattle.vertex_drop.specs.declared.triangle.Triangle.{Triangle}
 use Rattle.vertex_drop.proofs.Boxes.{beyond_from, clear_from}
 use Rattle.vertex_drop.proofs.Heights.{AreBeyond}
@@ -30,9 +34,9 @@ use Rattle.vertex_drop.proofs.Outside.{outside_is_clear, apart_is_outside}
 
 pub is_triangle : (t : Triangle) → IsTriangle t
 is_triangle t = record {
-  near_a = t.near.0.0;
-  near_b = t.near.0.1;
-  near_c = t.near.1;
+  near_a = t.near.0;
+  near_b = t.near.1;
+  near_c = t.near.2;
   area = t.area;
   held_a = t.held_a;
   held_b = t.held_b;
@@ -174,3 +178,24 @@ module _ (t : Triangle) where
   untouched_are_clear b [] e h = refl
   untouched_are_clear b (s ∷ segments) e h =
       and_from _ _ (untouched_is_clear b s (All-head (IsHeldSegment b) s segments h) e) (untouched_are_clear b segments e (All-tail (IsHeldSegment b) s segments h))
+
+-- ---- a box that holds chunks
+
+wider_segments : (b d : Window) (segments : List Seg) → ((p : Point) → IsHeld b p → IsHeld d p) → All (IsHeldSegment b) segments → All (IsHeldSegment d) segments
+wider_segments b d segments wider h =
+    All-weaker (IsHeldSegment b) (IsHeldSegment d) (λ s k. record { near = k.near; held_a = wider s.a k.held_a; held_b = wider s.b k.held_b }) segments h
+
+-- one chunk more
+pub held_chunks : (b d e : Window) (chunks after : List Chunk) (x : Chunk) (ok : Bool) → after ≡ (if ok then chunks ++ x ∷ [] else chunks)
+    → ((p : Point) → IsHeld b p → IsHeld e p) → ((p : Point) → IsHeld d p → IsHeld e p)
+    → All (IsHeldSegment b) (joined chunks) → All (IsHeldSegment d) (segments_of x) → All (IsHeldSegment e) (joined after)
+held_chunks b d e chunks after x ok is first second old new = subst (λ (cs : List Chunk). All (IsHeldSegment e) (joined cs)) (sym is) (by ok)
+  where
+    before : All (IsHeldSegment e) (joined chunks)
+    before = wider_segments b e (joined chunks) first old
+
+    by : (o : Bool) → All (IsHeldSegment e) (joined (if o then chunks ++ x ∷ [] else chunks))
+    by true =
+        subst (All (IsHeldSegment e)) (sym (flat_map-append segments_of chunks (x ∷ []) ∙ ap (λ (ss : List Seg). joined chunks ++ ss) (append-nil (segments_of x))))
+        (All-append (IsHeldSegment e) (joined chunks) (segments_of x) before (wider_segments d e (segments_of x) second new))
+    by false = before

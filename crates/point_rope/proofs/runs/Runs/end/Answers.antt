@@ -1,5 +1,4 @@
-use Rattle.std.proofs.Common.{◌≡◌, ◌+◌, ◌∷◌, [], pos, List, length, take, get_or, sym, ap, ◌∙◌, arith}
-use Rattle.std.proofs.lemmas.Bool.{eqb-false}
+use Rattle.std.proofs.Common.{◌≡◌, ◌+◌, ◌≤◌, ◌∷◌, [], pos, List, length, take, get_or, sym, ap, ◌∙◌, arith}
 use Rattle.tgap_model.specs.declared.geometry.Point.{Point}
 use Rattle.point_rope.specs.Runs.{joined}
 use Rattle.point_rope.proofs.PathParts.{last_of_runs}
@@ -14,6 +13,6 @@ returns-clause-end c =
     let run = c.index.result.now in
     let is = c.points.ensures.points ∙ c.index.ensures ∙ ap (λ (rs : List (List Point)). get_or rs k run) c.self.view_is in
     let count = c.self.invariant.counted ∙ ap (λ (rs : List (List Point)). length (joined rs)) c.self.view_is in
-    let some = eqb-false c.self.inside.count 0 c.if-self-eq0.false in
+    let some : 1 ≤ c.self.inside.count = omega (arith, c.if-self-eq0.false) in
     ap (λ (ps : List Point). get_or ps i o ∷ []) is
     ∙ sym (last_of_runs runs k i run o c.found-run.ensures.run (c.found-run.ensures.within run) (omega (arith, c.found-run.ensures.before, count, some)))
