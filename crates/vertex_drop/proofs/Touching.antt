@@ -1,5 +1,5 @@
 -- A triangle is clear of each segment in a box that it does not touch.
-use Rattle.std.proofs.Common.{◌≡◌, ◌≢◌, ◌⊎◌, inl, inr, if◌then◌else◌, true, false, Bool, ◌&&◌, ◌||◌, not, ℤ, pos, negsuc, ◌*ℤ◌, neg_ℤ, ◌<ℤ◌, ◌≤ℤ◌, int_lt, int_le, List, [], ◌∷◌, ◌++◌, All, refl, sym, ap, subst, ◌∙◌, arith}
+use Rattle.std.proofs.Common.{◌≡◌, ◌≢◌, ◌⊎◌, inl, inr, if◌then◌else◌, true, false, Bool, ◌&&◌, ◌||◌, not, ℤ, pos, negsuc, ◌*ℤ◌, neg_ℤ, ◌<ℤ◌, ◌≤ℤ◌, int_le, List, [], ◌∷◌, ◌++◌, All, refl, sym, ap, subst, ◌∙◌, true≢false, arith}
 use Rattle.std.specs.List.{list_all}
 use Rattle.std.specs.Int.{int_min, int_max}
 use Rattle.std.specs.Int.Signed.{clash_ℤ}
@@ -11,7 +11,7 @@ use Rattle.std.proofs.lemmas.Grind.{flat_map-append}
 use Rattle.std.proofs.lemmas.List.{append-nil}
 use Rattle.std.proofs.lemmas.List.Elements.{All-head, All-tail, All-append, All-weaker}
 use Rattle.lemmas.proofs.Polynomials.{same_value, var, number, ◌⊗◌, cross, minus}
-use Rattle.lemmas.proofs.Signs.{Decides-int_le, Decides-int_lt, int_le-false, int_lt-false, apart_cases, le_lt_trans, negative_from_signum, mul_negative_right, mul_negative_left, square_not_negative, neg_positive}
+use Rattle.lemmas.proofs.Signs.{Decides-int_le, int_le-false, by_sign, le_lt_trans, negative_from_signum, int_signum-negative, mul_negative_right, mul_negative_left, square_not_negative, neg_positive}
 use Rattle.tgap_model.specs.declared.geometry.Point.{Point}
 use Rattle.tgap_model.specs.declared.geometry.Seg.{Seg}
 use Rattle.tgap_model.specs.declared.geometry.Window.{Window}
@@ -85,18 +85,18 @@ module _ (t : Triangle) where
   beyond_in : (u v p : Point) (b : Window) → in_limits p ≡ true → IsHeld b p → is_past t.right u v b ≡ true → (d *ℤ cross_of u v p) <ℤ pos 0
   beyond_in u v p b near h e = by t.right t.turn e
     where
-      by : (right : Bool) → right ≡ int_lt d (pos 0) → is_past right u v b ≡ true → (d *ℤ cross_of u v p) <ℤ pos 0
+      by : (right : Bool) → right ≡ int_eq (side t.a t.b t.c) (negsuc 0) → is_past right u v b ≡ true → (d *ℤ cross_of u v p) <ℤ pos 0
       by true turn f =
           let back : cross_of v u p <ℤ pos 0 = right_in v u p b near h f in
-          mul_negative_left ((Decides-int_lt d (pos 0)).0 (sym turn))
+          mul_negative_left (negative_from_signum d ((Decides-int_eq (side t.a t.b t.c) (negsuc 0)).0 (sym turn)))
           (subst (λ (z : ℤ). pos 0 <ℤ z) (same_value (u.x ∷ u.y ∷ v.x ∷ v.y ∷ p.x ∷ p.y ∷ []) (minus (cross 1 0 2)) (cross 0 1 2) refl) (neg_positive back))
-      by false turn f = mul_negative_right (positive (int_lt-false d (pos 0) (sym turn))) (right_in u v p b near h f)
+      by false turn f = mul_negative_right positive (right_in u v p b near h f)
         where
-          positive : pos 0 ≤ℤ d → pos 0 <ℤ d
-          positive le = elim (apart_cases d (pos 0) t.area) [
-            | inl l ↦ clash_ℤ l le
-            | inr l ↦ l
-          ]
+          positive : pos 0 <ℤ d
+          positive = by_sign {P = pos 0 <ℤ d} d
+              (λ l. absurd (true≢false (sym ((Decides-int_eq (side t.a t.b t.c) (negsuc 0)).1 (int_signum-negative l)) ∙ sym turn)))
+              (λ z. absurd (t.area z))
+              (λ l. l)
 
   -- no point that is on the line of the side, or as far from it as the third corner, lies there
   not_beyond : (z : ℤ) → (z ≡ pos 0) ⊎ (z ≡ d) → (d *ℤ z) <ℤ pos 0 → ⊥
@@ -105,7 +105,7 @@ module _ (t : Triangle) where
   not_beyond z (inr e) h = clash_ℤ h (subst (λ (y : ℤ). pos 0 ≤ℤ (d *ℤ y)) (sym e) (square_not_negative d))
 
   -- the corners a and c are such points
-  AtCorners : Point → Point → Type 0
+  abbrev AtCorners : Point → Point → Type 0
   AtCorners u v = ((cross_of u v t.a ≡ pos 0) ⊎ (cross_of u v t.a ≡ d)) × ((cross_of u v t.c ≡ pos 0) ⊎ (cross_of u v t.c ≡ d))
 
   abbrev corners : List ℤ

@@ -19,13 +19,13 @@ use Rattle.vertex_drop.specs.declared.triangle.Triangle.{Triangle}
 abbrev pub limited : ℤ → ℤ
 limited z = int_min (int_max z (neg_ℤ MAX_COORDINATE)) MAX_COORDINATE
 
--- of two ends of a range the first one where these numbers do not fall, else the other one
-abbrev pub end_at : ℤ → ℤ → ℤ → ℤ → ℤ
-end_at k l first last = limited (if int_le k l then first else last)
+-- a corner of a box, or the point within the limits next to it
+abbrev pub corner : Bool → Bool → Window → Point
+corner left top b = record { x = limited (if left then b.x0 else b.x1); y = limited (if top then b.y1 else b.y0) }
 
 -- the corner of a box that lies farthest to the left of one who goes from u to v
 abbrev pub leftmost : Point → Point → Window → Point
-leftmost u v b = record { x = end_at u.y v.y b.x0 b.x1; y = end_at u.x v.x b.y1 b.y0 }
+leftmost u v b = corner (int_le u.y v.y) (int_le u.x v.x) b
 
 -- he has the whole box at his right
 abbrev pub is_right : Point → Point → Window → Bool
@@ -50,6 +50,10 @@ turned a b h k = subst (λ (t : ℤ). pos 0 ≤ℤ t) (same_value (a ∷ b ∷ [
 
 sub_not_positive : (a b : ℤ) → a ≤ℤ b → (a -ℤ b) ≤ℤ pos 0
 sub_not_positive a b h = omega (arith, ints, h)
+
+-- of two ends of a range the first one where these numbers do not fall, else the other one
+abbrev end_at : ℤ → ℤ → ℤ → ℤ → ℤ
+end_at k l first last = limited (if int_le k l then first else last)
 
 -- the ends of a wider range lie farther along a slope
 farther : (k l z0 z1 w0 w1 : ℤ) → w0 ≤ℤ z0 → z1 ≤ℤ w1 → pos 0 ≤ℤ ((l -ℤ k) *ℤ (end_at k l w1 w0 -ℤ end_at k l z1 z0))

@@ -8,7 +8,8 @@ ghost use Rattle.point_rope.specs.Held.{IsNearPoint, IsHeld};
 ghost use Rattle.vertex_drop.specs.Held.{IsNearSegment, IsHeldSegment};
 ghost use Rattle.vertex_drop.specs.Chunks.{segments_of, joined};
 
-use crate::triangle::{Triangle, are_segments_clear};
+use crate::touch::are_segments_clear;
+use crate::triangle::Triangle;
 use grid_index::Probe;
 use point_rope::{all_pass, extended, no_bounds};
 use std::alloc::Global;

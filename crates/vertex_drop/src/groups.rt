@@ -50,7 +50,7 @@ impl<'a> Group<'a> {
 
     /// Appends a chunk.
     fn push(&mut self, chunk: Chunk<'a>) -> Result<(), Memory>
-        ensures { OnOk result (self.new ≡ self.old ++ segments_of chunk) }
+        ensures { OnOk result (self.new ≡ self.old ++ segments_of chunk.entry) }
     {
         self.bounds = hull(self.bounds, chunk.bounds());
         self.chunks.push(chunk)
@@ -115,7 +115,7 @@ impl<'a> Groups<'a> {
 
     /// Appends a chunk.
     pub fn push(&mut self, alloc: Global, chunk: Chunk<'a>) -> Result<(), Memory>
-        ensures { OnOk result (self.new ≡ self.old ++ segments_of chunk) }
+        ensures { OnOk result (self.new ≡ self.old ++ segments_of chunk.entry) }
     {
         if self.growing.chunks.len() >= GROUP_SIZE {
             self.close(alloc)?;

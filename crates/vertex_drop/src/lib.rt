@@ -13,6 +13,7 @@ mod removable;
 mod rows;
 mod steps;
 mod table;
+mod touch;
 mod triangle;
 
 pub use corners::least_corner;

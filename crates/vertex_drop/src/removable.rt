@@ -1,9 +1,10 @@
 //! Whether a vertex can be removed.
 
-ghost use Rattle.std.specs.Prelude.{◌≡◌, ◌≢◌, ◌<◌, ◌≤◌, ◌*◌, ◌^◌, ◌++◌, ℕ, pos, int_le, unsigned_abs, ◌+◌, AllPairs, IfOk};
+ghost use Rattle.std.specs.Prelude.{◌≡◌, ◌≢◌, ◌<◌, ◌≤◌, ◌*◌, ◌^◌, ◌++◌, ℕ, pos, negsuc, int_le, unsigned_abs, ◌+◌, AllPairs, IfOk};
 ghost use Rattle.std.specs.List.{list_all};
+ghost use Rattle.std.specs.Ordering.{int_eq};
 ghost use Rattle.tgap_model.specs.Bounds.{max_cross};
-ghost use Rattle.tgap_model.specs.Point.{cross};
+ghost use Rattle.tgap_model.specs.Point.{cross, side};
 ghost use Rattle.tgap_model.specs.Clear.{is_clear};
 ghost use Rattle.tgap_model.specs.Removals.{is_removable};
 ghost use Rattle.vertex_drop.specs.Corners.{small_area};
@@ -64,6 +65,16 @@ pub struct Corner {
     pub c: Point,
 }
 
+/// Whether one who goes from `a` to `b` has `c` at his right.
+fn turns_right(a: Point, b: Point, c: Point) -> bool
+    requires a { IsNearPoint a }
+    requires b { IsNearPoint b }
+    requires c { IsNearPoint c }
+    ensures { result ≡ int_eq (side a b c) (negsuc 0) }
+{
+    side(a, b, c) == -1
+}
+
 /// The triangle of three points that are not on one line.
 fn triangle_of(corner: Corner) -> Triangle
     requires a { IsNearPoint corner.a }
@@ -80,7 +91,7 @@ fn triangle_of(corner: Corner) -> Triangle
         b,
         c,
         bounds: bounds_of(&[a, b, c]),
-        right: side(a, b, c) < 0,
+        right: turns_right(a, b, c),
     }
 }
 
