@@ -108,7 +108,12 @@ impl<'a> LiveTable for LiveRopes<'a> {
         }
     }
 
-    fn is_clear_of_left(&self, _alloc: Global, t: &Triangle, at: Stand<'_>) -> Result<bool, Memory> {
+    fn is_clear_of_left(
+        &self,
+        _alloc: Global,
+        t: &Triangle,
+        at: Stand<'_>,
+    ) -> Result<bool, Memory> {
         Ok(is_clear_of_places(t, at, self.places, self.boxes))
     }
 }

@@ -85,7 +85,8 @@ impl<'a> Kept<'a> {
     {
         let segments = mem::replace(&mut self.growing, Segments::new(alloc));
         self.full.put(alloc, segments)?;
-        self.full.push(alloc, Chunk::Lent(LentPath::new(points, bounds)))
+        self.full
+            .push(alloc, Chunk::Lent(LentPath::new(points, bounds)))
     }
 
     /// Whether the triangle is clear of each of the segments.
