@@ -38,7 +38,12 @@ impl LiveTable for OneRope {
         }
     }
 
-    fn is_clear_of_left(&self, _alloc: Global, t: &Triangle, at: Stand<'_>) -> Result<bool, Memory> {
+    fn is_clear_of_left(
+        &self,
+        _alloc: Global,
+        t: &Triangle,
+        at: Stand<'_>,
+    ) -> Result<bool, Memory> {
         Ok(is_clear_of_edge(t, at, &EdgeRow::of_rope(&self.edge)))
     }
 }
