@@ -4,7 +4,7 @@ ghost use Rattle.std.specs.Prelude.{◌≡◌, ◌<◌, ◌-◌, ◌^◌, length
 ghost use Rattle.std.specs.List.{range_with_len};
 ghost use Rattle.grid_index.specs.Boxes.{meets};
 ghost use Rattle.grid_index.specs.Near.{near_boxes};
-ghost use Rattle.grid_index.specs.Picked.{box_at, AreInverse};
+ghost use Rattle.grid_index.specs.Picked.{box_at, AreInverse, IsOrdered};
 
 use crate::order::order_of;
 use crate::tree::BoxTree;
@@ -123,6 +123,13 @@ impl EdgeBoxes {
             Some(slots) => Ok(Some(List::from(keys_in(alloc, &self.keys, &slots)?))),
             None => Ok(None),
         }
+    }
+
+    /// The boxes as they stand in the tree, and the place of each of them. It takes no time.
+    pub fn in_order(&self) -> (&BoxTree, &[u32])
+        ensures { IsOrdered self.now result.1.now result.0.now }
+    {
+        (&self.tree, self.keys.as_slice())
     }
 
     /// Whether the box at a place meets a closed window.

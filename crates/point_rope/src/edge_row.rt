@@ -1,15 +1,19 @@
 //! An edge that is lent, whose points stand in a list or in a rope.
 
-ghost use Rattle.std.specs.Prelude.{◌≡◌, ◌<◌, ◌-◌, ◌^◌, ◌++◌, get_or, length, OnOk};
+ghost use Rattle.std.specs.Prelude.{◌≡◌, ◌<◌, ◌-◌, ◌^◌, ◌++◌, get_or, drop, length, All, OnOk};
+ghost use Rattle.std.specs.List.{list_all};
 ghost use Rattle.tgap_model.specs.declared.geometry.Point.{Point as Place};
-ghost use Rattle.tgap_model.specs.Removals.{has_side};
+ghost use Rattle.tgap_model.specs.Removals.{has_side, path};
+ghost use Rattle.point_rope.specs.Held.{IsNearPoint};
 ghost use Rattle.grid_index.specs.Live.{edge_near};
 ghost use Rattle.point_rope.specs.Rows.{IsRun};
 
 use crate::near::push_near_of;
+use crate::passing::all_pass;
 use crate::rope::Rope;
 use crate::rope_edge::RopeEdge;
 use crate::run::{Run, rest_of};
+use crate::segment_test::SegmentTest;
 use grid_index::SegmentPlace;
 use std::marker::Model;
 use tgap_model::{Edge, List, Memory, Point, Window};
@@ -115,6 +119,18 @@ impl<'a> EdgeRow<'a> {
         match self.row {
             Row::Points(points) => push_near_of(self.key, area, points, 0, found),
             Row::Runs(rope) => rope.push_near(self.key, area, found),
+        }
+    }
+
+    /// Whether each segment of the points from a place on passes the test. Of a rope, a run of whose box the test says that
+    /// all pass is passed over.
+    pub fn all_pass_from<T: SegmentTest>(&self, test: &T, from: usize) -> bool
+        requires { All IsNearPoint self.now.points }
+        ensures { result ≡ list_all (T.passes test.now) (path (drop from self.now.points)) }
+    {
+        match self.row {
+            Row::Points(points) => all_pass(test, rest_of(points, from).points),
+            Row::Runs(rope) => rope.all_pass_from(test, from),
         }
     }
 }

@@ -1,10 +1,11 @@
 //! Some points of a row, with what is known of them.
 
 ghost use Rattle.std.specs.Prelude.{◌≡◌, ◌≤◌, ◌<◌, ◌+◌, ◌^◌, ◌++◌, ℕ, Some, not, map, filter, reverse, length, All, OnOk};
-ghost use Rattle.std.specs.List.{list_any};
+ghost use Rattle.std.specs.List.{list_all, list_any};
 ghost use Rattle.grid_index.specs.Near.{boxes_near};
 ghost use Rattle.grid_index.specs.Live.{segment_boxes};
 ghost use Rattle.tgap_model.specs.Bounds.{max_cross};
+ghost use Rattle.tgap_model.specs.Removals.{path};
 ghost use Rattle.point_rope.specs.Corners.{least_area};
 ghost use Rattle.point_rope.specs.Held.{IsHeld, IsNearPoint};
 ghost use Rattle.point_rope.specs.Rows.{IsRun, IsSummary};
@@ -12,9 +13,11 @@ ghost use Rattle.point_rope.specs.Rows.{IsRun, IsSummary};
 use crate::bounds::bounds_of;
 use crate::corners::least_area;
 use crate::near::push_near_of;
+use crate::passing::all_pass;
 use crate::point_test::PointTest;
 use crate::points::{has_any_of, take_out};
 use crate::run::{Run, Summary, rest_of};
+use crate::segment_test::SegmentTest;
 use grid_index::{SegmentPlace, meets};
 use std::marker::Model;
 use tgap_model::{List, Memory, Point, Window};
@@ -121,6 +124,13 @@ impl FullRun {
         } else {
             Ok(())
         }
+    }
+
+    /// Whether each segment of the points passes the test.
+    pub fn all_pass<T: SegmentTest>(&self, test: &T) -> bool
+        ensures { result ≡ list_all (T.passes test.now) (path self.now) }
+    {
+        !test.may_fail(&self.bounds) || all_pass(test, &self.points)
     }
 
     /// Whether one of the points passes the test.

@@ -11,9 +11,9 @@ use std::alloc::Global;
 use std::mem;
 use tgap_model::{Memory, Point};
 
-/// How many points a run of a long row has: few enough that they are moved and looked at in the time of a few hundred
-/// comparisons, and many enough that there are few runs.
-const RUN: usize = 256;
+/// How many points a run of a long row has: few enough that they are moved and looked at in the time of a hundred
+/// comparisons and that their box is small, and many enough that there are few runs.
+const RUN: usize = 64;
 
 /// How many points stand together at most.
 pub const MOST: usize = 2 * RUN;

@@ -1,10 +1,11 @@
 //! Which segments of some points meet an area.
 
-ghost use Rattle.std.specs.Prelude.{◌≡◌, ◌<◌, ◌+◌, ◌^◌, ◌++◌, ◌∷◌, [], List as Sequence, option_to_list, take, length, map, OnOk};
+ghost use Rattle.std.specs.Prelude.{◌≡◌, ◌<◌, ◌+◌, ◌^◌, ◌++◌, ◌∷◌, [], List as Sequence, option_to_list, take, length, map, All, OnOk};
 ghost use Rattle.grid_index.specs.Near.{boxes_near};
 ghost use Rattle.grid_index.specs.Live.{segment_boxes};
 ghost use Rattle.tgap_model.specs.declared.geometry.Point.{Point as Place};
 ghost use Rattle.point_rope.specs.Ends.{last_one};
+ghost use Rattle.point_rope.specs.Held.{IsNearPoint};
 
 use grid_index::{SegmentPlace, meets, segment_box};
 use tgap_model::{List, Memory, Point, Window};
@@ -68,7 +69,8 @@ pub fn push_seam(
 
 /// The last point so far, after these points.
 pub fn end_after(before: Option<Point>, points: &[Point]) -> Option<Point>
-    ensures { (so_far : Sequence Place) → option_to_list before ≡ last_one so_far → option_to_list result ≡ last_one (so_far ++ points.now) }
+    ensures last { (so_far : Sequence Place) → option_to_list before ≡ last_one so_far → option_to_list result ≡ last_one (so_far ++ points.now) }
+    ensures near { All IsNearPoint (option_to_list before) → All IsNearPoint points.now → All IsNearPoint (option_to_list result) }
 {
     if points.is_empty() {
         before

@@ -1,8 +1,9 @@
 //! Passes over the runs of a row, each in the time of the runs, and of the points of those that cannot be passed over.
 
 ghost use Rattle.std.specs.Prelude.{◌≡◌, ◌<◌, ◌+◌, ◌-◌, ◌^◌, ◌++◌, ◌∷◌, [], map, length, take, option_to_list, All, OnOk, IfOk};
-ghost use Rattle.std.specs.List.{list_any};
+ghost use Rattle.std.specs.List.{list_all, list_any};
 ghost use Rattle.tgap_model.specs.declared.geometry.Point.{Point as Place};
+ghost use Rattle.tgap_model.specs.Removals.{path};
 ghost use Rattle.grid_index.specs.Near.{boxes_near, near_boxes};
 ghost use Rattle.grid_index.specs.Live.{segment_boxes};
 ghost use Rattle.point_rope.specs.Ends.{AreCorners, ends_of, last_one};
@@ -13,7 +14,9 @@ use crate::bounds::{hull, no_bounds};
 use crate::corners::{Corners, with_known};
 use crate::full_run::FullRun;
 use crate::near::{end_after, push_seam};
+use crate::passing::seam_passes;
 use crate::point_test::PointTest;
+use crate::segment_test::SegmentTest;
 use grid_index::SegmentPlace;
 use tgap_model::{List, Memory, Point, Window};
 
@@ -90,4 +93,27 @@ pub fn push_near_runs(
         place += run.len();
     }
     Ok(end)
+}
+
+/// Whether each segment of a run passes the test, and the one from the last point before.
+fn run_passes<T: SegmentTest>(test: &T, before: Option<Point>, run: &FullRun) -> bool
+    requires { All IsNearPoint (option_to_list before) }
+    ensures { result ≡ list_all (T.passes test.now) (path (option_to_list before ++ run.now)) }
+{
+    seam_passes(test, before, run.points()) && run.all_pass(test)
+}
+
+/// Whether each segment of the points of some runs passes the test, and the one from the last point before.
+pub fn all_runs_pass<T: SegmentTest>(test: &T, before: Option<Point>, runs: &[FullRun]) -> bool
+    requires { All IsNearPoint (option_to_list before) }
+    ensures { result ≡ list_all (T.passes test.now) (path (option_to_list before ++ joined runs.now)) }
+{
+    let mut end = before;
+    for run in runs {
+        if !run_passes(test, end, run) {
+            return false;
+        }
+        end = end_after(end, run.points());
+    }
+    true
 }

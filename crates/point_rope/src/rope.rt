@@ -1,9 +1,10 @@
 //! A row of points that may be very long.
 
-ghost use Rattle.std.specs.Prelude.{◌≡◌, ◌≤◌, ◌<◌, ◌-◌, ◌^◌, ◌++◌, [], ℕ, Some, not, map, filter, get_or, length, All, IfOk, OnOk, OnErr};
-ghost use Rattle.std.specs.List.{list_any};
+ghost use Rattle.std.specs.Prelude.{◌≡◌, ◌≤◌, ◌<◌, ◌-◌, ◌^◌, ◌++◌, [], ℕ, Some, not, map, filter, get_or, drop, length, All, IfOk, OnOk, OnErr};
+ghost use Rattle.std.specs.List.{list_all, list_any};
 ghost use Rattle.tgap_model.specs.declared.geometry.Point.{Point as Place};
 ghost use Rattle.tgap_model.specs.Bounds.{max_cross};
+ghost use Rattle.tgap_model.specs.Removals.{path};
 ghost use Rattle.grid_index.specs.Near.{near_boxes};
 ghost use Rattle.grid_index.specs.Live.{segment_boxes};
 ghost use Rattle.point_rope.specs.Corners.{least_area};
@@ -17,10 +18,12 @@ use crate::full_run::FullRun;
 use crate::joining::{MOST, cut, put_row, settle};
 use crate::near::{push_near_of, push_seam};
 use crate::over_runs::{any_has, bounds_of_runs, corners_of, push_near_runs};
+use crate::passing::{all_pass, all_pass_after};
 use crate::point_test::PointTest;
 use crate::points::{has_any_of, take_out};
 use crate::run::{Run, rest_of};
 use crate::runs::Runs;
+use crate::segment_test::SegmentTest;
 use crate::starts::sum_of;
 use grid_index::SegmentPlace;
 use std::alloc::Global;
@@ -156,6 +159,18 @@ impl Rope {
         let end = push_near_runs(key, area, self.full.as_slice(), found)?;
         push_seam(key, area, end, &self.last, place.saturating_sub(1), found)?;
         push_near_of(key, area, &self.last, place, found)
+    }
+
+    /// Whether each segment of the points from a place on passes the test. A run of whose box the test says that all pass
+    /// is passed over.
+    pub fn all_pass_from<T: SegmentTest>(&self, test: &T, from: usize) -> bool
+        ensures { result ≡ list_all (T.passes test.now) (path (drop from self.now)) }
+    {
+        let count = self.full.count();
+        if count <= from {
+            return all_pass(test, rest_of(&self.last, from - count).points);
+        }
+        self.full.all_pass_from(test, from) && all_pass_after(test, self.full.end(), &self.last)
     }
 
     /// Whether one of the points passes the test. A run of whose box the test says that none passes is passed over.

@@ -1,16 +1,25 @@
 //! The runs of a row, with the places at which they begin.
 
-ghost use Rattle.std.specs.Prelude.{◌≡◌, ◌<◌, ◌≤◌, ◌++◌, ◌∷◌, [], ◌↔◌, not, map, filter, length, is_ok, MatchOption, IsTrue, if◌then◌else◌};
+ghost use Rattle.std.specs.Prelude.{◌≡◌, ◌<◌, ◌≤◌, ◌+◌, ◌++◌, ◌∷◌, [], ◌↔◌, List as Sequence, not, map, filter, length, get_or, take, drop, option_to_list, All, is_ok, MatchOption, IsTrue, if◌then◌else◌};
+ghost use Rattle.std.specs.List.{list_all};
+ghost use Rattle.tgap_model.specs.declared.geometry.Point.{Point as Place};
+ghost use Rattle.tgap_model.specs.Removals.{path};
+ghost use Rattle.point_rope.specs.Ends.{last_one};
+ghost use Rattle.point_rope.specs.Held.{IsNearPoint};
 ghost use Rattle.point_rope.specs.Rows.{IsRun};
 ghost use Rattle.point_rope.specs.Runs.{joined};
 
 use crate::full_run::FullRun;
+use crate::near::end_after;
+use crate::over_runs::all_runs_pass;
+use crate::passing::all_pass;
 use crate::point_test::PointTest;
-use crate::run::Run;
+use crate::run::{Run, rest_of};
+use crate::segment_test::SegmentTest;
 use crate::starts::{last_up_to, renew, sum_of};
 use std::alloc::Global;
 use std::marker::Model;
-use tgap_model::Memory;
+use tgap_model::{Memory, Point};
 
 /// Some runs. Contracts see the list of the runs. The starts lie side by side in memory, so that a place is soon found.
 #[derive(Debug, Drop)]
@@ -89,6 +98,39 @@ impl Runs {
     {
         let found = last_up_to(&self.starts, place);
         self.runs[found].rest(place - self.starts[found])
+    }
+
+    /// The number of the run that has the point of a place of the row, and its place in that run.
+    fn found(&self, place: usize) -> (usize, usize)
+        requires { place < length (joined self.now) }
+        ensures run { result.0 < length self.now }
+        ensures before { length (joined (take result.0 self.now)) + result.1 ≡ place }
+        ensures within { (d : Sequence Place) → result.1 < length (get_or self.now result.0 d) }
+    {
+        let run = last_up_to(&self.starts, place);
+        (run, place - self.starts[run])
+    }
+
+    /// The last point, if there is one.
+    pub fn end(&self) -> Option<Point>
+        ensures end { option_to_list result ≡ last_one (joined self.now) }
+        ensures near { All IsNearPoint (option_to_list result) }
+    {
+        if self.count == 0 {
+            return None;
+        }
+        let (run, place) = self.found(self.count - 1);
+        Some(self.runs[run].points()[place])
+    }
+
+    /// Whether each segment of the points from a place of the row on passes the test.
+    pub fn all_pass_from<T: SegmentTest>(&self, test: &T, place: usize) -> bool
+        requires { place < length (joined self.now) }
+        ensures { result ≡ list_all (T.passes test.now) (path (drop place (joined self.now))) }
+    {
+        let (run, place) = self.found(place);
+        let rest = rest_of(self.runs[run].points(), place).points;
+        all_pass(test, rest) && all_runs_pass(test, end_after(None, rest), &self.runs[run + 1..])
     }
 
     /// Appends a run. On want of memory the runs are as before.

@@ -53,3 +53,4 @@ pub mod LosingEdges
 pub mod BoxedEdges
 pub mod BoxedTables
 pub mod SpanBoxes
+pub mod LeftEdges

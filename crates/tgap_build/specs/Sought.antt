@@ -3,11 +3,12 @@ use Rattle.std.specs.Prelude.{◌≡◌, ℕ, List, length, All, Contains, ◌�
 use Rattle.std.specs.List.{flat_map}
 use Rattle.tgap_model.specs.declared.geometry.Window.{Window}
 use Rattle.tgap_model.specs.declared.slice.Edge.{Edge}
-use Rattle.grid_index.specs.declared.live.SegmentPlace.{SegmentPlace}
+use Rattle.tgap_model.specs.declared.geometry.Seg.{Seg}
 use Rattle.grid_index.specs.Keyed.{edge_in}
-use Rattle.grid_index.specs.Live.{edge_near}
 use Rattle.grid_index.specs.Picked.{box_at}
 use Rattle.point_rope.specs.Held.{IsHeld}
+use Rattle.vertex_drop.specs.declared.near.Stand.{Stand}
+use Rattle.vertex_drop.specs.Left.{left_path}
 
 -- the box of a key holds the points of the edge at its place, where there is one
 abbrev pub IsBoxedAt : List (Option Edge) → List Window → ℕ → Type 0
@@ -32,6 +33,6 @@ HasRoom count (Some boxes) = length boxes ≡ count
 abbrev pub AreSameBut : List ℕ → List (Option Edge) → List (Option Edge) → Type 0
 AreSameBut keys before after = (k : ℕ) (e : Edge) → edge_in after k ≡ Some e → (edge_in before k ≡ Some e) ⊎ Contains keys k
 
--- the segments of the edge at a place whose boxes meet the area
-abbrev pub segments_in : Window → List (Option Edge) → ℕ → List SegmentPlace
-segments_in area places k = flat_map (edge_near area) (option_to_list (edge_in places k))
+-- the segments of the edge at a place that a sweep has not come to
+abbrev pub left_in : Stand → List (Option Edge) → ℕ → List Seg
+left_in at places k = flat_map (left_path at) (option_to_list (edge_in places k))

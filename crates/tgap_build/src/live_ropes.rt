@@ -1,18 +1,21 @@
 //! Edges at the places of their keys, with the look-up of their boxes, as a sweep reads them.
 
-ghost use Rattle.std.specs.Prelude.{◌≡◌, ◌++◌, List as Sequence, flat_map, IfOk, OnOk};
+ghost use Rattle.std.specs.Prelude.{◌≡◌, ◌<◌, ◌+◌, ◌^◌, List as Sequence, AllPairs};
+ghost use Rattle.std.specs.List.{list_all};
 ghost use Rattle.std.specs.Option.{option_map};
+ghost use Rattle.tgap_model.specs.Clear.{is_clear};
 ghost use Rattle.tgap_model.specs.declared.slice.Edge.{Edge as Line};
 ghost use Rattle.grid_index.specs.Keyed.{edge_in, edges_in, AreAtKeys};
 ghost use Rattle.grid_index.specs.Live.{AreLive};
-ghost use Rattle.tgap_build.specs.Sought.{AreBoxed, segments_in};
+ghost use Rattle.tgap_build.specs.Sought.{AreBoxed, left_in};
+ghost use Rattle.vertex_drop.specs.Left.{left_segments};
 
-use grid_index::{EdgeBoxes, SegmentPlace};
+use grid_index::EdgeBoxes;
 use point_rope::{EdgeRow, RopeEdge};
 use std::alloc::Global;
 use std::marker::Model;
-use tgap_model::{List, Memory, Window};
-use vertex_drop::LiveTable;
+use tgap_model::Memory;
+use vertex_drop::{LiveTable, Stand, Triangle, is_clear_of_edge};
 
 /// The edge at the place of this key, if there is one.
 fn edge_with_key(places: &[Option<RopeEdge>], key: u32) -> Option<&RopeEdge>
@@ -24,37 +27,42 @@ fn edge_with_key(places: &[Option<RopeEdge>], key: u32) -> Option<&RopeEdge>
     }
 }
 
-/// Puts the segments of the edge with this key, if there is one, whose boxes meet the area after those of `found`.
-fn push_segments(
-    places: &[Option<RopeEdge>],
-    key: u32,
-    area: &Window,
-    found: &mut List<SegmentPlace>,
-) -> Result<(), Memory>
-    requires { AreLive (edges_in places.now) }
-    ensures { OnOk result (found.new ≡ found.old ++ segments_in area.now places.now key) }
+/// Whether the triangle is clear of each segment of the edge with this key, if there is one, that the sweep has not come to.
+fn is_clear_of_key(t: &Triangle, at: Stand<'_>, places: &[Option<RopeEdge>], key: u32) -> bool
+    requires keys { AllPairs (λ j k. j < k) at.keys.now }
+    requires at { at.place + 1 < 2 ^ 32 }
+    requires live { AreLive (edges_in places.now) }
+    ensures { result ≡ list_all (is_clear t.now.a t.now.b t.now.c) (left_in at.entry places.now key) }
 {
-    if let Some(edge) = edge_with_key(places, key) {
-        EdgeRow::of_rope(edge).push_near(area, found)?;
+    match edge_with_key(places, key) {
+        Some(edge) => is_clear_of_edge(t, at, &EdgeRow::of_rope(edge)),
+        None => true,
     }
-    Ok(())
 }
 
-/// The segments of the edges with these keys whose boxes meet the area.
-fn segments_of(
-    alloc: Global,
+/// Whether the triangle is clear of each segment of these edges that the sweep has not come to. Only edges are looked at of
+/// which the triangle may touch the box.
+fn is_clear_of_places(
+    t: &Triangle,
+    at: Stand<'_>,
     places: &[Option<RopeEdge>],
-    keys: &[u32],
-    area: &Window,
-) -> Result<List<SegmentPlace>, Memory>
-    requires { AreLive (edges_in places.now) }
-    ensures { IfOk result (λ found. found ≡ flat_map (segments_in area.now places.now) keys.now) }
+    boxes: &EdgeBoxes,
+) -> bool
+    requires keys { AllPairs (λ j k. j < k) at.keys.now }
+    requires at { at.place + 1 < 2 ^ 32 }
+    requires live { AreLive (edges_in places.now) }
+    requires boxed { AreBoxed places.now boxes.now }
+    ensures { result ≡ list_all (is_clear t.now.a t.now.b t.now.c) (left_segments at.entry (edges_in places.now)) }
 {
-    let mut found = List::new(alloc);
-    for key in keys {
-        push_segments(places, *key, area, &mut found)?;
+    let (tree, keys) = boxes.in_order();
+    let mut slot = tree.next(t, 0);
+    'walk: while slot < keys.len() {
+        if !is_clear_of_key(t, at, places, keys[slot]) {
+            return false;
+        }
+        slot = tree.next(t, slot + 1);
     }
-    Ok(found)
+    true
 }
 
 /// Edges at the places of their keys with a box for each, both lent. Contracts see the list of the edges.
@@ -100,8 +108,12 @@ impl<'a> LiveTable for LiveRopes<'a> {
         }
     }
 
-    fn near(&self, alloc: Global, area: Window) -> Result<List<SegmentPlace>, Memory> {
-        let keys = self.boxes.near(alloc, area)?;
-        segments_of(alloc, self.places, keys.as_slice(), &area)
+    fn is_clear_of_left(
+        &self,
+        _alloc: Global,
+        t: &Triangle,
+        at: Stand<'_>,
+    ) -> Result<bool, Memory> {
+        Ok(is_clear_of_places(t, at, self.places, self.boxes))
     }
 }

@@ -37,7 +37,7 @@ away_from a c u v w e d same h =
     ]
 
 -- so does a segment with both ends there
-beyond_from : (a c u v w : Point) (s : Seg) (d : ℤ) → cross_of u v w ≡ d → AreBeyond d u v s.a s.b → is_beyond a c u v w s ≡ true
+pub beyond_from : (a c u v w : Point) (s : Seg) (d : ℤ) → cross_of u v w ≡ d → AreBeyond d u v s.a s.b → is_beyond a c u v w s ≡ true
 beyond_from a c u v w s d same h = and_from _ _ (away_from a c u v w s.a d same h.0) (away_from a c u v w s.b d same h.1)
 
 -- factors of a positive product have one sign
@@ -86,7 +86,7 @@ module _ (a b c : Point) (s : Seg) where
         back v h = turned_side s.a s.b v ∙ ap neg_ℤ (one_sign d _ h)
 
   -- no end is a corner, and one of the five lines parts
-  clear_from : is_base_corner a c s.a ≡ false
+  pub clear_from : is_base_corner a c s.a ≡ false
       → (is_beyond a c a b c s ≡ true) ⊎ (is_beyond a c b c a s ≡ true) ⊎ (is_beyond a c c a b s ≡ true) ⊎ IsBeside → is_clear a b c s ≡ true
   unfolding is_clear
   clear_from alone h = and_from _ _ (ap (λ t. not (t && is_base_corner a c s.b)) alone) (lines h)

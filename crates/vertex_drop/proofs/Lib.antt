@@ -14,3 +14,4 @@ pub mod Candidates
 pub mod Paths
 pub mod Walked
 pub mod Asleep
+pub mod Touching

@@ -1,10 +1,9 @@
 -- A triangle is clear of what lies outside its box.
 use Rattle.std.proofs.Common.{◌≡◌, inl, inr, true, false, Bool, ◌&&◌, ◌||◌, ℤ, ◌<ℤ◌, ◌≤ℤ◌, int_lt, int_le, List, [], ◌∷◌, ◌++◌, if◌then◌else◌, All, refl, sym, subst, arith}
-use Rattle.std.specs.List.{list_all}
 use Rattle.std.specs.Int.{int_min, int_max}
 use Rattle.std.proofs.lemmas.Int.{ints, int_min_is, int_max_is}
 use Rattle.std.proofs.lemmas.Bool.{or_left, or_right, and_from, and_cases}
-use Rattle.std.proofs.lemmas.List.Elements.{All-head, All-tail, All-nil, All-cons, All-append, All-weaker}
+use Rattle.std.proofs.lemmas.List.Elements.{All-nil, All-cons, All-append, All-weaker}
 use Rattle.lemmas.proofs.Signs.{Decides-int_lt, int_le-false}
 use Rattle.tgap_model.specs.declared.geometry.Point.{Point}
 use Rattle.tgap_model.specs.declared.geometry.Seg.{Seg}
@@ -69,18 +68,9 @@ ranges_beyond a b l h low high la ha lb hb (inl k) = inl (omega (arith, ints), o
 ranges_beyond a b l h low high la ha lb hb (inr k) = inr (omega (arith, ints), omega (arith, ints))
 
 -- a segment in a box is outside a box that is apart
-apart_is_outside : (b t : Window) (s : Seg) → IsHeld b s.a → IsHeld b s.b → AreApart b t → IsOutside t s
+pub apart_is_outside : (b t : Window) (s : Seg) → IsHeld b s.a → IsHeld b s.b → AreApart b t → IsOutside t s
 apart_is_outside b t s h k (inl x) = inl (ranges_beyond s.a.x s.b.x b.x0 b.x1 t.x0 t.x1 h.left h.right k.left k.right x)
 apart_is_outside b t s h k (inr y) = inr (ranges_beyond s.a.y s.b.y b.y0 b.y1 t.y0 t.y1 h.low h.high k.low k.high y)
-
--- so a triangle is clear of each segment in a box that is apart from its own
-pub apart_is_clear : (t : Triangle) (b : Window) (segments : List Seg) → IsTriangle t → AreApart b t.bounds → All (IsHeldSegment b) segments
-    → list_all (is_clear t.a t.b t.c) segments ≡ true
-apart_is_clear t b [] i h k = refl
-apart_is_clear t b (s ∷ segments) i h k =
-    let first = All-head (IsHeldSegment b) s segments k in
-    and_from _ _ (outside_is_clear t s i (apart_is_outside b t.bounds s first.held_a first.held_b h))
-    (apart_is_clear t b segments i h (All-tail (IsHeldSegment b) s segments k))
 
 -- a box that holds what another one holds, and a segment more
 pub held_more : (b d : Window) (s : Seg) (segments after : List Seg) (ok : Bool) → after ≡ (if ok then segments ++ s ∷ [] else segments)

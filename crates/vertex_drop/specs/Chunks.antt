@@ -13,3 +13,7 @@ segments_of (Lent path) = path
 -- the segments of some chunks, one chunk after the other
 abbrev pub joined : List Chunk → List Seg
 joined chunks = flat_map segments_of chunks
+
+-- the segments of some groups, one group after the other
+abbrev pub concat : List (List Seg) → List Seg
+concat groups = flat_map (λ g. g) groups

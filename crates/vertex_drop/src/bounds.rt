@@ -1,30 +1,9 @@
-//! Boxes that lie apart from one another, which tell quickly that a triangle is clear of a segment.
+//! Segments outside a box, of which a triangle in the box is clear at once.
 
 ghost use Rattle.std.specs.Prelude.{◌<ℤ◌, IsTrue};
-ghost use Rattle.vertex_drop.specs.Outside.{AreRangesApart, AreApart, AreBeyond, IsOutside};
+ghost use Rattle.vertex_drop.specs.Outside.{AreBeyond, IsOutside};
 
 use tgap_model::{Seg, Window};
-
-/// Whether one of two boxes is left of the other.
-fn are_side_by_side(s: &Window, t: &Window) -> bool
-    ensures { IsTrue result → AreRangesApart s.now.x0 s.now.x1 t.now.x0 t.now.x1 }
-{
-    s.x1 < t.x0 || t.x1 < s.x0
-}
-
-/// Whether one of two boxes is below the other.
-fn are_one_above_another(s: &Window, t: &Window) -> bool
-    ensures { IsTrue result → AreRangesApart s.now.y0 s.now.y1 t.now.y0 t.now.y1 }
-{
-    s.y1 < t.y0 || t.y1 < s.y0
-}
-
-/// Whether two boxes are apart: one is left of the other, or below it.
-pub fn are_apart(s: &Window, t: &Window) -> bool
-    ensures { IsTrue result → AreApart s.now t.now }
-{
-    are_side_by_side(s, t) || are_one_above_another(s, t)
-}
 
 /// Whether both ends of a segment are left of a box.
 fn is_left_of(s: &Seg, bounds: &Window) -> bool

@@ -1,17 +1,17 @@
-//! Segments in chunks, of which a triangle is clear at once where its box is apart from that of the chunk.
+//! Segments in chunks, of which a triangle is clear at once where it does not touch their box.
 
 ghost use Rattle.std.specs.Prelude.{◌≡◌, ◌++◌, ◌∷◌, [], length, All, OnOk};
 ghost use Rattle.std.specs.List.{list_all};
 ghost use Rattle.tgap_model.specs.Clear.{is_clear};
 ghost use Rattle.tgap_model.specs.Removals.{path};
 ghost use Rattle.point_rope.specs.Held.{IsNearPoint, IsHeld};
-ghost use Rattle.vertex_drop.specs.Held.{IsNearSegment};
+ghost use Rattle.vertex_drop.specs.Held.{IsNearSegment, IsHeldSegment};
 ghost use Rattle.vertex_drop.specs.Chunks.{segments_of, joined};
-ghost use Rattle.vertex_drop.specs.Outside.{IsTriangle};
 
-use crate::bounds::are_apart;
-use crate::triangle::{Triangle, are_segments_clear, is_path_clear};
-use point_rope::{extended, no_bounds};
+use crate::touch::are_segments_clear;
+use crate::triangle::Triangle;
+use grid_index::Probe;
+use point_rope::{all_pass, extended, no_bounds};
 use std::alloc::Global;
 use std::marker::Model;
 use tgap_model::{List, Memory, Point, Seg, Window};
@@ -62,12 +62,18 @@ impl Segments {
         self.items.push(s)
     }
 
+    /// A box that holds them.
+    pub fn bounds(&self) -> Window
+        ensures { All (IsHeldSegment result) self.now }
+    {
+        self.bounds
+    }
+
     /// Whether the triangle is clear of each of them.
     pub fn is_clear_of(&self, t: &Triangle) -> bool
-        requires { IsTriangle t.now }
         ensures { result ≡ list_all (is_clear t.now.a t.now.b t.now.c) self.now }
     {
-        are_apart(&self.bounds, &t.bounds) || are_segments_clear(t, self.items.as_slice())
+        !t.is_hit(&self.bounds) || are_segments_clear(t, self.items.as_slice())
     }
 }
 
@@ -101,12 +107,18 @@ impl<'a> LentPath<'a> {
         LentPath { points, bounds }
     }
 
+    /// A box that holds them.
+    pub fn bounds(&self) -> Window
+        ensures { All (IsHeldSegment result) self.now }
+    {
+        self.bounds
+    }
+
     /// Whether the triangle is clear of each of them.
     pub fn is_clear_of(&self, t: &Triangle) -> bool
-        requires { IsTriangle t.now }
         ensures { result ≡ list_all (is_clear t.now.a t.now.b t.now.c) self.now }
     {
-        are_apart(&self.bounds, &t.bounds) || is_path_clear(t, self.points)
+        !t.is_hit(&self.bounds) || all_pass(t, self.points)
     }
 }
 
@@ -118,9 +130,18 @@ pub enum Chunk<'a> {
 }
 
 impl<'a> Chunk<'a> {
+    /// A box that holds its segments.
+    pub fn bounds(&self) -> Window
+        ensures { All (IsHeldSegment result) (segments_of self.now) }
+    {
+        match self {
+            Chunk::Own(segments) => segments.bounds(),
+            Chunk::Lent(path) => path.bounds(),
+        }
+    }
+
     /// Whether the triangle is clear of each of its segments.
     pub fn is_clear_of(&self, t: &Triangle) -> bool
-        requires { IsTriangle t.now }
         ensures { result ≡ list_all (is_clear t.now.a t.now.b t.now.c) (segments_of self.now) }
     {
         match self {
@@ -132,7 +153,6 @@ impl<'a> Chunk<'a> {
 
 /// Whether the triangle is clear of each segment of some chunks.
 pub fn are_chunks_clear(t: &Triangle, chunks: &[Chunk<'_>]) -> bool
-    requires { IsTriangle t.now }
     ensures { result ≡ list_all (is_clear t.now.a t.now.b t.now.c) (joined chunks.now) }
 {
     for chunk in chunks {
@@ -141,14 +161,4 @@ pub fn are_chunks_clear(t: &Triangle, chunks: &[Chunk<'_>]) -> bool
         }
     }
     true
-}
-
-/// Puts segments at the end of some chunks. A chunk of no segment is not made.
-pub fn put<'a>(chunks: &mut List<Chunk<'a>>, segments: Segments) -> Result<(), Memory>
-    ensures { OnOk result (joined chunks.new ≡ joined chunks.old ++ segments) }
-{
-    if segments.len() == 0 {
-        return Ok(());
-    }
-    chunks.push(Chunk::Own(segments))
 }

@@ -6,34 +6,34 @@ ghost use Rattle.tgap_model.specs.Clear.{is_clear};
 ghost use Rattle.tgap_model.specs.Removals.{path};
 ghost use Rattle.point_rope.specs.Held.{IsNearPoint, IsHeld};
 ghost use Rattle.vertex_drop.specs.Held.{IsNearSegment};
-ghost use Rattle.vertex_drop.specs.Outside.{IsTriangle};
 
-use crate::chunk::{Chunk, LentPath, Segments, are_chunks_clear, put};
+use crate::chunk::{Chunk, LentPath, Segments};
+use crate::groups::Groups;
 use crate::triangle::Triangle;
 use std::alloc::Global;
 use std::marker::Model;
 use std::mem;
-use tgap_model::{List, Memory, Point, Seg, Window};
+use tgap_model::{Memory, Point, Seg, Window};
 
 /// How many segments a chunk of its own segments has at most: few enough that its box is small, and many enough that there
 /// are few chunks.
 const CHUNK_SIZE: usize = 32;
 
-/// Segments in their order, in chunks; the segments after the last chunk grow. Contracts see the list of the segments.
+/// Segments in their order, in groups of chunks; the segments after the last chunk grow. Contracts see the list of the
+/// segments.
 #[derive(Drop)]
 pub struct Kept<'a> {
-    full: List<Chunk<'a>>,
+    full: Groups<'a>,
     growing: Segments,
 }
 
 impl<'a> Model for Kept<'a> {
     ghost use Rattle.std.specs.Prelude.{List as Sequence, ◌++◌};
     ghost use Rattle.tgap_model.specs.declared.geometry.Seg.{Seg as Segment};
-    ghost use Rattle.vertex_drop.specs.Chunks.{joined};
 
     ghost Value = { Sequence Segment };
 
-    ghost view = { λ k. joined k.full ++ k.growing };
+    ghost view = { λ k. k.full ++ k.growing };
 }
 
 impl<'a> Kept<'a> {
@@ -42,7 +42,7 @@ impl<'a> Kept<'a> {
         ensures { result ≡ [] }
     {
         Kept {
-            full: List::new(alloc),
+            full: Groups::new(alloc),
             growing: Segments::new(alloc),
         }
     }
@@ -52,7 +52,7 @@ impl<'a> Kept<'a> {
         ensures { OnOk result (self.new ≡ self.old) }
     {
         let segments = mem::replace(&mut self.growing, Segments::new(alloc));
-        put(&mut self.full, segments)
+        self.full.put(alloc, segments)
     }
 
     /// Ends the segments of an edge. Where half a chunk grows, the next edge begins another one, so that a long edge has
@@ -84,15 +84,15 @@ impl<'a> Kept<'a> {
         ensures { OnOk result (self.new ≡ self.old ++ path points.now) }
     {
         let segments = mem::replace(&mut self.growing, Segments::new(alloc));
-        put(&mut self.full, segments)?;
-        self.full.push(Chunk::Lent(LentPath::new(points, bounds)))
+        self.full.put(alloc, segments)?;
+        self.full
+            .push(alloc, Chunk::Lent(LentPath::new(points, bounds)))
     }
 
     /// Whether the triangle is clear of each of the segments.
     pub fn is_clear_of(&self, t: &Triangle) -> bool
-        requires { IsTriangle t.now }
         ensures { result ≡ list_all (is_clear t.now.a t.now.b t.now.c) self.now }
     {
-        are_chunks_clear(t, self.full.as_slice()) && self.growing.is_clear_of(t)
+        self.full.is_clear_of(t) && self.growing.is_clear_of(t)
     }
 }

@@ -6,15 +6,19 @@
 mod bounds;
 mod chunk;
 mod corners;
+mod groups;
 mod kept;
 mod near;
 mod removable;
 mod rows;
 mod steps;
 mod table;
+mod touch;
 mod triangle;
 
 pub use corners::least_corner;
+pub use near::{Stand, is_clear_of_edge};
 pub use removable::is_small_area;
 pub use steps::{sweep, sweep_some};
 pub use table::LiveTable;
+pub use triangle::Triangle;

@@ -4,13 +4,12 @@ ghost use Rattle.std.specs.Prelude.{◌≡◌, ◌<◌, ◌+◌, ◌^◌, ◌&&�
 ghost use Rattle.std.specs.List.{list_all, list_any};
 ghost use Rattle.tgap_model.specs.Clear.{is_clear};
 ghost use Rattle.grid_index.specs.Live.{IsLiveEdge};
-ghost use Rattle.vertex_drop.specs.Left.{is_swept, first_left, left_segments, passes_on, passes_at, IsPlaceIn};
-ghost use Rattle.vertex_drop.specs.Outside.{IsTriangle};
+ghost use Rattle.vertex_drop.specs.Left.{is_swept, first_left, left_path, left_segments, passes_on, passes_at, IsPlaceIn};
 
 use crate::table::LiveTable;
 use crate::triangle::Triangle;
 use grid_geo::clear_of;
-use grid_index::SegmentPlace;
+use grid_index::{Live, SegmentPlace};
 use point_rope::EdgeRow;
 use std::alloc::Global;
 use tgap_model::{Memory, Seg};
@@ -66,7 +65,6 @@ fn first_left(at: Stand<'_>, edge: &EdgeRow<'_>) -> usize
 
 /// Whether the segment of an edge is one that the sweep has come to, or the triangle is clear of it.
 fn is_clear_on(t: &Triangle, at: Stand<'_>, edge: &EdgeRow<'_>, place: usize) -> bool
-    requires triangle { IsTriangle t.now }
     requires keys { AllPairs (λ j k. j < k) at.keys.now }
     requires at { at.place + 1 < 2 ^ 32 }
     requires edge { IsLiveEdge edge.now }
@@ -84,12 +82,11 @@ fn is_clear_on(t: &Triangle, at: Stand<'_>, edge: &EdgeRow<'_>, place: usize) ->
 }
 
 /// Whether the segment with this place is one that the sweep has come to, or the triangle is clear of it.
-fn is_clear_at<L: LiveTable>(t: &Triangle, at: Stand<'_>, live: &L, segment: SegmentPlace) -> bool
-    requires triangle { IsTriangle t.now }
+fn is_clear_at(t: &Triangle, at: Stand<'_>, live: &Live, segment: SegmentPlace) -> bool
     requires keys { AllPairs (λ j k. j < k) at.keys.now }
     requires at { at.place + 1 < 2 ^ 32 }
-    requires segment { IsPlaceIn (L.edges live.now) segment }
-    ensures { result ≡ passes_at (is_clear t.now.a t.now.b t.now.c) at.entry (L.edges live.now) segment }
+    requires segment { IsPlaceIn live.now segment }
+    ensures { result ≡ passes_at (is_clear t.now.a t.now.b t.now.c) at.entry live.now segment }
 {
     match live.row(segment.key) {
         Some(edge) => is_clear_on(t, at, &edge, segment.place as usize),
@@ -97,18 +94,31 @@ fn is_clear_at<L: LiveTable>(t: &Triangle, at: Stand<'_>, live: &L, segment: Seg
     }
 }
 
-/// Whether the triangle is clear of each segment that the sweep has not come to.
-pub fn is_clear_of_left<L: LiveTable>(
+/// Whether the triangle is clear of each segment of an edge that the sweep has not come to. A run of the edge of which the
+/// triangle does not touch the box is passed over.
+pub fn is_clear_of_edge(t: &Triangle, at: Stand<'_>, edge: &EdgeRow<'_>) -> bool
+    requires keys { AllPairs (λ j k. j < k) at.keys.now }
+    requires at { at.place + 1 < 2 ^ 32 }
+    requires edge { IsLiveEdge edge.now }
+    ensures { result ≡ list_all (is_clear t.now.a t.now.b t.now.c) (left_path at.entry edge.now) }
+{
+    edge.all_pass_from(t, first_left(at, edge))
+}
+
+/// Whether the triangle is clear of each segment that the sweep has not come to, by a look-up of the segments whose boxes
+/// meet that of the triangle.
+pub fn is_clear_of_near(
     alloc: Global,
     t: &Triangle,
     at: Stand<'_>,
-    live: &L,
+    live: &Live,
 ) -> Result<bool, Memory>
-    requires triangle { IsTriangle t.now }
     requires keys { AllPairs (λ j k. j < k) at.keys.now }
     requires at { at.place + 1 < 2 ^ 32 }
-    ensures { IfOk result (λ clear. clear ≡ list_all (is_clear t.now.a t.now.b t.now.c) (left_segments at.entry (L.edges live.now))) }
+    ensures { IfOk result (λ clear. clear ≡ list_all (is_clear t.now.a t.now.b t.now.c) (left_segments at.entry live.now)) }
 {
+    // The look at the edges, which costs nothing, tells that they are live.
+    let _ = live.edges();
     let near = live.near(alloc, t.bounds)?;
     for segment in near.as_slice() {
         if !is_clear_at(t, at, live, *segment) {

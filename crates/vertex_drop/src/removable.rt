@@ -1,21 +1,21 @@
 //! Whether a vertex can be removed.
 
-ghost use Rattle.std.specs.Prelude.{◌≡◌, ◌≢◌, ◌<◌, ◌≤◌, ◌*◌, ◌^◌, ◌++◌, ℕ, pos, int_le, unsigned_abs, ◌+◌, AllPairs, IfOk};
+ghost use Rattle.std.specs.Prelude.{◌≡◌, ◌≢◌, ◌<◌, ◌≤◌, ◌*◌, ◌^◌, ◌++◌, ℕ, pos, negsuc, int_le, unsigned_abs, ◌+◌, AllPairs, IfOk};
 ghost use Rattle.std.specs.List.{list_all};
+ghost use Rattle.std.specs.Ordering.{int_eq};
 ghost use Rattle.tgap_model.specs.Bounds.{max_cross};
-ghost use Rattle.tgap_model.specs.Point.{cross};
+ghost use Rattle.tgap_model.specs.Point.{cross, side};
 ghost use Rattle.tgap_model.specs.Clear.{is_clear};
 ghost use Rattle.tgap_model.specs.Removals.{is_removable};
 ghost use Rattle.vertex_drop.specs.Corners.{small_area};
 ghost use Rattle.point_rope.specs.Held.{IsNearPoint};
 ghost use Rattle.vertex_drop.specs.Left.{left_segments};
-ghost use Rattle.vertex_drop.specs.Outside.{IsTriangle};
 
 use crate::kept::Kept;
-use crate::near::{Stand, is_clear_of_left};
+use crate::near::Stand;
 use crate::table::LiveTable;
 use crate::triangle::Triangle;
-use grid_geo::area2;
+use grid_geo::{area2, side};
 use point_rope::bounds_of;
 use std::alloc::Global;
 use tgap_model::{Memory, Point};
@@ -65,6 +65,16 @@ pub struct Corner {
     pub c: Point,
 }
 
+/// Whether one who goes from `a` to `b` has `c` at his right.
+fn turns_right(a: Point, b: Point, c: Point) -> bool
+    requires a { IsNearPoint a }
+    requires b { IsNearPoint b }
+    requires c { IsNearPoint c }
+    ensures { result ≡ int_eq (side a b c) (negsuc 0) }
+{
+    side(a, b, c) == -1
+}
+
 /// The triangle of three points that are not on one line.
 fn triangle_of(corner: Corner) -> Triangle
     requires a { IsNearPoint corner.a }
@@ -74,7 +84,6 @@ fn triangle_of(corner: Corner) -> Triangle
     ensures a { result.a ≡ corner.a }
     ensures b { result.b ≡ corner.b }
     ensures c { result.c ≡ corner.c }
-    ensures triangle { IsTriangle result }
 {
     let Corner { a, b, c } = corner;
     Triangle {
@@ -82,6 +91,7 @@ fn triangle_of(corner: Corner) -> Triangle
         b,
         c,
         bounds: bounds_of(&[a, b, c]),
+        right: turns_right(a, b, c),
     }
 }
 
@@ -93,7 +103,6 @@ fn is_clear_of_all<L: LiveTable>(
     live: &L,
     kept: &Kept<'_>,
 ) -> Result<bool, Memory>
-    requires triangle { IsTriangle t.now }
     requires keys { AllPairs (λ j k. j < k) at.keys.now }
     requires at { at.place + 1 < 2 ^ 32 }
     ensures { IfOk result (λ clear. clear ≡ list_all (is_clear t.now.a t.now.b t.now.c) (kept.now ++ left_segments at.entry (L.edges live.now))) }
@@ -101,7 +110,7 @@ fn is_clear_of_all<L: LiveTable>(
     if !kept.is_clear_of(t) {
         return Ok(false);
     }
-    is_clear_of_left(alloc, t, at, live)
+    live.is_clear_of_left(alloc, t, at)
 }
 
 /// Whether the vertex of a corner is removed, at which the sweep stands, where these segments were kept so far.

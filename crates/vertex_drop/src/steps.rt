@@ -120,9 +120,10 @@ fn removals_of(alloc: Global, points: &[Point], step: u32) -> Result<List<Remova
 /// It finds each edge by its key. An edge is swept in the time of the runs of its row, and of the points of those runs
 /// that have a corner which is small enough, or no summary, or follow a vertex that went: any other run is passed over,
 /// and kept as it lies. Of a vertex whose triangle is too large, or has no area, no segment is looked at. For any other
-/// one it asks once for the segments whose boxes meet that of the triangle, finds the edge of each by its key, and goes
-/// over the boxes of what is left of the edges swept so far: one for each run that was passed over, and one for every 16 to
-/// 32 other segments that come in a row. Segments are looked at where their box meets that of the triangle.
+/// one it asks the table whether the triangle is clear of what the sweep has not come to, and goes over the boxes of what is
+/// left of the edges swept so far: there is one for each run that was passed over and one for every 16 to 32 other segments
+/// that come in a row, and one for every 32 of these boxes. Only what stands in a box that the triangle may touch is looked
+/// at, and no more once a segment is found of which it is not clear.
 pub fn sweep_some<L: LiveTable>(
     alloc: Global,
     live: &L,

@@ -1,14 +1,19 @@
 //! The edges that a sweep reads, by key, with a look-up of their segments.
 
-ghost use Rattle.std.specs.Prelude.{◌≡◌, ◌≢◌, ◌<◌, ℕ, List as Sequence, Some, None, length, get_or, All, AllPairs, IfSome, IfNone, IfOk};
+ghost use Rattle.std.specs.Prelude.{◌≡◌, ◌≢◌, ◌<◌, ℕ, ◌+◌, ◌^◌, List as Sequence, Some, None, length, get_or, All, AllPairs, IfSome, IfNone, IfOk};
+ghost use Rattle.std.specs.List.{list_all};
+ghost use Rattle.tgap_model.specs.Clear.{is_clear};
 ghost use Rattle.tgap_model.specs.declared.slice.Edge.{Edge as Line};
-ghost use Rattle.grid_index.specs.Live.{near_segments, AreLive};
+ghost use Rattle.grid_index.specs.Live.{AreLive};
 ghost use Rattle.grid_index.specs.Slots.{edge_at};
+ghost use Rattle.vertex_drop.specs.Left.{left_segments};
 
-use grid_index::{Live, SegmentPlace};
+use crate::near::{Stand, is_clear_of_near};
+use crate::triangle::Triangle;
+use grid_index::Live;
 use point_rope::EdgeRow;
 use std::alloc::Global;
-use tgap_model::{Edge, List, Memory, Window};
+use tgap_model::{Edge, Memory};
 
 /// Edges that are live, by key, with a look-up of their segments.
 pub trait LiveTable {
@@ -22,10 +27,11 @@ pub trait LiveTable {
         ensures none { All (λ e. e.key ≢ key) (edges self.now) → result ≡ None }
         ensures live { AreLive (edges self.now) };
 
-    /// The segments whose boxes meet a closed window, each once, in order of key and place.
-    fn near(&self, alloc: Global, area: Window) -> Result<List<SegmentPlace>, Memory>
-        ensures near { IfOk result (λ places. places ≡ near_segments area (edges self.now)) }
-        ensures live { AreLive (edges self.now) };
+    /// Whether the triangle is clear of each segment of the edges that the sweep has not come to.
+    fn is_clear_of_left(&self, alloc: Global, t: &Triangle, at: Stand<'_>) -> Result<bool, Memory>
+        requires keys { AllPairs (λ j k. j < k) at.keys.now }
+        requires at { at.place + 1 < 2 ^ 32 }
+        ensures { IfOk result (λ clear. clear ≡ list_all (is_clear t.now.a t.now.b t.now.c) (left_segments at.entry (edges self.now))) };
 }
 
 /// The place of the edge with this key among edges whose keys ascend.
@@ -51,9 +57,7 @@ impl LiveTable for Live {
         }
     }
 
-    fn near(&self, alloc: Global, area: Window) -> Result<List<SegmentPlace>, Memory> {
-        // The look at the edges, which costs nothing, tells that they are live.
-        let _ = self.edges();
-        self.near(alloc, area)
+    fn is_clear_of_left(&self, alloc: Global, t: &Triangle, at: Stand<'_>) -> Result<bool, Memory> {
+        is_clear_of_near(alloc, t, at, self)
     }
 }

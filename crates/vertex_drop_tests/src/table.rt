@@ -3,12 +3,11 @@
 ghost use Rattle.std.specs.Prelude.{◌≡◌, ◌∷◌, []};
 ghost use Rattle.grid_index.specs.Live.{IsLiveEdge};
 
-use grid_index::SegmentPlace;
 use point_rope::{EdgeRow, RopeEdge};
 use std::alloc::Global;
 use std::marker::Model;
-use tgap_model::{List, Memory, Removal, Window};
-use vertex_drop::{LiveTable, sweep_some};
+use tgap_model::{List, Memory, Removal};
+use vertex_drop::{LiveTable, Stand, Triangle, is_clear_of_edge, sweep_some};
 
 /// One live edge. Contracts see the list of it alone.
 #[derive(Debug, Drop)]
@@ -39,10 +38,13 @@ impl LiveTable for OneRope {
         }
     }
 
-    fn near(&self, alloc: Global, area: Window) -> Result<List<SegmentPlace>, Memory> {
-        let mut found = List::new(alloc);
-        EdgeRow::of_rope(&self.edge).push_near(&area, &mut found)?;
-        Ok(found)
+    fn is_clear_of_left(
+        &self,
+        _alloc: Global,
+        t: &Triangle,
+        at: Stand<'_>,
+    ) -> Result<bool, Memory> {
+        Ok(is_clear_of_edge(t, at, &EdgeRow::of_rope(&self.edge)))
     }
 }
 

@@ -4,8 +4,8 @@ use Rattle.tgap_model.specs.declared.geometry.Point.{Point}
 use Rattle.point_rope.proofs.NearRuns.{last_one_behind}
 use Rattle.point_rope.proofs.near.end_after.Goals as goal
 
-pub returns-else-is_empty : goal.returns-else-is_empty
-returns-else-is_empty c so_far is =
+pub returns-else-is_empty-clause-last : goal.returns-else-is_empty-clause-last
+returns-else-is_empty-clause-last c so_far is =
     let points = c.args.points.now in
     let o : Point = record { x = pos 0; y = pos 0 } in
     let some = eqb-false (length points) 0 (sym c.is_empty.ensures ∙ c.if-is_empty.false) in

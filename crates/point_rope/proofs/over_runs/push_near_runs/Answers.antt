@@ -33,6 +33,6 @@ loop-run-preserved c =
     c.loop-run.invariant.found refl c.in_ok-push_run.ensures in
     record {
       found = found ∙ ap (λ (ps : List Point). c.args.found.now ++ map (segment_of c.args.key) (near_boxes c.args.area.now (segment_boxes ps))) more;
-      end = c.end_after-end.ensures before c.loop-run.invariant.end ∙ ap (λ (ps : List Point). last_one (before ++ ps)) c.points.ensures.points ∙ ap last_one more;
+      end = c.end_after-end.ensures.last before c.loop-run.invariant.end ∙ ap (λ (ps : List Point). last_one (before ++ ps)) c.points.ensures.points ∙ ap last_one more;
       place = omega (arith, c.loop-run.invariant.place, here, c.len-place.ensures, count_more runs i run c.loop-run-test.true);
     }

@@ -9,24 +9,24 @@ use Rattle.vertex_drop.proofs.Unswept.{no_edge, passes_found}
 use Rattle.vertex_drop.proofs.near.is_clear_at.Goals as goal
 
 pub is_clear_on-requires-clause-edge : goal.is_clear_on-requires-clause-edge
-is_clear_on-requires-clause-edge g c =
+is_clear_on-requires-clause-edge c =
     let at = c.requires.segment in
-    let e : Edge = get_or (g.L.LiveTable.edges c.args.live.now) at.0 no_edge in
+    let e : Edge = get_or (c.args.live.now) at.0 no_edge in
     let is : c.in-Some.edge ≡ e = ap edge_of (c.in-Some.ensures.some at.0 no_edge at.1 (at.2 no_edge).0) in
     subst IsLiveEdge (sym is) (c.row.ensures.live.each at.0 no_edge at.1)
 
 pub is_clear_on-requires-clause-place : goal.is_clear_on-requires-clause-place
-is_clear_on-requires-clause-place g c =
+is_clear_on-requires-clause-place c =
     let at = c.requires.segment in
-    let e : Edge = get_or (g.L.LiveTable.edges c.args.live.now) at.0 no_edge in
+    let e : Edge = get_or (c.args.live.now) at.0 no_edge in
     let is : c.in-Some.edge ≡ e = ap edge_of (c.in-Some.ensures.some at.0 no_edge at.1 (at.2 no_edge).0) in
     subst (λ (f : Edge). c.args.segment.place + 1 < length f.points) (sym is) (at.2 no_edge).1
 
 pub returns-in-Some : goal.returns-in-Some
-returns-in-Some g c =
+returns-in-Some c =
     let t = c.args.t.now in
     let test = is_clear t.a t.b t.c in
-    let edges = g.L.LiveTable.edges c.args.live.now in
+    let edges = c.args.live.now in
     let at = c.requires.segment in
     let e : Edge = get_or edges at.0 no_edge in
     let is : c.in-Some.edge ≡ e = ap edge_of (c.in-Some.ensures.some at.0 no_edge at.1 (at.2 no_edge).0) in
@@ -37,7 +37,7 @@ returns-in-Some g c =
     c.is_clear_on.ensures ∙ same ∙ sym found
 
 pub returns-in-None : goal.returns-in-None
-returns-in-None g c =
+returns-in-None c =
     let at = c.requires.segment in
     absurd (none_some (c.in-None.ensures.some at.0 no_edge at.1 (at.2 no_edge).0))
   where

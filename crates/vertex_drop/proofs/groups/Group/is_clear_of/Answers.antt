@@ -1,0 +1,14 @@
+use Rattle.std.proofs.Common.{not, sym, ap, ◌∙◌}
+use Rattle.std.specs.List.{list_all}
+use Rattle.tgap_model.specs.Clear.{is_clear}
+use Rattle.vertex_drop.specs.Chunks.{joined}
+use Rattle.vertex_drop.proofs.Touching.{untouched_are_clear}
+use Rattle.vertex_drop.proofs.groups.Group.is_clear_of.Goals as goal
+
+pub returns-then-not-is_hit : goal.returns-then-not-is_hit
+returns-then-not-is_hit c =
+    let t = c.args.t.now in
+    let group = c.self.inside in
+    ap not c.if-not-is_hit.true
+    ∙ sym (untouched_are_clear t group.bounds (joined group.chunks) (sym c.is_hit.ensures ∙ c.if-not-is_hit.true) c.self.invariant)
+    ∙ ap (list_all (is_clear t.a t.b t.c)) c.self.view_is

@@ -1,6 +1,0 @@
-use Rattle.std.proofs.Common.{sym, ◌∙◌}
-use Rattle.vertex_drop.proofs.Outside.{outside_is_clear}
-use Rattle.vertex_drop.proofs.triangle.is_segment_clear.Goals as goal
-
-pub returns-then-is_outside : goal.returns-then-is_outside
-returns-then-is_outside c = c.if-is_outside.true ∙ sym (outside_is_clear c.args.t.now c.args.s c.requires.triangle (c.is_outside.ensures c.if-is_outside.true))
