@@ -9,16 +9,18 @@ ghost use Rattle.std.specs.List.{list_all};
 ghost use Rattle.tgap_model.specs.declared.limits.TheConstants.{MAX_POINTS};
 ghost use Rattle.tgap_model.specs.declared.geometry.Point.{Point as Place};
 ghost use Rattle.tgap_model.specs.declared.failure.Or.TheVariants.{Fault};
-ghost use Rattle.tgap_model.specs.Partition.{AreApart, AgreesAtNodes, base_segments, is_proper, node_fault, ring_fault_of, map_fault, IsPartition};
+ghost use Rattle.tgap_model.specs.Partition.{AreApart, AgreesAtNodes, base_segments, is_proper, node_fault, map_fault, IsPartition};
 ghost use Rattle.grid_geo.specs.Evidence.{IsFirstNodeGap, IsFirstStackGap, IsShownBy};
 ghost use Rattle.planar_stack.specs.Sweep.{FacesAgree, disagrees as stack_disagrees, first_stack_fault};
 ghost use Rattle.base_check.specs.Faults.{first_node_fault, first_arc_fault};
 ghost use Rattle.base_check.specs.Spokes.{disagrees};
 
+mod asked;
 mod ring;
 mod sorted;
 mod spoke;
 
+pub use asked::first_node_gap;
 use planar_apart::{Meeting, first_meeting_of};
 use planar_stack::{StackGap, first_disagreement_of};
 pub use ring::NodeGap;
@@ -27,22 +29,6 @@ use sorted::sorted_spokes;
 use std::alloc::Global;
 use std::thread::Threads;
 use tgap_model::{Base, Checked, LabelledSegment, List, MapFault, Memory, Or, base_segments};
-
-/// The least node at which the faces disagree, with the first spoke there whose left face is not the right face of the
-/// next one, or None exactly where they agree round each node.
-pub fn first_node_gap(alloc: Global, base: &Base) -> Result<Option<NodeGap>, Memory>
-    requires apart { AllPairs AreApart (base_segments base.now) }
-    // It is the least node by the definition.
-    ensures exact { IfOk result (λ found. option_map disagrees found ≡ ring_fault_of base.now) }
-    // The two faces differ, those at the spokes before it agree, and those round each lesser node.
-    ensures found { (g : NodeGap) → result ≡ Ok (Some g)
-        → IsFirstNodeGap (base_segments base.now) g.node g.spoke g.next g.left g.right }
-    // There is none only where the faces agree round each node.
-    ensures agree { result ≡ Ok None → (v : Place) → node_fault (base_segments base.now) v ≡ None }
-{
-    let segments = base_segments(alloc, base)?;
-    node_gap_of(alloc, segments.as_slice())
-}
 
 /// The least node of these segments at which the faces disagree, as `first_node_gap`.
 fn node_gap_of(alloc: Global, segments: &[LabelledSegment]) -> Result<Option<NodeGap>, Memory>

@@ -3,6 +3,7 @@
 //! it makes of a slice, and which rules it keeps where it fits.
 #![tactic(auto)]
 
+mod asked;
 mod boxes;
 mod coming;
 mod faces;
@@ -21,7 +22,6 @@ mod window;
 mod window_rules;
 mod working;
 
+pub use asked::{apply, apply_window};
 pub use packet::replay;
-pub use undo::apply;
 pub use unfit::Unfit;
-pub use window::apply_window;

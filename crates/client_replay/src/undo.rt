@@ -1,8 +1,7 @@
 //! A record undone on a slice.
 
-ghost use Rattle.std.specs.Prelude.{◌≡◌, ◌&&◌, ℕ, true, not, Some, None, Ok, Err, IfOk, OnOk, OnErr, IsTrue, IsPermutation, [], ◌∷◌, ◌⊎◌};
+ghost use Rattle.std.specs.Prelude.{◌≡◌, ◌&&◌, true, not, Some, None, Ok, IfOk, OnOk, IsTrue, IsPermutation, [], ◌∷◌};
 ghost use Rattle.std.specs.List.{list_any};
-ghost use Rattle.tgap_model.specs.declared.failure.Or.TheVariants.{Fault, Memory as WantOfMemory};
 ghost use Rattle.slice_forms.specs.SliceForms.{is_slice_row, is_record_row, has_room};
 ghost use Rattle.tgap_model.specs.Records.{broken_rule, undo};
 ghost use Rattle.client_replay.specs.Coming.{coming, stays};
@@ -14,10 +13,9 @@ use crate::coming::{coming, keys_differ};
 use crate::faces::part;
 use crate::lines::change_edges;
 use crate::rules::broken_before;
-use crate::unfit::Unfit;
 use crate::working::Working;
 use std::alloc::Global;
-use tgap_model::{Edge, Memory, Or, Slice, StepRecord};
+use tgap_model::{Edge, Memory, StepRecord};
 
 /// Undoes the step of a record that keeps the rules, where these are the edges that come.
 fn change(working: &mut Working, step_record: &StepRecord, edges: Vec<Edge>) -> Result<(), Memory>
@@ -59,39 +57,4 @@ pub fn undo_record(
     }
     change(working, step_record, edges)?;
     Ok(None)
-}
-
-/// Undoes the step of a record on a slice, or refuses the record by the least rule that it breaks; the slice is then as it was.
-///
-/// The new face becomes loser and winner again, the edges that the record mends get their vertices back and are cut into
-/// their pieces, and the edges between loser and winner come back.
-///
-/// It takes the size of the slice and of the record times a logarithm: for many records on one slice, `replay` is the call.
-/// All is done on a copy, so that want of memory leaves the slice as it was.
-pub fn apply(alloc: Global, slice: &mut Slice, step_record: &StepRecord) -> Result<(), Or<Unfit>>
-    requires slice { IsTrue (is_slice_row slice.old) }
-    requires record { IsTrue (is_record_row step_record.now) }
-    requires room { IsTrue (has_room slice.old (step_record.now ∷ [])) }
-    // Done exactly where no rule is broken; then the slice is the one a step back.
-    ensures fits { OnOk result (broken_rule slice.old step_record.now ≡ None) }
-    ensures done { OnOk result (slice.new ≡ undo slice.old step_record.now) }
-    // Refused exactly where a rule is broken, with the least one and the record's step.
-    ensures unfit { (u : Unfit) → result ≡ Err (Fault u) → (broken_rule slice.old step_record.now ≡ Some u.rule) × (u.step ≡ step_record.now.step) }
-    ensures unfit_only { (rule : ℕ) → broken_rule slice.old step_record.now ≡ Some rule
-        → (result ≡ Err (Fault (record { step = step_record.now.step; rule = rule }))) ⊎ (result ≡ Err WantOfMemory) }
-    ensures kept { OnErr result (slice.new ≡ slice.old) }
-    // It has the form of a slice then too.
-    ensures form { IsTrue (is_slice_row slice.new) }
-{
-    let mut working = Working::of(alloc, slice)?;
-    match undo_record(alloc, &mut working, step_record)? {
-        Some(rule) => {
-            let step = step_record.step;
-            Err(Or::Fault(Unfit { step, rule }))
-        }
-        None => {
-            *slice = working.into_slice(alloc)?;
-            Ok(())
-        }
-    }
 }

@@ -1,12 +1,11 @@
 //! A record of a window undone on the window of a slice.
 
-ghost use Rattle.std.specs.Prelude.{◌≡◌, ◌-◌, ◌≤◌, ◌++◌, ℕ, None, Some, Err, IfOk, OnOk, OnErr, IsTrue, IsPermutation, [], ◌∷◌, ◌⊎◌, filter, AllPairs};
+ghost use Rattle.std.specs.Prelude.{◌≡◌, ◌-◌, ◌≤◌, ◌++◌, None, Some, IfOk, OnOk, IsTrue, IsPermutation, [], ◌∷◌, filter, AllPairs};
 ghost use Rattle.std.specs.BTreeSet.{contains};
 ghost use Rattle.std.specs.Ordering.{nat_cmp};
 ghost use Rattle.lemmas.specs.Sorting.{sort_by};
-ghost use Rattle.tgap_model.specs.declared.failure.Or.TheVariants.{Fault, Memory as WantOfMemory};
 ghost use Rattle.tgap_model.specs.Records.{face_before};
-ghost use Rattle.tgap_model.specs.WindowRecords.{whole_record, undo_in, broken_rule_in};
+ghost use Rattle.tgap_model.specs.WindowRecords.{whole_record, broken_rule_in};
 ghost use Rattle.slice_forms.specs.SliceForms.{is_slice_row, is_window_step_row, has_room};
 ghost use Rattle.client_replay.specs.Coming.{staying};
 ghost use Rattle.client_replay.specs.Windows.{mending_of, after_in};
@@ -16,12 +15,11 @@ use crate::coming::{coming_in, keys_differ};
 use crate::faces::{are_known, keep_faces, put_rows};
 use crate::lines::change_edges;
 use crate::sides::sides_after;
-use crate::unfit::Unfit;
 use crate::window_rules::broken_before_in;
 use crate::working::Working;
 use std::alloc::Global;
 use std::collections::BTreeSet;
-use tgap_model::{Edge, FaceRow, List, Memory, Mend, Or, Slice, StepRecord, Window, WindowStep};
+use tgap_model::{Edge, FaceRow, List, Memory, Mend, StepRecord, Window, WindowStep};
 
 /// A copy of a mend.
 fn copied_mend(alloc: Global, mend: &Mend) -> Result<Mend, Memory>
@@ -143,49 +141,4 @@ pub fn undo_step(
 {
     let step_record = mending_of(alloc, step)?;
     undo_mending(alloc, working, area, step, &step_record)
-}
-
-/// Undoes the step of a record of a window on the window of a slice, or refuses the record by the least rule that it breaks; the
-/// slice is then as it was. Coordinates are in grid units.
-///
-/// The new face becomes loser and winner again, the edges that the record mends get their vertices back and are cut into
-/// their pieces, of which those are kept whose bounding box meets the window, and the edges that come are added. Of the rows of
-/// faces, old and new, those are kept that stand beside an edge.
-///
-/// The record does not tell its window: `area` has to be the window of the packet that it is of. With another one no rule
-/// has to be broken.
-///
-/// It takes the size of the slice and of the record times a logarithm. All is done on a copy, so that want of memory leaves the
-/// slice as it was.
-pub fn apply_window(
-    alloc: Global,
-    slice: &mut Slice,
-    area: Window,
-    step: &WindowStep,
-) -> Result<(), Or<Unfit>>
-    requires slice { IsTrue (is_slice_row slice.old) }
-    requires record { IsTrue (is_window_step_row step.now) }
-    requires room { IsTrue (has_room slice.old (whole_record step.now ∷ [])) }
-    // Done exactly where no rule is broken; then the slice is the window a step back.
-    ensures fits { OnOk result (broken_rule_in area slice.old step.now ≡ None) }
-    ensures done { OnOk result (slice.new ≡ undo_in area slice.old step.now) }
-    // Refused exactly where a rule is broken, with the least one and the record's step.
-    ensures unfit { (u : Unfit) → result ≡ Err (Fault u) → (broken_rule_in area slice.old step.now ≡ Some u.rule) × (u.step ≡ step.now.step) }
-    ensures unfit_only { (rule : ℕ) → broken_rule_in area slice.old step.now ≡ Some rule
-        → (result ≡ Err (Fault (record { step = step.now.step; rule = rule }))) ⊎ (result ≡ Err WantOfMemory) }
-    ensures kept { OnErr result (slice.new ≡ slice.old) }
-    // It has the form of a slice then too.
-    ensures form { IsTrue (is_slice_row slice.new) }
-{
-    let mut working = Working::of(alloc, slice)?;
-    match undo_step(alloc, &mut working, area, step)? {
-        Some(rule) => {
-            let step = step.step;
-            Err(Or::Fault(Unfit { step, rule }))
-        }
-        None => {
-            *slice = working.into_slice(alloc)?;
-            Ok(())
-        }
-    }
 }

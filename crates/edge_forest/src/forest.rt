@@ -1,20 +1,18 @@
 //! The forest of edges.
 
-ghost use Rattle.std.specs.Prelude.{◌≡◌, ◌≢◌, ◌<◌, ◌≤◌, ◌+◌, ◌-◌, ◌^◌, ◌==◌, ◌&&◌, ◌||◌, ℕ, true, false, not, nat_le, map, filter, length, Contains, AllPairs, IfOk, OnOk, OnErr, if◌then◌else◌};
+ghost use Rattle.std.specs.Prelude.{◌≡◌, ◌≢◌, ◌<◌, ◌≤◌, ◌+◌, ◌-◌, ◌^◌, ◌&&◌, ◌||◌, ℕ, true, false, not, nat_le, map, filter, length, Contains, AllPairs, IfOk, OnOk, OnErr};
 ghost use Rattle.std.specs.List.{All, list_any};
-ghost use Rattle.std.specs.Vec.{vec_len};
 ghost use Rattle.tgap_model.specs.Base.{same_point};
 ghost use Rattle.tgap_model.specs.Merged.{merged, step_number};
 ghost use Rattle.tgap_model.specs.Chains.{chain_points, chains_at};
 ghost use Rattle.edge_forest.specs.Edges.{IsForestEdge, edge_at, chain_of, is_alive, alive_edges};
-ghost use Rattle.edge_forest.specs.Forest.{IsForest, IsRange, last_step, never, is_gone};
+ghost use Rattle.edge_forest.specs.Forest.{IsForest, IsRange, last_step, is_gone};
 ghost use Rattle.edge_forest.specs.Continued.{AreContinued, AreJoined};
 ghost use Rattle.edge_forest.specs.Kept.{closed_edge};
 ghost use Rattle.edge_forest.specs.Removed.{arc_points};
 ghost use Rattle.edge_forest.specs.Walks.{chain_link};
 
 use crate::alive::alive_at;
-use crate::copy::copy_checked;
 use crate::edge::ForestEdge;
 use crate::face_labels::FaceLabels;
 use crate::growth::{Growth, arcs_of, closed_high};
@@ -86,16 +84,6 @@ fn give_up(alloc: Global, growth: &mut Growth)
 }
 
 impl Forest {
-    /// The edges of a map before its first step.
-    pub fn of_base(alloc: Global, checked: &Checked) -> Result<Forest, Memory>
-        ensures base { IfOk result (λ forest. forest.base ≡ checked.now) }
-        ensures made { IfOk result (λ forest. forest.made ≡ 0) }
-        ensures open { IfOk result (λ forest. forest.closed ≡ false) }
-        ensures nothing { IfOk result (λ forest. (k : ℕ) (p : Point) → is_gone forest k p ≡ false) }
-    {
-        Forest::of_checked(alloc, copy_checked(alloc, checked)?)
-    }
-
     /// The edges of a map before its first step, as `of_base`, of a map that is given and not copied.
     pub fn of_checked(alloc: Global, checked: Checked) -> Result<Forest, Memory>
         ensures base { IfOk result (λ forest. forest.base ≡ checked) }

@@ -3,6 +3,7 @@
 #![tactic(auto)]
 
 mod alive;
+mod asked;
 mod copy;
 mod edge;
 mod face_labels;

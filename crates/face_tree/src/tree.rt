@@ -2,7 +2,9 @@
 
 ghost use Rattle.std.specs.Prelude.{◌≡◌, ◌≤◌, ◌<◌, ◌+◌, length, take, IfOk, IsTrue, MatchOption};
 ghost use Rattle.tgap_model.specs.History.{IsHistory, label_after, class_of};
-ghost use Rattle.face_tree.specs.Tree.{AreLabels, IsFace, IsLiveFrom, IsParent, IsTop, IsUp, face_history, is_live, label_from, live_after, parent_of, low_step, high_step};
+ghost use Rattle.face_tree.specs.Tree.{AreLabels, IsFace, IsParent, IsTop, IsUp, face_history, is_live, label_from, live_after, parent_of, low_step};
+
+mod asked;
 
 use crate::build::{classes_of, jumps_of, parents_of, roots_of};
 use crate::children::children_of;
@@ -82,28 +84,6 @@ impl FaceTree {
         ensures parent { IsParent self.now face result }
     {
         self.parents[face as usize]
-    }
-
-    /// The number of the step that merges a face, S + 1 for a root.
-    fn merged_at(&self, face: u32) -> u32
-        requires { IsFace self.now face }
-        ensures { result ≡ high_step self.now face }
-    {
-        match self.parent(face) {
-            Some(parent) => parent - self.faces,
-            None => self.steps.len() as u32 + 1,
-        }
-    }
-
-    /// The number of the step that makes a face, 0 for a face of the base map, and that of the step that merges it,
-    /// S + 1 for a root. The face is live after as many steps as the first says, and until before the second.
-    pub fn range(&self, face: u32) -> (u32, u32)
-        requires { IsFace self.now face }
-        ensures low { result.0 ≡ low_step self.now face }
-        ensures high { result.1 ≡ high_step self.now face }
-        ensures live { IsLiveFrom self.now face result.0 result.1 }
-    {
-        (face.saturating_sub(self.faces), self.merged_at(face))
     }
 
     /// The next face on the way up to the face that is live after k steps: the jump where that is made by then, else the

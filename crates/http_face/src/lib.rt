@@ -3,6 +3,7 @@
 //! parameters, and on `plain_io`, which cuts the values of headers and reads numbers.
 #![tactic(auto)]
 
+mod asked;
 mod fixed_text;
 mod framing;
 mod head;
@@ -13,11 +14,12 @@ mod request;
 mod routing;
 mod table;
 
+pub use asked::{head_ends, read_head};
 pub use head::{
     BAD_REQUEST, CONTENT_TOO_LARGE, Head, HeadAsks, HeadEnds, HeadState, MAX_BODY_BYTES,
     MAX_HEAD_BYTES, MAX_HEADERS, limits_as_numbers,
 };
-pub use head_reading::{head_asks, head_ends, read_head};
+pub use head_reading::head_asks;
 pub use reply::{Reply, ShortReply, head_bytes, reply_bytes, short_reply};
 pub use request::{Allow, Route};
 pub use routing::{is_ordered, route, routes};

@@ -5,6 +5,7 @@
 #![tactic(auto)]
 
 mod arcs;
+mod asked;
 mod batch;
 mod cause;
 mod draft;
@@ -14,6 +15,7 @@ mod line;
 mod path;
 mod version;
 
+pub use asked::rebuild;
 pub use batch::edited;
 pub use fault::EditFault;
-pub use version::{RebuildFail, Version, rebuild, revised, successor};
+pub use version::{RebuildFail, Version, revised, successor};

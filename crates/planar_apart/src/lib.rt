@@ -3,14 +3,15 @@
 //! names the boxes that meet a box, and on `tgap_model`, whose `Partition` defines the least pair that meets.
 #![tactic(auto)]
 
-ghost use Rattle.std.specs.Prelude.{◌≡◌, ◌≤◌, true, length, IsTrue, IfOk, Ok, Some, None, option_map, AllPairs};
+ghost use Rattle.std.specs.Prelude.{◌≡◌, ◌≤◌, true, length, IsTrue, IfOk, Some, None, option_map, AllPairs};
 ghost use Rattle.std.specs.List.{list_all};
 ghost use Rattle.tgap_model.specs.declared.limits.TheConstants.{MAX_POINTS};
-ghost use Rattle.tgap_model.specs.Partition.{AreApart, base_segments, is_proper, meeting_from, meeting_fault};
+ghost use Rattle.tgap_model.specs.Partition.{AreApart, is_proper, meeting_from};
 ghost use Rattle.grid_geo.specs.Evidence.{IsFirstMeeting};
 ghost use Rattle.planar_stack.specs.Sweep.{FacesAgree};
 ghost use Rattle.planar_apart.specs.Meetings.{meets};
 
+mod asked;
 mod boxes;
 mod doubt;
 mod meeting;
@@ -19,33 +20,12 @@ mod row;
 mod search;
 mod sight;
 
+pub use asked::first_meeting;
 pub use meeting::Meeting;
 pub use search::Known;
 use search::first_pair;
 use std::alloc::Global;
-use std::thread::Threads;
-use tgap_model::{Base, LabelledSegment, Memory, base_segments};
-
-/// The least pair of segments of a base map that meet where they may not, with a point that both hold, or None exactly
-/// where there is none.
-///
-/// It lists the segments, and then costs what `first_meeting_of` costs.
-pub fn first_meeting<R: Threads + Sync>(
-    _rt: &R,
-    alloc: Global,
-    base: &Base,
-) -> Result<Option<Meeting>, Memory>
-    // It is the least pair by the definition.
-    ensures exact { IfOk result (λ found. option_map meets found ≡ meeting_fault base.now) }
-    // The two have the point in common, it is no end at which they may meet, and all lesser pairs are apart.
-    ensures found { (m : Meeting) → result ≡ Ok (Some m) → IsFirstMeeting (base_segments base.now) m.i m.j m.at }
-    // There is none only where all pairs are apart.
-    ensures apart { result ≡ Ok None → AllPairs AreApart (base_segments base.now) }
-{
-    let segments = base_segments(alloc, base)?;
-    let known = first_meeting_of(alloc, segments.as_slice())?;
-    Ok(known.meeting)
-}
+use tgap_model::{LabelledSegment, Memory};
 
 /// The least pair of these segments that meet where they may not, as `first_meeting`, and whether it is shown that the
 /// faces agree down each vertical line between whole abscissas: for one who has the list of the segments.

@@ -2,6 +2,7 @@
 #![tactic(auto)]
 
 mod answer;
+mod asked;
 mod coming;
 mod connection;
 mod desk;
@@ -21,7 +22,8 @@ mod turn;
 mod versions;
 mod window_packet;
 
-pub use connection::{serve_connection, serve_connection_at};
+pub use asked::serve_connection;
+pub use connection::serve_connection_at;
 pub use desk::Desk;
 pub use row::Row;
 pub use serve::{MAX_REQUESTS, limit_as_number};

@@ -4,6 +4,7 @@
 #![tactic(auto)]
 
 mod area;
+mod asked;
 mod base;
 mod border;
 mod bordered;

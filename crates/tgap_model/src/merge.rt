@@ -1,8 +1,5 @@
 //! Merging: its steps, and the arcs as it sees them.
 
-ghost use Rattle.std.specs.Prelude.{◌≡◌};
-ghost use Rattle.tgap_model.specs.History.{relabel};
-
 /// A step of the merge history: the loser and the winner become one new face.
 #[derive(Clone, Copy, Debug, PartialEq, Eq)]
 pub struct MergeStep {
@@ -10,19 +7,6 @@ pub struct MergeStep {
     pub winner: u32,
     /// The number of the new face.
     pub made: u32,
-}
-
-impl MergeStep {
-    /// The label that a label becomes by the step.
-    pub fn label_after(&self, label: u32) -> u32
-        ensures { result ≡ relabel self.now label }
-    {
-        if label == self.loser || label == self.winner {
-            self.made
-        } else {
-            label
-        }
-    }
 }
 
 /// An arc as merging sees it.

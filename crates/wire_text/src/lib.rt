@@ -5,6 +5,7 @@
 #![tactic(auto)]
 
 mod answer;
+mod asked;
 mod borders;
 mod fault;
 mod number;
@@ -18,9 +19,10 @@ mod window;
 mod window_packet;
 
 pub use answer::{ok_text, step_too_high_text};
+pub use asked::packet_text;
 pub use borders::borders_text;
 pub use fault::fault_text;
-pub use packet::{packet_text, put_packet_line, put_record};
+pub use packet::{put_packet_line, put_record};
 pub use packet_reading::read_packet;
 pub use row_reading::BadText;
 pub use rows::{RowRoom, put_count_line, put_edge, put_face};

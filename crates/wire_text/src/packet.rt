@@ -1,40 +1,18 @@
 //! The text of a packet.
 
-ghost use Rattle.std.specs.Prelude.{◌≡◌, ◌++◌, ◌∷◌, [], map, flat_map, codes, decimal, OnOk, IfOk};
+ghost use Rattle.std.specs.Prelude.{◌≡◌, ◌++◌, ◌∷◌, [], map, flat_map, codes, decimal, OnOk};
 ghost use Rattle.line_forms.specs.Texts.{line, lines};
-ghost use Rattle.wire_text.specs.SliceTexts.{put_words, piece_words, mend_rows, step_words, record_rows, packet_text};
+ghost use Rattle.wire_text.specs.SliceTexts.{put_words, piece_words, mend_rows, step_words, record_rows};
 
 use crate::number::{write_byte, write_count, write_point};
 use crate::rows::{put_counts, put_edges, put_from};
-use std::alloc::Global;
-use tgap_model::{Memory, Mend, Packet, Piece, Put, StepRecord, Text};
-
-/// The packet in lines: the steps between which it leads, and the record of each step, in the order of the packet.
-pub fn packet_text(alloc: Global, packet: &Packet) -> Result<Text, Memory>
-    ensures { IfOk result (λ text. text ≡ packet_text packet.now) }
-{
-    let mut text = Text::new(alloc);
-    put_packet_line(&mut text, packet.from, packet.to)?;
-    put_records(&mut text, packet.steps.as_slice())?;
-    text.push_slice(b"end\n")?;
-    Ok(text)
-}
+use tgap_model::{Memory, Mend, Piece, Put, StepRecord, Text};
 
 /// Appends the first line of a packet, with the steps between which it leads.
 pub fn put_packet_line(out: &mut Text, from: u32, to: u32) -> Result<(), Memory>
     ensures { OnOk result (out.new ≡ out.old ++ line (codes "packet" ∷ decimal from ∷ decimal to ∷ [])) }
 {
     put_counts(out, b"packet", &[u64::from(from), u64::from(to)])
-}
-
-/// Appends the lines of all records.
-fn put_records(out: &mut Text, records: &[StepRecord]) -> Result<(), Memory>
-    ensures { OnOk result (out.new ≡ out.old ++ lines (flat_map record_rows records.now)) }
-{
-    for record in records {
-        put_record(out, record)?;
-    }
-    Ok(())
 }
 
 /// Appends the lines of a record: its step, the mends, and the edges that come back.

@@ -1,29 +1,15 @@
 //! Lines and words.
 
-ghost use Rattle.std.specs.Prelude.{◌≡◌, ◌≢◌, ℕ, ◌<◌, ◌≤◌, ◌==◌, ◌↔◌, List, [], ◌∷◌, length, slice_index, IsTrue, IfSome, IfNone, MatchOption};
+ghost use Rattle.std.specs.Prelude.{◌≡◌, ◌≢◌, ℕ, ◌<◌, ◌≤◌, ◌==◌, ◌↔◌, List, [], ◌∷◌, length, IsTrue, MatchOption};
 ghost use Rattle.std.specs.List.{slice_split};
 ghost use Rattle.plain_io.specs.Rest.{split_rest};
 
 use std::marker::Model;
 
-const LINE_FEED: u8 = b'\n';
+/// What ends a line.
+pub const LINE_FEED: u8 = b'\n';
 
 const SPACE: u8 = b' ';
-
-/// The place of the next line feed at or after `from`. None exactly where there is none.
-pub fn next_line(bytes: &[u8], from: usize) -> Option<usize>
-    requires { from ≤ length bytes.now }
-    ensures found { IfSome result (λ at. (from ≤ at) × (at < length bytes.now) × (slice_index bytes.now at ≡ 10)) }
-    ensures first { IfSome result (λ at. (k : ℕ) → from ≤ k → k < at → slice_index bytes.now k ≢ 10) }
-    ensures none { IfNone result ((k : ℕ) → from ≤ k → k < length bytes.now → slice_index bytes.now k ≢ 10) }
-{
-    for at in from..bytes.len() {
-        if bytes[at] == LINE_FEED {
-            return Some(at);
-        }
-    }
-    None
-}
 
 /// The pieces of a text between separators, from the front. Contracts see those that are left.
 #[derive(Drop)]

@@ -3,7 +3,7 @@ use Rattle.std.proofs.Common.{◌∙◌, List, AllPairs, subst}
 use Rattle.tgap_model.specs.declared.segment.LabelledSegment.{LabelledSegment}
 use Rattle.tgap_model.specs.Partition.{AreApart}
 use Rattle.grid_geo.specs.Evidence.{IsFirstMeeting}
-use Rattle.planar_apart.proofs.first_meeting.Goals as goal
+use Rattle.planar_apart.proofs.asked.first_meeting.Goals as goal
 
 pub returns-clause-found : goal.returns-clause-found
 returns-clause-found g c = λ m e.

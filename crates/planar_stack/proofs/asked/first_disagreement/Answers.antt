@@ -3,7 +3,7 @@ use Rattle.std.proofs.Common.{List, None, IfOk, ◌≡◌, subst}
 use Rattle.tgap_model.specs.declared.segment.LabelledSegment.{LabelledSegment}
 use Rattle.grid_geo.specs.Evidence.{IsFirstStackGap}
 use Rattle.planar_stack.specs.Sweep.{FacesAgree}
-use Rattle.planar_stack.proofs.first_disagreement.Goals as goal
+use Rattle.planar_stack.proofs.asked.first_disagreement.Goals as goal
 
 pub returns-clause-found : goal.returns-clause-found
 returns-clause-found g c = λ gap some.

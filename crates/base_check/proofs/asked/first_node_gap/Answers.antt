@@ -6,7 +6,7 @@ use Rattle.tgap_model.specs.Partition.{AreApart, node_fault}
 use Rattle.grid_geo.specs.Evidence.{IsFirstNodeGap}
 use Rattle.base_check.specs.Faults.{first_node_fault}
 use Rattle.base_check.specs.Spokes.{disagrees}
-use Rattle.base_check.proofs.first_node_gap.Goals as goal
+use Rattle.base_check.proofs.asked.first_node_gap.Goals as goal
 
 pub node_gap_of-requires-clause-apart : goal.node_gap_of-requires-clause-apart
 node_gap_of-requires-clause-apart c = subst (λ (ss : List LabelledSegment). AllPairs AreApart ss) (sym (c.as_slice.ensures ∙ c.in_ok-segments.ensures.listed)) c.requires.apart

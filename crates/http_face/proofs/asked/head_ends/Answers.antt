@@ -2,7 +2,7 @@ use Rattle.std.proofs.Common.{subst}
 use Rattle.http_face.specs.declared.head.HeadEnds.TheVariants.{Whole, More, Bad}
 use Rattle.http_face.specs.Heads.{TellsHead}
 use Rattle.http_face.proofs.HeadLaws.{told_alone, told_stays, told_within, good_head}
-use Rattle.http_face.proofs.head_reading.head_ends.Goals as goal
+use Rattle.http_face.proofs.asked.head_ends.Goals as goal
 
 pub returns-in-Whole-clause-alone : goal.returns-in-Whole-clause-alone
 returns-in-Whole-clause-alone c =

@@ -2,7 +2,7 @@ use Rattle.std.proofs.Common.{◌≡◌, ◌++◌, take}
 use Rattle.std.specs.Prelude.{flat_map}
 use Rattle.line_forms.specs.Texts.{lines}
 use Rattle.wire_text.specs.SliceTexts.{record_rows}
-use Rattle.wire_text.proofs.packet.put_records.Given as goal
+use Rattle.wire_text.proofs.asked.put_records.Given as goal
 
 -- the lines of the records so far
 abbrev pub invariant-loop-record : goal.invariant-loop-record

@@ -2,7 +2,7 @@
 use Rattle.std.proofs.Common.{◌≡◌, ◌-◌, ◌∙◌, ℕ, ap, sym, subst}
 use Rattle.face_tree.specs.Tree.{FaceHistory, IsLiveFrom, IsTree, low_step}
 use Rattle.face_tree.proofs.Live.{live_range}
-use Rattle.face_tree.proofs.tree.FaceTree.range.Goals as goal
+use Rattle.face_tree.proofs.tree.asked.FaceTree.range.Goals as goal
 
 pub returns-clause-live : goal.returns-clause-live
 returns-clause-live c =

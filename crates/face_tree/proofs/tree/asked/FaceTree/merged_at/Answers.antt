@@ -2,7 +2,7 @@
 use Rattle.std.proofs.Common.{arith, ap, sym, subst, length}
 use Rattle.face_tree.specs.Tree.{FaceHistory, IsTree}
 use Rattle.face_tree.proofs.Ways.{high_parent, high_root}
-use Rattle.face_tree.proofs.tree.FaceTree.merged_at.Goals as goal
+use Rattle.face_tree.proofs.tree.asked.FaceTree.merged_at.Goals as goal
 
 pub overflow_sub-result : goal.overflow_sub-result
 overflow_sub-result c =
