@@ -15,6 +15,8 @@ AT_A_TIME = 256
 CONNECTIONS_AT_A_TIME = 400
 # What a pin says, and so a program that was reached.
 PINNED = re.compile(r"pin \d+\n|behind \d+\n|bad number\n")
+# What it says of an edit that it took, and no page does.
+PUBLISHED = re.compile(r"published \d+\n")
 
 
 class Target:
@@ -45,7 +47,7 @@ def went_through(form, answer):
     status, headers, text = answer
     if status == 0 and form.method != "CONNECT":
         return True
-    return "published" in text or (form.method not in ("GET", "HEAD") and "tgap-version" in headers and not PINNED.fullmatch(text) and status != 204)
+    return bool(PUBLISHED.search(text)) or (form.method not in ("GET", "HEAD") and "tgap-version" in headers and not PINNED.fullmatch(text) and status != 204)
 
 
 def faults_of(target, some, ask):
@@ -87,7 +89,7 @@ def over_two(tests, target, front):
         faults = []
         for headers, body in forms.second_forms(target.root, target.host):
             (answer,) = second.ask([(headers | {name.lower(): value for name, value in target.headers}, body, IN_A_ROW)])
-            if target.has_risen() or "published" in answer[2]:
+            if target.has_risen() or PUBLISHED.search(answer[2]):
                 faults.append((headers, answer))
         tests.holds(f"{target.name}: what only HTTP/2 has", not faults, faults)
         (answer,) = by_second(second, target)([forms.Form("POST", f"{target.root}/map/edit", PASSWORD.items())])
@@ -101,7 +103,7 @@ def whole_connections(tests, target, asked=lambda name: True):
     faults = []
     for some in parts(sent, CONNECTIONS_AT_A_TIME):
         came = sent_whole(target, [sent[name] for name in some])
-        faults += [(name, text) for name, text in zip(some, came) if b"published" in text]
+        faults += [(name, text) for name, text in zip(some, came) if PUBLISHED.search(text.decode("latin-1"))]
         if target.has_risen():
             faults += [(name, text) for name in some for text in sent_whole(target, [sent[name]]) if target.has_risen()] or [("one of", some)]
     tests.holds(f"{target.name}: whole connections", not faults, faults)
@@ -197,7 +199,7 @@ def with_a_loose_cut(tests):
 
 def published(faults):
     """The targets of the forms that were published."""
-    return sorted({form.target for form, answer in faults if "published" in answer[2]})
+    return sorted({form.target for form, answer in faults if PUBLISHED.search(answer[2])})
 
 
 class Untold:
