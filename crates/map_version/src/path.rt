@@ -149,6 +149,8 @@ pub fn split_off(alloc: Global, arc: &mut BaseArc, at: usize) -> Result<BaseArc,
     };
     let mut points = mem::replace(&mut arc.points, List::new(alloc)).into_vec();
     points.truncate(at + 1);
+    // Otherwise each of many splits of one long arc would keep the room of the whole.
+    points.shrink_to_fit();
     arc.points = List::from(points);
     Ok(rest)
 }
